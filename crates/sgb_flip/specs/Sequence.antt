@@ -6,6 +6,10 @@ use Rattle.std.specs.List.{range_with_len}
 unfoldable pub difference : ℕ → ℕ → ℕ
 difference a b = (a + 2 ^ 31 - b) % 2 ^ 31
 
+-- a and b together, modulo 2 ^ 31: what the difference that is a was taken of, where b was taken off
+unfoldable pub joined : ℕ → ℕ → ℕ
+joined a b = (a + b) % 2 ^ 31
+
 -- The term at an index: one of the 55 words, and from there on the term 55 places before less the
 -- one 24 places before. The first argument only bounds the recursion.
 unfoldable pub term_within : ℕ → List ℕ → ℕ → ℕ

@@ -3,8 +3,6 @@ ghost use Rattle.sgb_flip.specs.Generator.{
     Generator, IsGenerator, IsUniform, after, drawn, seeded, uniform
 };
 
-use crate::cycle::{cycle, uncycle};
-use crate::seeding::fill;
 use std::marker::Model;
 
 /// A generator of numbers below 2^31: 55 words, of which at most 54 are unread.
@@ -39,36 +37,6 @@ impl Model for Flip {
 }
 
 impl Flip {
-    /// The generator of a seed, which counts modulo 2^31 (`gb_init_rand`).
-    pub fn new(seed: i64) -> Flip
-        ensures seeded { result ≡ seeded seed }
-        ensures generator { IsGenerator result }
-    {
-        let mut words = [0u32; 55];
-        fill(&mut words, seed);
-        for _ in 0..5u32 {
-            cycle(&mut words);
-        }
-        Flip { words, unread: 54 }
-    }
-
-    /// The generator with these very words, each below 2^31, of which `unread`, at most 54, are
-    /// unread; `None` for other numbers.
-    pub fn from_words(words: [u32; 55], unread: u32) -> Option<Flip>
-        ensures some { IfSome result (λ flip. flip ≡ record { words = words; unread = unread }) }
-        ensures when { IsSome result ↔ IsGenerator (record { words = words; unread = unread }) }
-    {
-        if unread >= 55 {
-            return None;
-        }
-        for word in &words {
-            if *word >= 0x8000_0000 {
-                return None;
-            }
-        }
-        Some(Flip { words, unread })
-    }
-
     /// The words.
     pub fn words(&self) -> [u32; 55]
         ensures value { result ≡ self.now.words }
@@ -83,77 +51,5 @@ impl Flip {
         ensures generator { IsGenerator self.now }
     {
         self.unread
-    }
-
-    /// Draws one number below 2^31 (`gb_next_rand`).
-    #[inline]
-    pub fn next(&mut self) -> u32
-        ensures number { result ≡ drawn self.old 0 }
-        ensures rest { self.new ≡ after self.old 1 }
-        ensures generator { IsGenerator self.new }
-        ensures small { result < 2 ^ 31 }
-    {
-        if self.unread == 0 {
-            cycle(&mut self.words);
-            self.unread = 55;
-        }
-        self.unread -= 1;
-        self.words[self.unread as usize]
-    }
-
-    /// Goes back to the one state that a draw leads from to this one.
-    #[inline]
-    pub fn back(&mut self)
-        ensures before { after self.new 1 ≡ self.old }
-        ensures generator { IsGenerator self.new }
-        ensures only { (v : Generator) → IsGenerator v → after v 1 ≡ self.old → v ≡ self.new }
-    {
-        if self.unread == 54 {
-            uncycle(&mut self.words);
-            self.unread = 0;
-        } else {
-            self.unread += 1;
-        }
-    }
-
-    /// Goes back to the one state that `n` draws lead from to this one. Whole batches of 55 draws are
-    /// turned back at once.
-    pub fn back_by(&mut self, n: u64)
-        ensures before { after self.new n ≡ self.old }
-        ensures generator { IsGenerator self.new }
-        ensures only { (v : Generator) → IsGenerator v → after v n ≡ self.old → v ≡ self.new }
-    {
-        let part = self.unread + (n % 55) as u32;
-        let batches = n / 55 + (part / 55) as u64;
-        for _ in 0..batches {
-            uncycle(&mut self.words);
-        }
-        self.unread = part % 55;
-    }
-
-    /// Draws a uniform number below `m` (`gb_unif_rand`): the first number drawn that is below the
-    /// greatest multiple of `m` up to 2^31, modulo `m`. From every state that takes at most 1,814
-    /// draws.
-    pub fn uniform(&mut self, m: u32) -> Drawn
-        requires positive { 1 ≤ m }
-        requires small { m ≤ 2 ^ 31 }
-        ensures relation { IsUniform self.old m result.value result.draws self.new }
-        ensures value { result.value ≡ (uniform self.old m).value }
-        ensures draws { result.draws ≡ (uniform self.old m).draws }
-        ensures rest { self.new ≡ (uniform self.old m).rest }
-        ensures generator { IsGenerator self.new }
-        ensures below { result.value < m }
-    {
-        let limit = 0x8000_0000 - 0x8000_0000 % m;
-        for refused in 0..1814u32 {
-            let number = self.next();
-            if number < limit {
-                return Drawn {
-                    value: number % m,
-                    draws: refused + 1,
-                };
-            }
-        }
-        unreachable!()
     }
 }
