@@ -1,0 +1,4 @@
+pub mod Field
+pub mod Refusal
+pub mod Text
+pub mod Types

@@ -1,0 +1,113 @@
+//! Texts: the bytes of ids, labels and fields.
+ghost use Rattle.std.specs.Prelude.{◌≡◌, IfOk, IfErr, ◌⊎◌, []};
+ghost use Rattle.std.specs.List.{list_all};
+ghost use Rattle.sgb_graph.specs.Text.{IsText, is_text_byte};
+
+use std::alloc::Global;
+use std::marker::Model;
+
+use crate::Refusal;
+
+/// At most 4,095 printable ASCII bytes, none of them `"` or `\`.
+#[derive(Debug, Drop)]
+pub struct Text {
+    bytes: Box<Vec<u8>>,
+}
+
+impl Model for Text {
+    ghost use Rattle.std.specs.Prelude.{List, ℕ};
+    ghost use Rattle.sgb_graph.specs.Text.{IsText};
+
+    ghost Value = { List ℕ };
+
+    ghost view = { λ t. t.bytes.value.items };
+
+    ghost invariant = { λ t. IsText t.bytes.value.items };
+}
+
+impl Text {
+    /// The text of these bytes, copied. Refused `BadOperand` where they are no text.
+    pub fn new(alloc: Global, bytes: &[u8]) -> Result<Text, Refusal>
+        ensures ok { IfOk result (λ t. (t ≡ bytes.now) × IsText bytes.now) }
+        ensures err { IfErr result
+            (λ e. (e ≡ Refusal.NoRoom) ⊎ ((e ≡ Refusal.BadOperand) × ¬ IsText bytes.now)) }
+    {
+        if bytes.len() > 4095 || !are_text_bytes(bytes) {
+            return Err(Refusal::BadOperand);
+        }
+        let copy = Vec::from_slice(alloc, bytes)?;
+        Ok(Text {
+            bytes: Box::new(alloc, copy)?,
+        })
+    }
+
+    /// The bytes.
+    #[inline]
+    pub fn bytes(&self) -> &[u8]
+        ensures value { result.now ≡ self.now }
+        ensures text { IsText self.now }
+    {
+        self.bytes.as_slice()
+    }
+}
+
+fn is_text_byte(byte: u8) -> bool
+    ensures { result ≡ is_text_byte byte }
+{
+    byte >= b' ' && byte <= b'~' && byte != b'"' && byte != b'\\'
+}
+
+fn are_text_bytes(bytes: &[u8]) -> bool
+    ensures { result ≡ list_all is_text_byte bytes.now }
+{
+    bytes.iter().all(|byte| is_text_byte(*byte))
+}
+
+/// A vertex's name, where the empty one takes no memory.
+#[derive(Debug, Drop)]
+pub struct Label {
+    text: Option<Text>,
+}
+
+impl Model for Label {
+    ghost use Rattle.std.specs.Prelude.{List, ℕ, unwrap_or, []};
+    ghost use Rattle.sgb_graph.specs.Text.{IsText};
+
+    ghost Value = { List ℕ };
+
+    ghost view = { λ l. unwrap_or l.text [] };
+
+    ghost invariant = { λ l. IsText (unwrap_or l.text []) };
+}
+
+impl Label {
+    /// The empty label.
+    #[inline]
+    pub fn empty() -> Label
+        ensures { result ≡ [] }
+    {
+        Label { text: None }
+    }
+
+    /// The label of this text.
+    #[inline]
+    pub fn new(text: Text) -> Label
+        ensures value { result ≡ text }
+        ensures text { IsText text }
+    {
+        let _ = text.bytes();
+        Label { text: Some(text) }
+    }
+
+    /// The bytes.
+    #[inline]
+    pub fn bytes(&self) -> &[u8]
+        ensures value { result.now ≡ self.now }
+        ensures text { IsText self.now }
+    {
+        match &self.text {
+            Some(text) => text.bytes(),
+            None => &[],
+        }
+    }
+}
