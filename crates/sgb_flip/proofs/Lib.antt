@@ -1,1 +1,3 @@
+mod Batches
+pub mod Draws
 pub mod Terms

@@ -1,2 +1,3 @@
 pub mod Generator
+pub mod Run
 pub mod Sequence

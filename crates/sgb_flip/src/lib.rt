@@ -1,6 +1,7 @@
 //! The random number generator of the Stanford GraphBase (`gb_flip`), forward and backward.
 #![tactic(auto)]
 
+mod cycle;
 mod flip;
 mod laws;
 

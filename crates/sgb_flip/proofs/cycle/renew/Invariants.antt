@@ -1,0 +1,10 @@
+use Rattle.sgb_flip.specs.Generator.{AreSmall}
+use Rattle.sgb_flip.specs.Run.{IsRun}
+use Rattle.sgb_flip.specs.Sequence.{difference}
+use Rattle.sgb_flip.proofs.cycle.renew.Given as goal
+
+abbrev pub invariant-loop-k : goal.invariant-loop-k
+invariant-loop-k l = record {
+    run : IsRun difference l.at l.from l.k l.initial.words l.words;
+    small : AreSmall l.words
+}
