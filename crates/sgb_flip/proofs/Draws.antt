@@ -1,11 +1,9 @@
 -- Draws, counted: for callers that follow a generator over many calls.
-use Rattle.std.proofs.Common.{◌≡◌, ℕ, zero, suc, ◌+◌, ◌-◌, ◌*◌, ◌/◌, ◌%◌, ◌^◌, ◌<◌, ◌≤◌, ℤ, pos, negsuc, List, length, get_or, map, refl, sym, ap, ap₂, ◌∙◌, subst, arith, unsigned_abs}
-use Rattle.std.specs.List.{range_with_len}
-use Rattle.std.specs.Int.{int_rem_euclid}
-use Rattle.std.proofs.lemmas.List.FromFn.{get_or-map-range_with_len, length-map-range_with_len}
-use Rattle.sgb_flip.specs.Generator.{Generator, AreSmall, IsGenerator, drawn, after, seed_term, seed_words, seed_number, seeded, window}
-use Rattle.sgb_flip.specs.Sequence.{difference, term, terms_after}
-use Rattle.sgb_flip.proofs.Terms.{difference-below, length-terms_after, terms_after-none, terms_after-terms_after, term-terms_after, term-below, AreSmall-terms_after, same_words}
+use Rattle.std.proofs.Common.{◌≡◌, ℕ, ◌+◌, ◌-◌, ◌*◌, ◌/◌, ◌%◌, ◌^◌, ◌<◌, ℤ, List, length, get_or, sym, ap, ap₂, ◌∙◌, subst, arith}
+use Rattle.sgb_flip.specs.Generator.{Generator, AreSmall, IsGenerator, drawn, after, seed_words, seed_number, seeded, window}
+use Rattle.sgb_flip.specs.Sequence.{term, terms_after}
+use Rattle.sgb_flip.proofs.Seeds.{seed_number-below, length-seed_words, AreSmall-seed_words}
+use Rattle.sgb_flip.proofs.Terms.{get_or-terms_after, length-terms_after, term-low, terms_after-none, terms_after-terms_after, term-terms_after, term-below, AreSmall-terms_after, same_words}
 
 -- these words, of which so many are unread
 abbrev pub made : List ℕ → ℕ → Generator
@@ -75,9 +73,9 @@ drawn-after w i j is =
 
 pub IsGenerator-made : (words : List ℕ) (s unread : ℕ) → length words ≡ 55 → AreSmall words → unread < 55 → IsGenerator (made (terms_after words s) unread)
 IsGenerator-made words s unread count small few = record {
-    count = length-terms_after words s;
-    small = AreSmall-terms_after words s count small;
-    few = few
+  count = length-terms_after words s;
+  small = AreSmall-terms_after words s count small;
+  few = few;
 }
 
 pub IsGenerator-after : (w : Generator) (j : ℕ) → IsGenerator w → IsGenerator (after w j)
@@ -94,6 +92,36 @@ drawn-below w j is =
     subst (λ (x : ℕ). x < 2 ^ 31) (sym (drawn_at w j place.batch place.within place.is place.few))
     (term-below w.words is.count is.small (55 * place.batch + 55 - place.within) some)
 
+-- ---- one draw, as the words give it
+-- where none is unread the next batch comes first
+pub next_refilled : (words next : List ℕ) (unread : ℕ) (w : Generator) → made words unread ≡ w → unread ≡ 0 → next ≡ terms_after words 55 → (get_or next 54 0 ≡ drawn w 0) × (made next 54 ≡ after w 1)
+next_refilled words next unread w view none is =
+    let old : Generator = made words unread in
+    let last : 55 * 1 + 55 - 0 ≡ 55 + (54 + 1) = omega arith in (
+      ap (λ ws. get_or ws 54 0) is ∙ get_or-terms_after words 55 54 (omega arith)
+          ∙ ap (λ n. term words n) (sym last)
+          ∙ sym (drawn_at old 0 1 0 (omega arith) (omega arith))
+          ∙ ap (λ g. drawn g 0) view,
+      ap (λ ws. made ws 54) is
+          ∙ sym (after_at old 1 1 0 (omega arith) (omega arith))
+          ∙ ap (λ g. after g 1) view,
+    )
+
+-- else the last unread word is drawn
+pub next_read : (words : List ℕ) (unread : ℕ) (w : Generator) → made words unread ≡ w → length words ≡ 55 → 0 < unread → unread < 55 → (get_or words (unread - 1) 0 ≡ drawn w 0) × (made words (unread - 1) ≡ after w 1)
+next_read words unread w view count some few =
+    let old : Generator = made words unread in
+    let index : 55 * 0 + 55 - (55 - unread) ≡ unread = omega arith in
+    let left : 54 - (55 - unread) ≡ unread - 1 = omega arith in (
+      sym (term-low words unread (omega arith))
+          ∙ ap (λ n. term words n) (sym index)
+          ∙ sym (drawn_at old 0 0 (55 - unread) (omega arith) (omega arith))
+          ∙ ap (λ g. drawn g 0) view,
+      sym (after_at old 1 0 (55 - unread) (omega arith) (omega arith)
+          ∙ ap₂ made (terms_after-none words count) left)
+          ∙ ap (λ g. after g 1) view,
+    )
+
 -- one state alone is led to a given one by so many draws
 pub after-only : (v w : Generator) (n : ℕ) → IsGenerator v → IsGenerator w → after v n ≡ after w n → v ≡ w
 after-only v w n is is' same =
@@ -102,43 +130,18 @@ after-only v w n is is' same =
     let p : Place (54 - v.unread + n) = place_of (54 - v.unread + n) in
     let q : Place (54 - w.unread + n) = place_of (54 - w.unread + n) in
     let made_same : made (terms_after v.words (55 * p.batch)) (54 - p.within) ≡ made (terms_after w.words (55 * q.batch)) (54 - q.within) =
-        sym (after_at v n p.batch p.within p.is p.few) ∙ same ∙ after_at w n q.batch q.within q.is q.few
+    sym (after_at v n p.batch p.within p.is p.few) ∙ same ∙ after_at w n q.batch q.within q.is q.few
     in
     let left : 54 - p.within ≡ 54 - q.within = ap (λ (g : Generator). g.unread) made_same in
     let within : p.within ≡ q.within = omega (arith, left, p.few, q.few) in
     let batch : p.batch ≡ q.batch = omega (arith, within, p.is, q.is) in
     let unread : v.unread ≡ w.unread = omega (arith, within, batch, p.is, q.is) in
     let later : terms_after v.words (55 * p.batch) ≡ terms_after w.words (55 * p.batch) =
-        ap (λ (g : Generator). g.words) made_same ∙ ap (λ b. terms_after w.words (55 * b)) (sym batch)
+    ap (λ (g : Generator). g.words) made_same ∙ ap (λ b. terms_after w.words (55 * b)) (sym batch)
     in
     ap₂ made (same_words v.words w.words is.count is.small is'.count is'.small (55 * p.batch) later) unread
 
 -- ---- a seeded generator
-pub seed_number-below : (s : ℤ) → seed_number s < 2 ^ 31
-unfolding seed_number
-seed_number-below (pos a) = omega arith
-seed_number-below (negsuc a) = omega arith
-
-pub seed_term-below : (x j : ℕ) → x < 2 ^ 31 → seed_term x j < 2 ^ 31
-unfolding seed_term
-seed_term-below x zero h = h
-seed_term-below x (suc zero) h = omega arith
-seed_term-below x (suc (suc j)) h = difference-below _ _
-
-pub length-seed_words : (x : ℕ) → length (seed_words x) ≡ 55
-unfolding seed_words
-length-seed_words x = length-map-range_with_len (λ i. seed_term x (21 * i % 55)) 1 55
-
-pub get_or-seed_words : (x k : ℕ) → k < 55 → get_or (seed_words x) k 0 ≡ seed_term x (21 * (k + 1) % 55)
-unfolding seed_words
-get_or-seed_words x k h =
-    get_or-map-range_with_len (λ i. seed_term x (21 * i % 55)) 1 55 k (k + 1) 0 h (omega arith)
-
-pub AreSmall-seed_words : (x : ℕ) → x < 2 ^ 31 → AreSmall (seed_words x)
-AreSmall-seed_words x below k h =
-    subst (λ (y : ℕ). y < 2 ^ 31) (sym (get_or-seed_words x k (omega (arith, length-seed_words x))))
-    (seed_term-below x (21 * (k + 1) % 55) below)
-
 pub IsGenerator-seeded : (s : ℤ) → IsGenerator (seeded s)
 unfolding seeded
 IsGenerator-seeded s =

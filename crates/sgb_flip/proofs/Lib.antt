@@ -1,3 +1,4 @@
 mod Batches
 pub mod Draws
+mod Seeds
 pub mod Terms

@@ -1,8 +1,7 @@
 -- The endless sequence: its recurrence, its shifts, and its one way backward.
-use Rattle.std.proofs.Common.{◌≡◌, ℕ, zero, suc, ◌+◌, ◌-◌, ◌*◌, ◌%◌, ◌^◌, ◌<◌, ◌≤◌, ◌⊎◌, ⊎_elim, List, length, get_or, map, refl, sym, ap, ap₂, ◌∙◌, subst, arith, le-leb}
-use Rattle.std.specs.List.{range_with_len}
+use Rattle.std.proofs.Common.{◌≡◌, ℕ, zero, suc, ◌+◌, ◌-◌, ◌^◌, ◌<◌, ◌≤◌, ⊎_elim, List, length, get_or, refl, sym, ap, ap₂, ◌∙◌, subst, arith, le-leb}
 use Rattle.std.proofs.lemmas.Bool.{cases_lt, lt-leb}
-use Rattle.std.proofs.lemmas.List.{same_lists, ext_get_or, get_or_default}
+use Rattle.std.proofs.lemmas.List.{ext_get_or}
 use Rattle.std.proofs.lemmas.List.FromFn.{get_or-map-range_with_len, length-map-range_with_len}
 use Rattle.sgb_flip.specs.Generator.{AreSmall}
 use Rattle.sgb_flip.specs.Sequence.{difference, joined, term_within, term, terms_after, IsSequence}
@@ -44,9 +43,9 @@ term_within-enough words (suc a) zero n p q =
 term_within-enough words (suc a) (suc b) n p q =
     ⊎_elim
     (λ (high : 55 < n).
-        term_within-high a words n high
-        ∙ ap₂ difference (term_within-enough words a b (n - 55) (omega arith) (omega arith)) (term_within-enough words a b (n - 24) (omega arith) (omega arith))
-        ∙ sym (term_within-high b words n high))
+    term_within-high a words n high
+    ∙ ap₂ difference (term_within-enough words a b (n - 55) (omega arith) (omega arith)) (term_within-enough words a b (n - 24) (omega arith) (omega arith))
+    ∙ sym (term_within-high b words n high))
     (λ (low : n ≤ 55). term_within-low (suc a) words n low ∙ sym (term_within-low (suc b) words n low))
     (cases_lt 55 n)
 
@@ -77,16 +76,16 @@ same_sequence c d more more' first zero n small one = absurd (omega arith)
 same_sequence c d more more' first (suc bound) n small one =
     ⊎_elim
     (λ (high : 55 < n).
-        more n high
-        ∙ ap₂ difference (same_sequence c d more more' first bound (n - 55) (omega arith) (omega arith)) (same_sequence c d more more' first bound (n - 24) (omega arith) (omega arith))
-        ∙ sym (more' n high))
+    more n high
+    ∙ ap₂ difference (same_sequence c d more more' first bound (n - 55) (omega arith) (omega arith)) (same_sequence c d more more' first bound (n - 24) (omega arith) (omega arith))
+    ∙ sym (more' n high))
     (λ (low : n ≤ 55). first n one low)
     (cases_lt 55 n)
 
 pub IsSequence-term : (words : List ℕ) → IsSequence words (term words)
 IsSequence-term words = record {
-    first = λ i one low. term-low words i low;
-    more = λ n high. term-high words n high
+  first = λ i one low. term-low words i low;
+  more = λ n high. term-high words n high;
 }
 
 pub IsSequence-only : (words : List ℕ) (c : ℕ → ℕ) → IsSequence words c → (n : ℕ) → 1 ≤ n → c n ≡ term words n
@@ -120,33 +119,33 @@ term-terms_after words s n h =
     same_sequence (term (terms_after words s)) (λ i. term words (s + i))
     (λ k high. term-high (terms_after words s) k high)
     (λ k high.
-        let far : s + k - 55 ≡ s + (k - 55) = omega arith in
-        let near : s + k - 24 ≡ s + (k - 24) = omega arith in
-        term-high words (s + k) (omega arith) ∙ ap₂ (λ i j. difference (term words i) (term words j)) far near)
+    let far : s + k - 55 ≡ s + (k - 55) = omega arith in
+    let near : s + k - 24 ≡ s + (k - 24) = omega arith in
+    term-high words (s + k) (omega arith) ∙ ap₂ (λ i j. difference (term words i) (term words j)) far near)
     (λ k one low.
-        let same : k - 1 + 1 ≡ k = omega arith in
-        term-low (terms_after words s) k low
-        ∙ get_or-terms_after words s (k - 1) (omega arith)
-        ∙ ap (λ i. term words (s + i)) same)
+    let same : k - 1 + 1 ≡ k = omega arith in
+    term-low (terms_after words s) k low
+    ∙ get_or-terms_after words s (k - 1) (omega arith)
+    ∙ ap (λ i. term words (s + i)) same)
     n n (omega arith) h
 
 pub terms_after-terms_after : (words : List ℕ) (s t : ℕ) → terms_after (terms_after words s) t ≡ terms_after words (s + t)
 terms_after-terms_after words s t =
     same-terms_after words (s + t) (terms_after (terms_after words s) t) (length-terms_after (terms_after words s) t)
     (λ k h.
-        let turn : s + (t + (k + 1)) ≡ s + t + (k + 1) = omega arith in
-        get_or-terms_after (terms_after words s) t k h
-        ∙ term-terms_after words s (t + (k + 1)) (omega arith)
-        ∙ ap (λ i. term words i) turn)
+    let turn : s + (t + (k + 1)) ≡ s + t + (k + 1) = omega arith in
+    get_or-terms_after (terms_after words s) t k h
+    ∙ term-terms_after words s (t + (k + 1)) (omega arith)
+    ∙ ap (λ i. term words i) turn)
 
 -- ---- each term is below 2 ^ 31
 pub term-below : (words : List ℕ) → length words ≡ 55 → AreSmall words → (n : ℕ) → 0 < n → term words n < 2 ^ 31
 term-below words count small n h =
     ⊎_elim
     (λ (high : 55 < n).
-        subst (λ (x : ℕ). x < 2 ^ 31) (sym (term-high words n high)) (difference-below (term words (n - 55)) (term words (n - 24))))
+    subst (λ (x : ℕ). x < 2 ^ 31) (sym (term-high words n high)) (difference-below (term words (n - 55)) (term words (n - 24))))
     (λ (low : n ≤ 55).
-        subst (λ (x : ℕ). x < 2 ^ 31) (sym (term-low words n low)) (small (n - 1) (omega arith)))
+    subst (λ (x : ℕ). x < 2 ^ 31) (sym (term-low words n low)) (small (n - 1) (omega arith)))
     (cases_lt 55 n)
 
 pub AreSmall-terms_after : (words : List ℕ) (s : ℕ) → length words ≡ 55 → AreSmall words → AreSmall (terms_after words s)
@@ -168,25 +167,25 @@ terms_agree v w count small count' small' zero late n h = late n h
 terms_agree v w count small count' small' (suc s) late n h =
     terms_agree v w count small count' small' s
     (λ k behind.
-        term_before v count small k (omega arith)
-        ∙ ap₂ joined (late (k + 55) (omega arith)) (late (k + 31) (omega arith))
-        ∙ sym (term_before w count' small' k (omega arith)))
+    term_before v count small k (omega arith)
+    ∙ ap₂ joined (late (k + 55) (omega arith)) (late (k + 31) (omega arith))
+    ∙ sym (term_before w count' small' k (omega arith)))
     n h
 
 pub same_words : (v w : List ℕ) → length v ≡ 55 → AreSmall v → length w ≡ 55 → AreSmall w
     → (s : ℕ) → terms_after v s ≡ terms_after w s → v ≡ w
 same_words v w count small count' small' s same =
     let late : (n : ℕ) → s < n → term v n ≡ term w n =
-        λ n behind.
-            let split : s + (n - s) ≡ n = omega arith in
-            ap (λ i. term v i) (sym split)
-            ∙ sym (term-terms_after v s (n - s) (omega arith))
-            ∙ ap (λ ws. term ws (n - s)) same
-            ∙ term-terms_after w s (n - s) (omega arith)
-            ∙ ap (λ i. term w i) split
+    λ n behind.
+    let split : s + (n - s) ≡ n = omega arith in
+    ap (λ i. term v i) (sym split)
+    ∙ sym (term-terms_after v s (n - s) (omega arith))
+    ∙ ap (λ ws. term ws (n - s)) same
+    ∙ term-terms_after w s (n - s) (omega arith)
+    ∙ ap (λ i. term w i) split
     in
     let begin : terms_after v 0 ≡ terms_after w 0 =
-        same-terms_after w 0 (terms_after v 0) (length-terms_after v 0)
-        (λ k h. get_or-terms_after v 0 k h ∙ terms_agree v w count small count' small' s late (0 + (k + 1)) (omega arith))
+    same-terms_after w 0 (terms_after v 0) (length-terms_after v 0)
+    (λ k h. get_or-terms_after v 0 k h ∙ terms_agree v w count small count' small' s late (0 + (k + 1)) (omega arith))
     in
     sym (terms_after-none v count) ∙ begin ∙ terms_after-none w count'

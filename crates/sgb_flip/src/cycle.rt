@@ -1,4 +1,4 @@
-ghost use Rattle.std.specs.Prelude.{◌≡◌, ◌+◌, ◌≤◌, ◌⊎◌, length};
+ghost use Rattle.std.specs.Prelude.{◌≡◌, ◌+◌, ◌*◌, ◌≤◌, ◌⊎◌, length};
 ghost use Rattle.sgb_flip.specs.Generator.{AreSmall};
 ghost use Rattle.sgb_flip.specs.Run.{IsRun};
 ghost use Rattle.sgb_flip.specs.Sequence.{difference, joined, terms_after};
@@ -25,6 +25,30 @@ pub(crate) fn uncycle(words: &mut [u32])
     restore(words, 48, 24, 7);
     restore(words, 24, 0, 24);
     restore(words, 0, 31, 24);
+}
+
+/// Turns 55 words on by whole batches.
+pub(crate) fn cycle_by(words: &mut [u32], batches: u64)
+    requires count { length words.old ≡ 55 }
+    requires small { AreSmall words.old }
+    ensures batch { words.new ≡ terms_after words.old (55 * batches) }
+    ensures small { AreSmall words.new }
+{
+    for _turn in 0..batches {
+        cycle(words);
+    }
+}
+
+/// Turns 55 words back by whole batches.
+pub(crate) fn uncycle_by(words: &mut [u32], batches: u64)
+    requires count { length words.old ≡ 55 }
+    requires small { AreSmall words.old }
+    ensures batch { terms_after words.new (55 * batches) ≡ words.old }
+    ensures small { AreSmall words.new }
+{
+    for _turn in 0..batches {
+        uncycle(words);
+    }
 }
 
 // Takes the words from `from` on off those from `at` on.

@@ -1,8 +1,16 @@
 ghost use Rattle.std.specs.Prelude.{◌≡◌, ◌<◌, ◌≤◌, ◌^◌, ◌↔◌, IsSome, IfSome, length};
 ghost use Rattle.sgb_flip.specs.Generator.{
-    Generator, IsGenerator, IsUniform, after, drawn, seeded, uniform
+  Generator,
+  IsGenerator,
+  IsUniform,
+  after,
+  drawn,
+  seeded,
+  uniform,
 };
 
+use crate::cycle::{cycle, cycle_by};
+use crate::seeding::{fill, number_of};
 use std::marker::Model;
 
 /// A generator of numbers below 2^31: 55 words, of which at most 54 are unread.
@@ -37,6 +45,17 @@ impl Model for Flip {
 }
 
 impl Flip {
+    /// The generator of a seed, which counts modulo 2^31 (`gb_init_rand`).
+    pub fn new(seed: i64) -> Flip
+        ensures seeded { result ≡ seeded seed }
+        ensures generator { IsGenerator result }
+    {
+        let mut words = [0u32; 55];
+        fill(&mut words, number_of(seed));
+        cycle_by(&mut words, 5);
+        Flip { words, unread: 54 }
+    }
+
     /// The words.
     pub fn words(&self) -> [u32; 55]
         ensures value { result ≡ self.now.words }
@@ -51,5 +70,21 @@ impl Flip {
         ensures generator { IsGenerator self.now }
     {
         self.unread
+    }
+
+    /// Draws one number below 2^31 (`gb_next_rand`).
+    #[inline]
+    pub fn next(&mut self) -> u32
+        ensures number { result ≡ drawn self.old 0 }
+        ensures rest { self.new ≡ after self.old 1 }
+        ensures generator { IsGenerator self.new }
+        ensures small { result < 2 ^ 31 }
+    {
+        if self.unread == 0 {
+            cycle(&mut self.words);
+            self.unread = 55;
+        }
+        self.unread -= 1;
+        self.words[self.unread as usize]
     }
 }

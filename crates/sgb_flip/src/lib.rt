@@ -4,6 +4,7 @@
 mod cycle;
 mod flip;
 mod laws;
+mod seeding;
 
 pub use flip::Flip;
 pub use laws::sequence_law;

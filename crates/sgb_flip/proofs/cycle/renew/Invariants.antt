@@ -5,6 +5,6 @@ use Rattle.sgb_flip.proofs.cycle.renew.Given as goal
 
 abbrev pub invariant-loop-k : goal.invariant-loop-k
 invariant-loop-k l = record {
-    run : IsRun difference l.at l.from l.k l.initial.words l.words;
-    small : AreSmall l.words
+  run : IsRun difference l.at l.from l.k l.initial.words l.words;
+  small : AreSmall l.words;
 }

@@ -1,0 +1,18 @@
+use Rattle.std.proofs.Common.{arith}
+use Rattle.sgb_flip.proofs.Batches.{batches_before}
+use Rattle.sgb_flip.proofs.Terms.{terms_after-none}
+use Rattle.sgb_flip.proofs.cycle.uncycle_by.Goals as goal
+
+pub loop-turn-init : goal.loop-turn-init
+loop-turn-init c = record {
+  count = c.requires.count;
+  batch = terms_after-none c.args.words.now c.requires.count;
+  small = c.requires.small;
+}
+
+pub loop-turn-preserved : goal.loop-turn-preserved
+loop-turn-preserved c = record {
+  count = omega arith;
+  batch = batches_before c.args.words.now c.loop-turn.words c.uncycle.new.words c.loop-turn._turn c.loop-turn.invariant.batch c.uncycle.ensures.batch;
+  small = c.uncycle.ensures.small;
+}

@@ -1,0 +1,11 @@
+use Rattle.std.proofs.Common.{◌≡◌, ◌*◌, length}
+use Rattle.sgb_flip.specs.Generator.{AreSmall}
+use Rattle.sgb_flip.specs.Sequence.{terms_after}
+use Rattle.sgb_flip.proofs.cycle.uncycle_by.Given as goal
+
+abbrev pub invariant-loop-turn : goal.invariant-loop-turn
+invariant-loop-turn l = record {
+  count : length l.words ≡ 55;
+  batch : terms_after l.words (55 * l._turn) ≡ l.initial.words;
+  small : AreSmall l.words;
+}
