@@ -1,4 +1,13 @@
+pub mod Arena
+pub mod Builder
+pub mod Chain
+pub mod Delta
+pub mod Edit
 pub mod Field
+pub mod Graph
+pub mod Honest
+pub mod New
+pub mod Paired
 pub mod Refusal
 pub mod Text
 pub mod Types

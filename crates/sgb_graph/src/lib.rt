@@ -1,12 +1,18 @@
 //! Directed graphs of vertices and numbered arcs with utility fields, whose edits can be undone.
 #![tactic(auto)]
 
+mod builder;
+mod delta;
 mod field;
+mod graph;
 mod refusal;
 mod text;
 mod types;
 
+pub use builder::Builder;
+pub use delta::{CutArc, GraphDelta};
 pub use field::{ArcField, ArcNo, GraphField, Place, Tip, Util, VertexField, VertexNo};
+pub use graph::{Graph, MOST_ARCS, MOST_VERTICES};
 pub use refusal::Refusal;
-pub use text::Text;
+pub use text::{Label, Text};
 pub use types::Types;

@@ -1,0 +1,71 @@
+-- The arena of arcs: how its fields show a graph.
+use Rattle.std.specs.Prelude.{◌≡◌, ◌<◌, ℕ, List, map, length, Option, Some, None, IfSome, All, slice_index_or}
+use Rattle.sgb_graph.specs.declared.field.ArcNo.{ArcNo}
+use Rattle.sgb_graph.specs.declared.graph.Vertex.{Vertex}
+use Rattle.sgb_graph.specs.declared.graph.Slot.{Slot}
+use Rattle.sgb_graph.specs.declared.graph.Graph.TheInside.{Inside}
+use Rattle.sgb_graph.specs.Chain.{Leads, chain}
+use Rattle.sgb_graph.specs.Graph.{GraphOf, VertexOf, ArcOf, n_of, made_of, m_of, vertex_at, arcs_of, arc_at, occurrences, names_of, IsGraph}
+
+abbrev pub Slots : Type 0
+Slots = List (Option Slot)
+
+-- which number follows in its list; a hole is followed by none
+abbrev pub next_of : Option Slot → Option ArcNo
+next_of None = None
+next_of (Some s) = s.next
+
+abbrev pub slot_at : Slots → ℕ → Option Slot
+slot_at ss k = slice_index_or ss k None
+
+abbrev pub next_at : Slots → ℕ → Option ArcNo
+next_at ss k = next_of (slot_at ss k)
+
+-- the arc or the hole that the slot shows
+abbrev pub entry_of : Option Slot → Option ArcOf
+entry_of None = None
+entry_of (Some s) = Some (record { tip = s.tip; len = s.len; fields = s.fields })
+
+-- the numbers from this link on
+abbrev pub numbers : Slots → Option ArcNo → List ℕ
+numbers ss link = chain (next_at ss) (length ss) link
+
+abbrev pub vertex_of : Slots → Vertex → VertexOf
+vertex_of ss v = record { label = v.label; fields = v.fields; arcs = numbers ss v.first }
+
+abbrev pub graph_of : Inside → GraphOf
+graph_of a = record {
+  id = a.id;
+  types = a.types;
+  fields = a.fields;
+  vertices = map (vertex_of a.slots.items) a.vertices.items;
+  entries = map entry_of a.slots.items
+}
+
+-- the numbers from this link on come to an end, and name slots
+pub record IsLinked (ss : Slots) (link : Option ArcNo) : Type 0 where
+  pub ends : Leads (next_at ss) link (numbers ss link) None
+  pub within : All (λ k. k < length ss) (numbers ss link)
+
+pub record ShowsVertex (ss : Slots) (v : Vertex) (x : VertexOf) : Type 0 where
+  pub label : v.label ≡ x.label
+  pub fields : v.fields ≡ x.fields
+  pub arcs : Leads (next_at ss) v.first x.arcs None
+
+-- the slot names its owner, and counts the fields that name its arc
+pub record IsSlot (g : GraphOf) (k : ℕ) (s : Slot) : Type 0 where
+  pub owner : occurrences k (arcs_of g s.owner.0) ≡ 1
+  pub names : s.names ≡ names_of g k
+
+-- these vertices and slots show the vertices and entries of the graph
+pub record Shows (vs : List Vertex) (ss : Slots) (g : GraphOf) : Type 0 where
+  pub n : length vs ≡ n_of g
+  pub vertices : (v : ℕ) (d : Vertex) → v < n_of g → ShowsVertex ss (slice_index_or vs v d) (vertex_at g v)
+  pub made : length ss ≡ made_of g
+  pub entries : (k : ℕ) → entry_of (slot_at ss k) ≡ arc_at g k
+  pub slots : (k : ℕ) → IfSome (slot_at ss k) (IsSlot g k)
+
+pub record IsArena (a : Inside) : Type 0 where
+  pub graph : IsGraph (graph_of a)
+  pub shows : Shows a.vertices.items a.slots.items (graph_of a)
+  pub live : a.live ≡ m_of (graph_of a)

@@ -1,0 +1,73 @@
+//! Graphs.
+ghost use Rattle.std.specs.Prelude.{◌≡◌, ◌<◌, ◌≤◌, ◌⊎◌, ◌≢◌, IfOk, IfErr, IfSome, IfNone, None, Some, map};
+ghost use Rattle.sgb_graph.specs.Graph.{IsGraph, IsId, n_of, m_of, made_of, label_of, arcs_of, arc_at, has_arc};
+ghost use Rattle.sgb_graph.specs.Text.{IsText};
+ghost use Rattle.sgb_graph.specs.Edit.{refusal_of_new};
+ghost use Rattle.sgb_graph.specs.New.{new_graph};
+
+use std::alloc::Global;
+use std::marker::Model;
+
+use crate::text::Label;
+use crate::{ArcNo, Refusal, Text, Tip, Types, Util, VertexNo};
+
+/// The most vertices that a graph has.
+pub const MOST_VERTICES: u32 = 65_535;
+
+/// The most arc numbers that a graph gives out.
+pub const MOST_ARCS: u32 = 1_000_000;
+
+/// A directed graph: vertices with labels and six utility fields each, and per vertex a list of arcs, the newest
+/// first. An arc has a number, a tip, a length and two utility fields; the number of an arc that was cut is a hole.
+#[derive(Drop)]
+pub struct Graph {
+    id: Text,
+    types: Types,
+    fields: [Util; 6],
+    vertices: Vec<Vertex>,
+    slots: Vec<Option<Slot>>,
+    // How many slots hold an arc.
+    live: u32,
+}
+
+#[derive(Drop)]
+struct Vertex {
+    label: Label,
+    fields: [Util; 6],
+    first: Option<ArcNo>,
+}
+
+#[derive(Drop)]
+struct Slot {
+    owner: VertexNo,
+    tip: Tip,
+    // The arc that follows in the owner's list.
+    next: Option<ArcNo>,
+    // How many fields of the graph name this arc.
+    names: u32,
+    len: i64,
+    fields: [Util; 2],
+}
+
+impl Model for Graph {
+    ghost use Rattle.sgb_graph.specs.Graph.{GraphOf};
+
+    ghost Value = { GraphOf };
+
+    ghost use Rattle.sgb_graph.specs.Arena.{graph_of, IsArena};
+
+    ghost view = { graph_of };
+
+    ghost invariant = { IsArena };
+}
+
+impl Graph {
+    /// How many vertices there are.
+    #[inline]
+    pub fn n(&self) -> u32
+        ensures value { result ≡ n_of self.now }
+        ensures graph { IsGraph self.now }
+    {
+        self.vertices.len() as u32
+    }
+}
