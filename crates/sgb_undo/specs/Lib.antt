@@ -1,0 +1,4 @@
+pub mod Outcome
+pub mod Replay
+pub mod History
+pub mod Kept

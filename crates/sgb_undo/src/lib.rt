@@ -1,0 +1,13 @@
+//! The journal of any machine whose commands can be taken back.
+//!
+//! A [`Reversible`] machine answers an accepted command with a delta that leads back, and a
+//! [`Journal`] keeps the commands and their deltas, so that they can be undone and redone.
+#![tactic(auto)]
+
+mod journal;
+mod refusal;
+mod reversible;
+
+pub use journal::{Journal, MOST_COMMANDS};
+pub use refusal::{JournalRefusal, NothingToUndo};
+pub use reversible::Reversible;

@@ -1,0 +1,18 @@
+//! Why a call of a journal is refused.
+
+/// Why a command is not applied or not redone. `F` is the machine's own refusal.
+#[derive(Debug, Drop)]
+pub enum JournalRefusal<F> {
+    /// There is no memory for one more command.
+    NoRoom,
+    /// As many commands stand as a journal may hold.
+    Full,
+    /// No command is undone.
+    NothingToRedo,
+    /// The machine refuses the command.
+    Machine(F),
+}
+
+/// No command stands.
+#[derive(Clone, Copy, Debug, PartialEq, Eq)]
+pub struct NothingToUndo;
