@@ -1,5 +1,5 @@
 -- Draws, counted: for callers that follow a generator over many calls.
-use Rattle.std.proofs.Common.{◌≡◌, ℕ, ◌+◌, ◌-◌, ◌*◌, ◌/◌, ◌%◌, ◌^◌, ◌<◌, ℤ, List, length, get_or, sym, ap, ap₂, ◌∙◌, subst, arith}
+use Rattle.std.proofs.Common.{◌≡◌, ℕ, ◌+◌, ◌-◌, ◌*◌, ◌/◌, ◌%◌, ◌^◌, ◌<◌, ℤ, List, length, get_or, refl, sym, ap, ap₂, ◌∙◌, subst, arith}
 use Rattle.sgb_flip.specs.Generator.{Generator, AreSmall, IsGenerator, drawn, after, seed_words, seed_number, seeded, window}
 use Rattle.sgb_flip.specs.Sequence.{term, terms_after}
 use Rattle.sgb_flip.proofs.Seeds.{seed_number-below, length-seed_words, AreSmall-seed_words}
@@ -140,6 +140,31 @@ after-only v w n is is' same =
     ap (λ (g : Generator). g.words) made_same ∙ ap (λ b. terms_after w.words (55 * b)) (sym batch)
     in
     ap₂ made (same_words v.words w.words is.count is.small is'.count is'.small (55 * p.batch) later) unread
+
+-- the same, where it is known that a state leads there
+pub before-only : (new old : Generator) (n : ℕ) → IsGenerator new → after new n ≡ old → (v : Generator) → IsGenerator v → after v n ≡ old → v ≡ new
+before-only new old n is before v is' same = after-only v new n is' is (same ∙ sym before)
+
+-- ---- one draw and many, turned back as the words give them
+pub back_refilled : (words before : List ℕ) (unread : ℕ) (w : Generator) → made words unread ≡ w → unread ≡ 54 → terms_after before 55 ≡ words → after (made before 0) 1 ≡ w
+back_refilled words before unread w view all batch =
+    sym (next_refilled before words 0 (made before 0) refl refl (sym batch)).1
+    ∙ ap (λ u. made words u) (sym all)
+    ∙ view
+
+pub back_read : (words : List ℕ) (unread : ℕ) (w : Generator) → made words unread ≡ w → length words ≡ 55 → unread < 54 → after (made words (unread + 1)) 1 ≡ w
+back_read words unread w view count few =
+    let same : unread + 1 - 1 ≡ unread = omega arith in
+    sym (next_read words (unread + 1) (made words (unread + 1)) refl count (omega arith) (omega arith)).1
+    ∙ ap (λ u. made words u) same
+    ∙ view
+
+pub back_batches : (words before : List ℕ) (unread n part batches : ℕ) (w : Generator) → made words unread ≡ w → unread < 55 → part ≡ unread + n % 55 → batches ≡ n / 55 + part / 55 → terms_after before (55 * batches) ≡ words → after (made before (part % 55)) n ≡ w
+back_batches words before unread n part batches w view few part_is batches_is batch =
+    let left : 54 - (54 - unread) ≡ unread = omega arith in
+    after_at (made before (part % 55)) n batches (54 - unread) (omega arith) (omega arith)
+    ∙ ap₂ made batch left
+    ∙ view
 
 -- ---- a seeded generator
 pub IsGenerator-seeded : (s : ℤ) → IsGenerator (seeded s)

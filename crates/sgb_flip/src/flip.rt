@@ -1,5 +1,6 @@
-ghost use Rattle.std.specs.Prelude.{◌≡◌, ◌<◌, ◌≤◌, ◌^◌, ◌↔◌, IsSome, IfSome, length};
+ghost use Rattle.std.specs.Prelude.{◌≡◌, ◌<◌, ◌≤◌, ◌^◌, ◌↔◌, IsSome, IfSome, IsTrue, length};
 ghost use Rattle.sgb_flip.specs.Generator.{
+  AreSmall,
   Generator,
   IsGenerator,
   IsUniform,
@@ -9,7 +10,7 @@ ghost use Rattle.sgb_flip.specs.Generator.{
   uniform,
 };
 
-use crate::cycle::{cycle, cycle_by};
+use crate::cycle::{cycle, cycle_by, uncycle, uncycle_by};
 use crate::seeding::{fill, number_of};
 use std::marker::Model;
 
@@ -56,6 +57,19 @@ impl Flip {
         Flip { words, unread: 54 }
     }
 
+    /// The generator with these very words, each below 2^31, of which `unread`, at most 54, are
+    /// unread; `None` for other numbers.
+    pub fn from_words(words: [u32; 55], unread: u32) -> Option<Flip>
+        ensures some { IfSome result (λ flip. flip ≡ record { words = words; unread = unread }) }
+        ensures when { IsSome result ↔ IsGenerator (record { words = words; unread = unread }) }
+    {
+        if unread < 55 && are_small(&words) {
+            Some(Flip { words, unread })
+        } else {
+            None
+        }
+    }
+
     /// The words.
     pub fn words(&self) -> [u32; 55]
         ensures value { result ≡ self.now.words }
@@ -87,4 +101,66 @@ impl Flip {
         self.unread -= 1;
         self.words[self.unread as usize]
     }
+
+    /// Goes back to the one state that a draw leads from to this one.
+    #[inline]
+    pub fn back(&mut self)
+        ensures before { after self.new 1 ≡ self.old }
+        ensures generator { IsGenerator self.new }
+        ensures only { (v : Generator) → IsGenerator v → after v 1 ≡ self.old → v ≡ self.new }
+    {
+        if self.unread == 54 {
+            uncycle(&mut self.words);
+            self.unread = 0;
+        } else {
+            self.unread += 1;
+        }
+    }
+
+    /// Goes back to the one state that `n` draws lead from to this one. Whole batches of 55 draws are
+    /// turned back at once.
+    pub fn back_by(&mut self, n: u64)
+        ensures before { after self.new n ≡ self.old }
+        ensures generator { IsGenerator self.new }
+        ensures only { (v : Generator) → IsGenerator v → after v n ≡ self.old → v ≡ self.new }
+    {
+        let part = self.unread + (n % 55) as u32;
+        let batches = n / 55 + (part / 55) as u64;
+        uncycle_by(&mut self.words, batches);
+        self.unread = part % 55;
+    }
+
+    /// Draws a uniform number below `m` (`gb_unif_rand`): the first number drawn that is below the
+    /// greatest multiple of `m` up to 2^31, modulo `m`. From every state that takes at most 1,814
+    /// draws.
+    pub fn uniform(&mut self, m: u32) -> Drawn
+        requires positive { 1 ≤ m }
+        requires small { m ≤ 2 ^ 31 }
+        ensures relation { IsUniform self.old m result.value result.draws self.new }
+        ensures value { result.value ≡ (uniform self.old m).value }
+        ensures draws { result.draws ≡ (uniform self.old m).draws }
+        ensures rest { self.new ≡ (uniform self.old m).rest }
+        ensures generator { IsGenerator self.new }
+        ensures below { result.value < m }
+    {
+        let _ = &self.words;
+        let limit = 0x8000_0000 - 0x8000_0000 % m;
+        for refused in 0..1814u32 {
+            let number = self.next();
+            if number < limit {
+                return Drawn {
+                    value: number % m,
+                    draws: refused + 1,
+                };
+            }
+        }
+        unreachable!()
+    }
+}
+
+// Each word is below 2^31.
+fn are_small(words: &[u32]) -> bool
+    ensures { IsTrue result ↔ AreSmall words.now }
+{
+    words.iter().all(|word| *word < 0x8000_0000)
 }

@@ -6,5 +6,5 @@ mod flip;
 mod laws;
 mod seeding;
 
-pub use flip::Flip;
-pub use laws::sequence_law;
+pub use flip::{Drawn, Flip};
+pub use laws::{draws_law, seeding_law, sequence_law};
