@@ -46,6 +46,11 @@ run_append f at from j k m p q old now next at_is from_is m_is apart first then 
   above = λ i h. then.above i (omega arith) ∙ first.above i (omega arith);
 }
 
+-- a shorter pass is apart too
+pub part_apart : (at from count k : ℕ) → k ≤ count → (from + count ≤ at) ⊎ (at + count ≤ from) → (from + k ≤ at) ⊎ (at + k ≤ from)
+part_apart at from count k h apart =
+    ⊎_elim (λ (under : from + count ≤ at). inl (omega arith)) (λ (over : at + count ≤ from). inr (omega arith)) apart
+
 -- a pass over one word
 pub run_one : (f : ℕ → ℕ → ℕ) (p q v : ℕ) (now : List ℕ) → p < length now → v ≡ f (get_or now p 0) (get_or now q 0) → IsRun f p q 1 now (set now p v)
 run_one f p q v now h is = record {

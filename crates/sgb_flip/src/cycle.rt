@@ -3,19 +3,26 @@ ghost use Rattle.sgb_flip.specs.Generator.{AreSmall};
 ghost use Rattle.sgb_flip.specs.Run.{IsRun};
 ghost use Rattle.sgb_flip.specs.Sequence.{difference, joined, terms_after};
 
-/// Turns 55 words into the next 55 of their sequence (`gb_flip_cycle`).
+use std::simd::prelude::*;
+
+/// Turns 55 words into the next 55 of their sequence (`gb_flip_cycle`). Three vectors of eight words
+/// stand between a word and the next one that needs it, so that 48 words go by vectors.
+#[cold]
+#[inline(never)]
 pub(crate) fn cycle(words: &mut [u32])
     requires count { length words.old ≡ 55 }
     requires small { AreSmall words.old }
     ensures batch { words.new ≡ terms_after words.old 55 }
     ensures small { AreSmall words.new }
 {
-    renew(words, 0, 31, 24);
-    renew(words, 24, 0, 24);
+    renew_vectors(words, 0, 31);
+    renew_vectors(words, 24, 0);
     renew(words, 48, 24, 7);
 }
 
-/// Turns 55 words into the 55 before them of their sequence.
+/// Turns 55 words into the 55 before them of their sequence, from the last word on.
+#[cold]
+#[inline(never)]
 pub(crate) fn uncycle(words: &mut [u32])
     requires count { length words.old ≡ 55 }
     requires small { AreSmall words.old }
@@ -23,8 +30,8 @@ pub(crate) fn uncycle(words: &mut [u32])
     ensures small { AreSmall words.new }
 {
     restore(words, 48, 24, 7);
-    restore(words, 24, 0, 24);
-    restore(words, 0, 31, 24);
+    restore_vectors(words, 24, 0);
+    restore_vectors(words, 0, 31);
 }
 
 /// Turns 55 words on by whole batches.
@@ -49,6 +56,62 @@ pub(crate) fn uncycle_by(words: &mut [u32], batches: u64)
     for _turn in 0..batches {
         uncycle(words);
     }
+}
+
+// Takes the 24 words from `from` on off those from `at` on, by three vectors.
+fn renew_vectors(words: &mut [u32], at: usize, from: usize)
+    requires small { AreSmall words.old }
+    requires to_end { at + 24 ≤ length words.old }
+    requires from_end { from + 24 ≤ length words.old }
+    requires apart { (from + 24 ≤ at) ⊎ (at + 24 ≤ from) }
+    ensures run { IsRun difference at from 24 words.old words.new }
+    ensures small { AreSmall words.new }
+{
+    for k in 0..3usize {
+        renew_eight(words, at + 8 * k, from + 8 * k);
+    }
+}
+
+// Puts the 24 words from `from` on back to those from `at` on, by three vectors.
+fn restore_vectors(words: &mut [u32], at: usize, from: usize)
+    requires small { AreSmall words.old }
+    requires to_end { at + 24 ≤ length words.old }
+    requires from_end { from + 24 ≤ length words.old }
+    requires apart { (from + 24 ≤ at) ⊎ (at + 24 ≤ from) }
+    ensures run { IsRun joined at from 24 words.old words.new }
+    ensures small { AreSmall words.new }
+{
+    for k in 0..3usize {
+        restore_eight(words, at + 8 * k, from + 8 * k);
+    }
+}
+
+// Takes eight words off eight others, lane by lane.
+fn renew_eight(words: &mut [u32], at: usize, from: usize)
+    requires small { AreSmall words.old }
+    requires to_end { at + 8 ≤ length words.old }
+    requires from_end { from + 8 ≤ length words.old }
+    ensures run { IsRun difference at from 8 words.old words.new }
+    ensures small { AreSmall words.new }
+{
+    let reduced = u32x8::from_slice(&words[at..]);
+    let taken = u32x8::from_slice(&words[from..]);
+    let renewed = (reduced - taken) & u32x8::splat(0x7fff_ffff);
+    renewed.copy_to_slice(&mut words[at..]);
+}
+
+// Puts eight words back to eight others, lane by lane.
+fn restore_eight(words: &mut [u32], at: usize, from: usize)
+    requires small { AreSmall words.old }
+    requires to_end { at + 8 ≤ length words.old }
+    requires from_end { from + 8 ≤ length words.old }
+    ensures run { IsRun joined at from 8 words.old words.new }
+    ensures small { AreSmall words.new }
+{
+    let reduced = u32x8::from_slice(&words[at..]);
+    let taken = u32x8::from_slice(&words[from..]);
+    let restored = (reduced + taken) & u32x8::splat(0x7fff_ffff);
+    restored.copy_to_slice(&mut words[at..]);
 }
 
 // Takes the words from `from` on off those from `at` on.
