@@ -1,5 +1,6 @@
 -- The arena of arcs: how its fields show a graph.
 use Rattle.std.specs.Prelude.{◌≡◌, ◌<◌, ℕ, List, map, length, Option, Some, None, IfSome, All, slice_index_or}
+use Rattle.sgb_graph.specs.declared.field.VertexNo.{VertexNo}
 use Rattle.sgb_graph.specs.declared.field.ArcNo.{ArcNo}
 use Rattle.sgb_graph.specs.declared.graph.Vertex.{Vertex}
 use Rattle.sgb_graph.specs.declared.graph.Slot.{Slot}
@@ -52,10 +53,14 @@ pub record ShowsVertex (ss : Slots) (v : Vertex) (x : VertexOf) : Type 0 where
   pub fields : v.fields ≡ x.fields
   pub arcs : Leads (next_at ss) v.first x.arcs None
 
--- the slot names its owner, and counts the fields that name its arc
-pub record IsSlot (g : GraphOf) (k : ℕ) (s : Slot) : Type 0 where
-  pub owner : occurrences k (arcs_of g s.owner.0) ≡ 1
-  pub names : s.names ≡ names_of g k
+-- the vertex that the slot names as owner, and its count of the fields that name its arc
+abbrev pub owner_in : Option Slot → Option VertexNo
+owner_in None = None
+owner_in (Some s) = Some s.owner
+
+abbrev pub names_counted : Option Slot → Option ℕ
+names_counted None = None
+names_counted (Some s) = Some s.names
 
 -- these vertices and slots show the vertices and entries of the graph
 pub record Shows (vs : List Vertex) (ss : Slots) (g : GraphOf) : Type 0 where
@@ -63,9 +68,18 @@ pub record Shows (vs : List Vertex) (ss : Slots) (g : GraphOf) : Type 0 where
   pub vertices : (v : ℕ) (d : Vertex) → v < n_of g → ShowsVertex ss (slice_index_or vs v d) (vertex_at g v)
   pub made : length ss ≡ made_of g
   pub entries : (k : ℕ) → entry_of (slot_at ss k) ≡ arc_at g k
-  pub slots : (k : ℕ) → IfSome (slot_at ss k) (IsSlot g k)
+  pub owners : (k : ℕ) → IfSome (owner_in (slot_at ss k)) (λ v. occurrences k (arcs_of g v.0) ≡ 1)
+  pub names : (k : ℕ) → IfSome (names_counted (slot_at ss k)) (λ n. n ≡ names_of g k)
 
 pub record IsArena (a : Inside) : Type 0 where
   pub graph : IsGraph (graph_of a)
   pub shows : Shows a.vertices.items a.slots.items (graph_of a)
   pub live : a.live ≡ m_of (graph_of a)
+
+-- the number as an `ArcNo`
+abbrev pub arc_no : ℕ → ArcNo
+arc_no k = record { 0 = k }
+
+-- what is left of an iterator over a list of arcs
+abbrev pub arc_numbers : List ℕ → List ArcNo
+arc_numbers = map arc_no

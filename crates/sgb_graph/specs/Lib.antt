@@ -8,6 +8,7 @@ pub mod Graph
 pub mod Honest
 pub mod New
 pub mod Paired
+pub mod Read
 pub mod Refusal
 pub mod Text
 pub mod Types

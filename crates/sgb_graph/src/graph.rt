@@ -5,6 +5,11 @@ ghost use Rattle.sgb_graph.specs.Text.{IsText};
 ghost use Rattle.sgb_graph.specs.Edit.{refusal_of_new};
 ghost use Rattle.sgb_graph.specs.New.{new_graph};
 
+mod arcs;
+mod read;
+
+pub use arcs::Arcs;
+pub use read::ArcView;
 use std::alloc::Global;
 use std::marker::Model;
 
@@ -59,15 +64,4 @@ impl Model for Graph {
     ghost view = { graph_of };
 
     ghost invariant = { IsArena };
-}
-
-impl Graph {
-    /// How many vertices there are.
-    #[inline]
-    pub fn n(&self) -> u32
-        ensures value { result ≡ n_of self.now }
-        ensures graph { IsGraph self.now }
-    {
-        self.vertices.len() as u32
-    }
 }

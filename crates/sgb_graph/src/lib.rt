@@ -12,7 +12,7 @@ mod types;
 pub use builder::Builder;
 pub use delta::{CutArc, GraphDelta};
 pub use field::{ArcField, ArcNo, GraphField, Place, Tip, Util, VertexField, VertexNo};
-pub use graph::{Graph, MOST_ARCS, MOST_VERTICES};
+pub use graph::{ArcView, Arcs, Graph, MOST_ARCS, MOST_VERTICES};
 pub use refusal::Refusal;
 pub use text::{Label, Text};
 pub use types::Types;

@@ -1,0 +1,129 @@
+-- Lemmas on vertices and slots that show a graph.
+use Rattle.std.proofs.Common.{◌≡◌, ◌≢◌, ◌<◌, ◌≤◌, ◌+◌, ◌-◌, ◌*◌, ℕ, ℤ, zero, suc, List, [], ◌∷◌, ◌++◌, length, get_or, set, take, drop, map, Option, Some, None, is_some, IsSome, IfSome, All, Bool, true, false, refl, sym, ap, subst, ◌∙◌, arith, cond, ◌==◌, ◌⊎◌, inl, inr, FitsSigned, to_z, of_z}
+use Rattle.std.specs.Int.{w64}
+use Rattle.std.proofs.lemmas.Int.{to_z-of_z}
+use Rattle.sgb_graph.specs.Read.{entry_view, arc_view}
+use Rattle.std.proofs.lemmas.Bool.{cases_Bool, cases_lt}
+use Rattle.std.proofs.lemmas.List.{get_or_past, get_or-map, length-map, same_lists, get_or_default, get_or_read}
+use Rattle.sgb_graph.specs.declared.field.VertexNo.{VertexNo}
+use Rattle.sgb_graph.specs.declared.field.ArcNo.{ArcNo}
+use Rattle.sgb_graph.specs.declared.graph.Vertex.{Vertex}
+use Rattle.sgb_graph.specs.declared.graph.Slot.{Slot}
+use Rattle.sgb_graph.specs.declared.graph.Graph.TheInside.{Inside}
+use Rattle.sgb_graph.specs.Graph.{GraphOf, VertexOf, ArcOf, IsGraph, IsArc, n_of, made_of, m_of, vertex_at, no_vertex, arcs_of, arc_at, has_arc, occurrences, listings}
+use Rattle.sgb_graph.specs.Edit.{owner_of, place_of}
+use Rattle.sgb_graph.specs.Chain.{Leads, chain}
+use Rattle.sgb_graph.specs.Arena.{Slots, Shows, ShowsVertex, IsLinked, IsArena, slot_at, next_at, entry_of, owner_in, numbers, vertex_of, graph_of}
+use Rattle.sgb_graph.proofs.Counts.{occurs_at}
+use Rattle.sgb_graph.proofs.Graphs.{Listed, listed_live, owner_is, arcs_live, few_arcs_of, same_vertex, same_graph, made_of_live}
+use Rattle.sgb_graph.proofs.Chains.{chain_is, length-chain}
+
+-- what is known of the fields of a graph g
+pub record Opened (a : Inside) (g : GraphOf) : Type 0 where
+  pub graph : IsGraph g
+  pub shows : Shows a.vertices.items a.slots.items g
+  pub live : a.live ≡ m_of g
+  pub id : a.id ≡ g.id
+  pub types : a.types ≡ g.types
+  pub fields : a.fields ≡ g.fields
+
+pub opened : (a : Inside) (g : GraphOf) → graph_of a ≡ g → IsArena a → Opened a g
+opened a g same arena =
+    subst (Opened a) same
+    (record { graph = arena.graph; shows = arena.shows; live = arena.live; id = refl; types = refl; fields = refl })
+
+-- the links of a vertex give its arcs
+pub numbers_are : (vs : List Vertex) (ss : Slots) (g : GraphOf) (v : ℕ) (d : Vertex) → Shows vs ss g → IsGraph g → v < n_of g → numbers ss (get_or vs v d).first ≡ arcs_of g v
+numbers_are vs ss g v d shows sound h =
+    chain_is (next_at ss) (get_or vs v d).first (arcs_of g v) (length ss) (shows.vertices v d h).arcs
+    (omega (arith, few_arcs_of g v sound, shows.made))
+
+pub linked_first : (vs : List Vertex) (ss : Slots) (g : GraphOf) (v : ℕ) (d : Vertex) → Shows vs ss g → IsGraph g → v < n_of g → IsLinked ss (get_or vs v d).first
+linked_first vs ss g v d shows sound h =
+    let same = numbers_are vs ss g v d shows sound h in
+    record {
+      ends = subst (λ ks. Leads (next_at ss) (get_or vs v d).first ks None) (sym same) (shows.vertices v d h).arcs;
+      within = subst (λ ks. All (λ k. k < length ss) ks) (sym same) (λ i e l. omega (arith, (arcs_live g v sound i e l).made, shows.made))
+    }
+
+-- fields that show a sound graph are an arena whose view is that graph
+abbrev any_vertex : Vertex
+any_vertex = record { label = []; fields = []; first = None }
+
+pub closed_vertices : (vs : List Vertex) (ss : Slots) (g : GraphOf) → Shows vs ss g → IsGraph g → map (vertex_of ss) vs ≡ g.vertices
+closed_vertices vs ss g shows sound =
+    same_lists (map (vertex_of ss) vs) g.vertices (length-map vs (vertex_of ss) ∙ shows.n)
+    (λ v d h.
+      let low : v < length vs = omega (arith, length-map vs (vertex_of ss)) in
+      let low' : v < n_of g = omega (arith, shows.n) in
+      let x = shows.vertices v any_vertex low' in
+      get_or-map (vertex_of ss) vs v any_vertex d low
+      ∙ (same_vertex (vertex_of ss (get_or vs v any_vertex)) (vertex_at g v) x.label x.fields (numbers_are vs ss g v any_vertex shows sound low')
+      ∙ get_or_default g.vertices v no_vertex d low'))
+
+pub closed_entries : (vs : List Vertex) (ss : Slots) (g : GraphOf) → Shows vs ss g → map entry_of ss ≡ g.entries
+closed_entries vs ss g shows =
+    same_lists (map entry_of ss) g.entries (length-map ss entry_of ∙ shows.made)
+    (λ k d h.
+      let low : k < length ss = omega (arith, length-map ss entry_of) in
+      get_or-map entry_of ss k None d low
+      ∙ (shows.entries k ∙ get_or_default g.entries k None d (omega (arith, shows.made))))
+
+pub closed : (a : Inside) (g : GraphOf) → Opened a g → graph_of a ≡ g
+closed a g o =
+    same_graph (graph_of a) g o.id o.types o.fields
+    (closed_vertices a.vertices.items a.slots.items g o.shows o.graph)
+    (closed_entries a.vertices.items a.slots.items g o.shows)
+
+pub closed_arena : (a : Inside) (g : GraphOf) → Opened a g → IsArena a
+closed_arena a g o =
+    let same : g ≡ graph_of a = sym (closed a g o) in
+    record {
+      graph = subst IsGraph same o.graph;
+      shows = subst (Shows a.vertices.items a.slots.items) same o.shows;
+      live = subst (λ h. a.live ≡ m_of h) same o.live
+    }
+
+-- the slot of a live arc shows the arc and its owner
+pub record ShowsArc (g : GraphOf) (k : ℕ) (s : Slot) : Type 0 where
+  pub entry : arc_at g k ≡ Some (record { tip = s.tip; len = s.len; fields = s.fields })
+  pub owner : owner_of g k ≡ s.owner.0
+  pub len : FitsSigned w64 s.len
+
+pub shows_arc : (vs : List Vertex) (ss : Slots) (g : GraphOf) (k : ℕ) (s : Slot) → Shows vs ss g → IsGraph g → slot_at ss k ≡ Some s → ShowsArc g k s
+shows_arc vs ss g k s shows sound is =
+    let entry : arc_at g k ≡ Some (record { tip = s.tip; len = s.len; fields = s.fields }) = sym (shows.entries k) ∙ ap entry_of is in
+    let live : has_arc g k ≡ true = ap is_some entry in
+    let once : occurrences k (arcs_of g s.owner.0) ≡ 1 =
+        subst (λ o. IfSome (owner_in o) (λ v. occurrences k (arcs_of g v.0) ≡ 1)) is (shows.owners k) in
+    let arc : IsArc (n_of g) g.entries (record { tip = s.tip; len = s.len; fields = s.fields }) =
+        subst (λ o. IfSome o (IsArc (n_of g) g.entries)) entry (sound.arcs k None (made_of_live g k live)) in
+    record { entry = entry; owner = owner_is g k s.owner.0 sound (omega arith); len = arc.len }
+
+-- a read of the slots
+pub read_slot : (ss : Slots) (k : ℕ) (o : Option Slot) → k < length ss → o ≡ get_or ss k o → slot_at ss k ≡ o
+read_slot ss k o h is = sym (get_or_read ss k o h is None)
+
+-- what `arc` answers at a live arc
+pub view_of_slot : (a : Inside) (g : GraphOf) (k : ℕ) (s : Slot) (o : Option Slot) → graph_of a ≡ g → IsArena a → k < made_of g → o ≡ Some s → o ≡ get_or a.slots.items k o
+  → Some (record { owner = s.owner; tip = s.tip; len = to_z w64 (of_z w64 s.len) }) ≡ arc_view g k
+view_of_slot a g k s o same arena h is read =
+    let x = opened a g same arena in
+    let slot : slot_at a.slots.items k ≡ Some s = read_slot a.slots.items k o (omega (arith, x.shows.made)) read ∙ is in
+    let y = shows_arc a.vertices.items a.slots.items g k s x.shows x.graph slot in
+    ap (λ z. Some (record { owner = s.owner; tip = s.tip; len = z })) (to_z-of_z w64 s.len y.len)
+    ∙ (ap (λ v. Some (record { owner = record { 0 = v }; tip = s.tip; len = s.len })) (sym y.owner)
+    ∙ ap (entry_view (owner_of g k)) (sym y.entry))
+
+-- what `arcs` walks along
+pub linked_at : (a : Inside) (g : GraphOf) (v : ℕ) (x : Vertex) (ss : Slots) → graph_of a ≡ g → IsArena a → v < n_of g → x ≡ get_or a.vertices.items v x → ss ≡ a.slots.items → IsLinked ss x.first
+linked_at a g v x ss same arena h read is =
+    let o = opened a g same arena in
+    subst (λ s. IsLinked s x.first) (sym is)
+    (subst (λ y. IsLinked a.slots.items y.first) (sym read) (linked_first a.vertices.items a.slots.items g v x o.shows o.graph h))
+
+pub within_made : (a : Inside) (g : GraphOf) (v : ℕ) (x : Vertex) (ss : Slots) (ks : List ℕ) → graph_of a ≡ g → IsArena a → v < n_of g → x ≡ get_or a.vertices.items v x → ss ≡ a.slots.items → ks ≡ numbers ss x.first → All (λ k. k < made_of g) ks
+within_made a g v x ss ks same arena h read is are =
+    let o = opened a g same arena in
+    let l = linked_at a g v x ss same arena h read is in
+    subst (λ js. All (λ k. k < made_of g) js) (sym are) (λ i d low. omega (arith, l.within i d low, ap length is, o.shows.made))
