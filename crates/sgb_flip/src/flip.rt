@@ -75,7 +75,8 @@ impl Flip {
         ensures value { result ≡ self.now.words }
         ensures generator { IsGenerator self.now }
     {
-        self.words
+        let Flip { words, .. } = self;
+        *words
     }
 
     /// How many words are unread, at most 54. They are drawn from the last of them down to the first.
@@ -83,7 +84,8 @@ impl Flip {
         ensures value { result ≡ self.now.unread }
         ensures generator { IsGenerator self.now }
     {
-        self.unread
+        let Flip { unread, .. } = self;
+        *unread
     }
 
     /// Draws one number below 2^31 (`gb_next_rand`).
