@@ -47,7 +47,7 @@ linked_first vs ss g v d shows sound h =
     }
 
 -- fields that show a sound graph are an arena whose view is that graph
-abbrev any_vertex : Vertex
+abbrev pub any_vertex : Vertex
 any_vertex = record { label = []; fields = []; first = None }
 
 pub closed_vertices : (vs : List Vertex) (ss : Slots) (g : GraphOf) → Shows vs ss g → IsGraph g → map (vertex_of ss) vs ≡ g.vertices

@@ -1,12 +1,12 @@
 -- The arena of arcs: how its fields show a graph.
-use Rattle.std.specs.Prelude.{◌≡◌, ◌<◌, ℕ, List, map, length, Option, Some, None, IfSome, All, slice_index_or}
+use Rattle.std.specs.Prelude.{◌≡◌, ◌<◌, ℕ, List, [], map, length, Option, Some, None, IfSome, All, slice_index_or}
 use Rattle.sgb_graph.specs.declared.field.VertexNo.{VertexNo}
 use Rattle.sgb_graph.specs.declared.field.ArcNo.{ArcNo}
 use Rattle.sgb_graph.specs.declared.graph.Vertex.{Vertex}
 use Rattle.sgb_graph.specs.declared.graph.Slot.{Slot}
 use Rattle.sgb_graph.specs.declared.graph.Graph.TheInside.{Inside}
 use Rattle.sgb_graph.specs.Chain.{Leads, chain}
-use Rattle.sgb_graph.specs.Graph.{GraphOf, VertexOf, ArcOf, n_of, made_of, m_of, vertex_at, arcs_of, arc_at, occurrences, names_of, IsGraph}
+use Rattle.sgb_graph.specs.Graph.{GraphOf, VertexOf, ArcOf, n_of, made_of, m_of, vertex_at, arcs_of, arc_at, occurrences, names_of, IsGraph, IsVertex}
 
 abbrev pub Slots : Type 0
 Slots = List (Option Slot)
@@ -83,3 +83,11 @@ arc_no k = record { 0 = k }
 -- what is left of an iterator over a list of arcs
 abbrev pub arc_numbers : List ℕ → List ArcNo
 arc_numbers = map arc_no
+
+-- a vertex that lists no arcs, and what it shows
+pub record IsBare (n : ℕ) (v : Vertex) : Type 0 where
+  pub first : v.first ≡ None
+  pub shown : IsVertex n [] (record { label = v.label; fields = v.fields; arcs = [] })
+
+abbrev pub bare_vertex : Vertex → VertexOf
+bare_vertex v = record { label = v.label; fields = v.fields; arcs = [] }

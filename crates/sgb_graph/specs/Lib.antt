@@ -1,4 +1,5 @@
 pub mod Arena
+pub mod Blank
 pub mod Builder
 pub mod Chain
 pub mod Delta

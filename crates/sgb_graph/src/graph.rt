@@ -1,20 +1,15 @@
 //! Graphs.
-ghost use Rattle.std.specs.Prelude.{◌≡◌, ◌<◌, ◌≤◌, ◌⊎◌, ◌≢◌, IfOk, IfErr, IfSome, IfNone, None, Some, map};
-ghost use Rattle.sgb_graph.specs.Graph.{IsGraph, IsId, n_of, m_of, made_of, label_of, arcs_of, arc_at, has_arc};
-ghost use Rattle.sgb_graph.specs.Text.{IsText};
-ghost use Rattle.sgb_graph.specs.Edit.{refusal_of_new};
-ghost use Rattle.sgb_graph.specs.New.{new_graph};
 
 mod arcs;
+mod new;
 mod read;
 
 pub use arcs::Arcs;
 pub use read::ArcView;
-use std::alloc::Global;
 use std::marker::Model;
 
 use crate::text::Label;
-use crate::{ArcNo, Refusal, Text, Tip, Types, Util, VertexNo};
+use crate::{ArcNo, Text, Tip, Types, Util, VertexNo};
 
 /// The most vertices that a graph has.
 pub const MOST_VERTICES: u32 = 65_535;

@@ -3,7 +3,7 @@ ghost use Rattle.std.specs.Prelude.{◌≡◌, IfOk, IfErr, ◌⊎◌, []};
 ghost use Rattle.std.specs.List.{list_all};
 ghost use Rattle.sgb_graph.specs.Text.{IsText, is_text_byte};
 
-use std::alloc::Global;
+use std::alloc::{AllocError, Global};
 use std::marker::Model;
 
 use crate::Refusal;
@@ -38,6 +38,16 @@ impl Text {
         let copy = Vec::from_slice(alloc, bytes)?;
         Ok(Text {
             bytes: Box::new(alloc, copy)?,
+        })
+    }
+
+    // The text of these bytes, which are one.
+    pub(crate) fn from_bytes(alloc: Global, bytes: Vec<u8>) -> Result<Text, AllocError>
+        requires { IsText bytes.items }
+        ensures { IfOk result (λ t. t ≡ bytes.items) }
+    {
+        Ok(Text {
+            bytes: Box::new(alloc, bytes)?,
         })
     }
 

@@ -43,7 +43,8 @@ impl Types {
 
     /// Fourteen times `Z`.
     pub fn none() -> Types
-        ensures { result ≡ replicate 14 90 }
+        ensures value { result ≡ replicate 14 90 }
+        ensures types { IsTypes result }
     {
         Types { letters: [b'Z'; 14] }
     }

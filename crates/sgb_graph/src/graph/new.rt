@@ -1,0 +1,90 @@
+//! Graphs without arcs.
+ghost use Rattle.std.specs.Prelude.{◌≡◌, ◌≤◌, ◌⊎◌, [], ◌∷◌, map, replicate, length, vec_len, All, IfOk, IfErr, None, Some};
+ghost use Rattle.sgb_graph.specs.declared.field.Util.TheVariants.{Zero};
+ghost use Rattle.sgb_graph.specs.Graph.{IsGraph, IsId};
+ghost use Rattle.sgb_graph.specs.Types.{IsTypes};
+ghost use Rattle.sgb_graph.specs.Edit.{refusal_of_new};
+ghost use Rattle.sgb_graph.specs.New.{new_graph, new_id, bare_graph, six_zeros};
+ghost use Rattle.sgb_graph.specs.Arena.{IsBare, bare_vertex};
+ghost use Rattle.sgb_graph.specs.Blank.{blank};
+
+use std::alloc::{AllocError, Global};
+
+use super::{Graph, MOST_VERTICES, Vertex};
+use crate::{Label, Refusal, Text, Types, Util};
+
+impl Graph {
+    /// A graph of `n` vertices with empty labels, without arcs, with the id `gb_new_graph(n)` and all letters `Z`.
+    /// (Knuth's `gb_new_graph`.) Refused `TooLarge` above 65,535 vertices.
+    pub fn new(alloc: Global, n: u32) -> Result<Graph, Refusal>
+        ensures ok { IfOk result (λ g. (refusal_of_new n ≡ None) × (g ≡ new_graph n) × IsGraph g) }
+        ensures err { IfErr result (λ e. (e ≡ Refusal.NoRoom) ⊎ (refusal_of_new n ≡ Some e)) }
+    {
+        if n > MOST_VERTICES {
+            return Err(Refusal::TooLarge);
+        }
+        let id = new_id(alloc, n)?;
+        let vertices = blank_vertices(alloc, n)?;
+        Ok(bare_graph(alloc, id, Types::none(), vertices))
+    }
+}
+
+// The graph of these vertices, without arcs.
+pub(super) fn bare_graph(alloc: Global, id: Text, types: Types, vertices: Vec<Vertex>) -> Graph
+    requires few { length vertices.items ≤ 65535 }
+    requires id { IsId id }
+    requires types { IsTypes types }
+    requires bare { All (IsBare (length vertices.items)) vertices.items }
+    ensures value { result ≡ bare_graph id types (map bare_vertex vertices.items) }
+    ensures graph { IsGraph result }
+{
+    Graph {
+        id,
+        types,
+        fields: six_zeros(),
+        vertices,
+        slots: Vec::new(alloc),
+        live: 0,
+    }
+}
+
+pub(super) fn six_zeros() -> [Util; 6]
+    ensures { result ≡ six_zeros }
+{
+    [
+        Util::Zero,
+        Util::Zero,
+        Util::Zero,
+        Util::Zero,
+        Util::Zero,
+        Util::Zero,
+    ]
+}
+
+fn blank() -> Vertex
+    ensures { result ≡ blank }
+{
+    Vertex {
+        label: Label::empty(),
+        fields: six_zeros(),
+        first: None,
+    }
+}
+
+fn blank_vertices(alloc: Global, n: u32) -> Result<Vec<Vertex>, AllocError>
+    ensures { IfOk result (λ v. v.items ≡ replicate n blank) }
+{
+    let mut vertices = Vec::with_capacity(alloc, n as usize)?;
+    for _i in 0..n {
+        vertices.push(blank())?;
+    }
+    Ok(vertices)
+}
+
+fn new_id(alloc: Global, n: u32) -> Result<Text, AllocError>
+    requires { n ≤ 65535 }
+    ensures { IfOk result (λ t. (t ≡ new_id n) × IsId t) }
+{
+    let id = format!(in alloc; "gb_new_graph({n})")?;
+    Text::from_bytes(alloc, id.into_bytes())
+}
