@@ -171,6 +171,11 @@ module _ {M C D R F : Type 0} {step : M → C → Outcome M D R F} {before : M �
       let third = subst (λ xs. IsJournal step before (history before n' xs ds k)) (sym commands) second in
       subst (λ xs. IsJournal step before (history before n' cs' xs k)) (sym deltas) third
 
+-- the commands after a new one: the old ones are kept by another name, cut, and it goes last
+pub commands-apply : {C : Type 0} (cs same cut : List C) (k n : ℕ) (c : C) (cs' : List C) → same ≡ cs → n ≡ k → cut ≡ take n same → cs' ≡ cut ++ c ∷ [] → cs' ≡ take k cs ++ c ∷ []
+commands-apply cs same cut k n c cs' kept count front pushed =
+    pushed ∙ ap (λ xs. xs ++ c ∷ []) (front ∙ ap (λ j. take j same) count ∙ ap (take k) kept)
+
 at_place : {C : Type 0} (cs : List C) (k : ℕ) (c : C) → k < length cs → get_or cs k c ≡ c → drop k cs ≡ c ∷ drop (k + 1) cs
 at_place cs k c below at = drop_more cs k c below ∙ ap (λ x. x ∷ drop (k + 1) cs) at
 

@@ -2,3 +2,4 @@ pub mod Outcome
 pub mod Replay
 pub mod History
 pub mod Kept
+pub mod Events

@@ -1,5 +1,5 @@
 use Rattle.std.proofs.Common.{◌≡◌, ◌<◌, [], ◌∷◌, ◌++◌, refl, sym, ap, ◌∙◌, arith, rules, length, take, vec_len, vec_capacity}
-use Rattle.sgb_undo.proofs.Keeping.{Answers, IsJournal-seen, IsJournal-same, length-deltas, length-standing, IsSound-apply, Applies-sound}
+use Rattle.sgb_undo.proofs.Keeping.{Answers, commands-apply, IsJournal-seen, IsJournal-same, length-deltas, length-standing, IsSound-apply, Applies-sound}
 use Rattle.sgb_undo.specs.declared.journal.TheConstants.{MOST_COMMANDS}
 use Rattle.sgb_undo.proofs.journal.Journal.apply.Given.{Over}
 use Rattle.sgb_undo.proofs.journal.Journal.apply.Goals as goal
@@ -17,8 +17,7 @@ answer g c = record {
 -- the commands and the deltas in the end
 commands : (g : Over) (c : After-push_reserved-in-Ok g) → c.push_reserved.new.self.items ≡ take (vec_len c.self.inside.deltas) c.self.inside.commands.items ++ c.args.command ∷ []
 commands g c =
-    let kept = ap (λ k. take k c.make_place.new.commands.items) c.len-standing.ensures ∙ ap (take (vec_len c.self.inside.deltas)) c.make_place.ensures.commands in
-    c.push_reserved.ensures.items ∙ ap (λ cs. cs ++ c.args.command ∷ []) (c.truncate.ensures.items ∙ kept)
+    commands-apply c.self.inside.commands.items _ _ (vec_len c.self.inside.deltas) _ c.args.command _ c.make_place.ensures.commands c.len-standing.ensures c.truncate.ensures.items c.push_reserved.ensures.items
 
 deltas : (g : Over) (c : After-push_reserved-in-Ok g) → c.push_reserved-in-Ok.new.self.items ≡ c.self.inside.deltas.items ++ c.in-Ok.delta ∷ []
 deltas g c =
