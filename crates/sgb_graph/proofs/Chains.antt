@@ -5,7 +5,7 @@ use Rattle.std.proofs.lemmas.List.Sums.{sum_by-cons}
 use Rattle.sgb_graph.specs.declared.field.ArcNo.{ArcNo}
 use Rattle.sgb_graph.specs.Graph.{occurrences}
 use Rattle.sgb_graph.specs.Chain.{Leads, chain}
-use Rattle.sgb_graph.specs.Arena.{Slots, next_at, numbers, IsLinked, arc_no, arc_numbers}
+use Rattle.sgb_graph.specs.Arena.{Slots, next_at, numbers, IsLinked}
 
 
 -- links that lead along a list give that list
@@ -64,7 +64,7 @@ pub record Gives (ss : Slots) (link : Option ArcNo) (now : List ℕ) (k : ArcNo)
   pub steps : now ≡ k.0 ∷ numbers ss link
   pub linked : IsLinked ss link
   pub within : k.0 < length ss
-  pub shorter : length (arc_numbers (numbers ss link)) < length (arc_numbers now)
+  pub shorter : length (numbers ss link) < length now
 
 pub gives_next : (ss : Slots) (link : Option ArcNo) (now : List ℕ) (k : ArcNo) (after : Option ArcNo) → IsLinked ss link → link ≡ Some k → numbers ss link ≡ now → after ≡ next_at ss k.0 → Gives ss after now k
 gives_next ss link now k after linked is same follows =

@@ -17,7 +17,8 @@ use Rattle.sgb_graph.specs.Blank.{blank}
 use Rattle.sgb_graph.specs.Chain.{Leads}
 use Rattle.sgb_graph.specs.Arena.{Shows, ShowsVertex, IsBare, bare_vertex, next_at}
 use Rattle.sgb_graph.proofs.Counts.{sum_zero}
-use Rattle.sgb_graph.proofs.Shows.{Opened, any_vertex}
+use Rattle.sgb_graph.proofs.Shows.{Opened}
+use Rattle.sgb_graph.specs.Link.{any_vertex}
 
 -- digits are bytes of a text
 digit_byte : (n : ℕ) → n < 10 → IsTrue (is_text_byte (48 + n))

@@ -14,7 +14,7 @@ use Rattle.sgb_graph.specs.Graph.{GraphOf, VertexOf, ArcOf, IsGraph, IsArc, n_of
 use Rattle.sgb_graph.specs.Edit.{owner_of, place_of}
 use Rattle.sgb_graph.specs.Chain.{Leads, chain}
 use Rattle.sgb_graph.specs.Arena.{Slots, Shows, ShowsVertex, IsLinked, IsArena, slot_at, next_at, entry_of, owner_in, numbers, vertex_of, graph_of}
-use Rattle.sgb_graph.proofs.Counts.{occurs_at}
+use Rattle.sgb_graph.specs.Link.{any_vertex}
 use Rattle.sgb_graph.proofs.Graphs.{Listed, listed_live, owner_is, arcs_live, few_arcs_of, same_vertex, same_graph, made_of_live}
 use Rattle.sgb_graph.proofs.Chains.{chain_is, length-chain}
 
@@ -47,9 +47,6 @@ linked_first vs ss g v d shows sound h =
     }
 
 -- fields that show a sound graph are an arena whose view is that graph
-abbrev pub any_vertex : Vertex
-any_vertex = record { label = []; fields = []; first = None }
-
 pub closed_vertices : (vs : List Vertex) (ss : Slots) (g : GraphOf) → Shows vs ss g → IsGraph g → map (vertex_of ss) vs ≡ g.vertices
 closed_vertices vs ss g shows sound =
     same_lists (map (vertex_of ss) vs) g.vertices (length-map vs (vertex_of ss) ∙ shows.n)

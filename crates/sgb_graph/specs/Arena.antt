@@ -80,10 +80,6 @@ pub record IsArena (a : Inside) : Type 0 where
 abbrev pub arc_no : ℕ → ArcNo
 arc_no k = record { 0 = k }
 
--- what is left of an iterator over a list of arcs
-abbrev pub arc_numbers : List ℕ → List ArcNo
-arc_numbers = map arc_no
-
 -- a vertex that lists no arcs, and what it shows
 pub record IsBare (n : ℕ) (v : Vertex) : Type 0 where
   pub first : v.first ≡ None

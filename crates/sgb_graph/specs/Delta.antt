@@ -11,11 +11,7 @@ use Rattle.sgb_graph.specs.declared.delta.GraphDelta.TheVariants.{NewArc, NewEdg
 use Rattle.sgb_graph.specs.Text.{IsText}
 use Rattle.sgb_graph.specs.Types.{IsTypes}
 use Rattle.sgb_graph.specs.Graph.{GraphOf, ArcOf, IsGraph, made_of, label_of}
-use Rattle.sgb_graph.specs.Edit.{with_arc, with_edge, without_arc, with_cut_arc, with_len, with_util, with_label, util_at, entry_at, owner_of, place_of, stored, refusal_of_arc, refusal_of_edge, refusal_of_cut, refusal_of_len, refusal_of_util, refusal_of_label, refusal_of_id}
-
--- the arc that a cut took away
-abbrev pub arc_of : CutArc → ArcOf
-arc_of c = record { tip = c.tip; len = c.len; fields = c.fields }
+use Rattle.sgb_graph.specs.Edit.{with_arc, with_edge, without_arc, with_len, with_util, with_label, util_at, entry_at, owner_of, place_of, stored, refusal_of_arc, refusal_of_edge, refusal_of_cut, refusal_of_len, refusal_of_util, refusal_of_label, refusal_of_id}
 
 -- what a cut of arc k keeps: its number, its owner, its place and the arc
 abbrev pub cut_arc : GraphOf → ℕ → CutArc

@@ -10,6 +10,7 @@ use Rattle.sgb_graph.specs.declared.field.Util.{Util}
 use Rattle.sgb_graph.specs.declared.field.Util.TheVariants.{Zero, Int, Vertex, Arc, Text}
 use Rattle.sgb_graph.specs.declared.field.Place.{Place}
 use Rattle.sgb_graph.specs.declared.field.Place.TheVariants as places
+use Rattle.sgb_graph.specs.declared.delta.CutArc.{CutArc}
 use Rattle.sgb_graph.specs.declared.refusal.Refusal.{Refusal}
 use Rattle.sgb_graph.specs.declared.refusal.Refusal.TheVariants.{TooLarge, BadOperand}
 use Rattle.sgb_graph.specs.Field.{vertex_place, arc_place, graph_place}
@@ -65,9 +66,13 @@ place_of g k = position_or_len (λ j. j == k) (arcs_of g (owner_of g k))
 unfoldable pub without_arc : GraphOf → ℕ → GraphOf
 without_arc g k = with_entry (without_listed g (owner_of g k) (place_of g k)) k None
 
+-- the arc that a cut took away
+abbrev pub arc_of : CutArc → ArcOf
+arc_of c = record { tip = c.tip; len = c.len; fields = c.fields }
+
 -- the arc stands again under its number, at its place in its owner's list
-unfoldable pub with_cut_arc : GraphOf → ℕ → ℕ → ℕ → ArcOf → GraphOf
-with_cut_arc g k owner place e = with_entry (with_listed g owner place k) k (Some e)
+unfoldable pub with_cut_arc : GraphOf → CutArc → GraphOf
+with_cut_arc g c = with_entry (with_listed g c.owner.0 c.place c.number.0) c.number.0 (Some (arc_of c))
 
 -- a hole gives nothing
 abbrev pub arc_or : ArcOf → Option ArcOf → ArcOf

@@ -1,6 +1,7 @@
 //! Graphs.
 
 mod arcs;
+mod link;
 mod new;
 mod read;
 

@@ -40,14 +40,13 @@ impl<'a> Arcs<'a> {
 }
 
 impl<'a> Iterator for Arcs<'a> {
-    ghost use Rattle.std.specs.Iterator.{YieldsFirst, item_count};
-    ghost use Rattle.sgb_graph.specs.Arena.{arc_numbers};
+    ghost use Rattle.std.specs.Iterator.{YieldsFirstBy, item_count};
 
     type Item = ArcNo;
 
-    ghost next_gives = { YieldsFirst arc_numbers };
+    ghost next_gives = { YieldsFirstBy (λ k. k.0) (λ ks. ks) };
 
-    ghost remaining = { item_count arc_numbers };
+    ghost remaining = { item_count (λ ks. ks) };
 
     #[inline]
     fn next(&mut self) -> Option<ArcNo> {

@@ -1,5 +1,4 @@
-use Rattle.std.proofs.Common.{rules, arith, ap, refl}
-use Rattle.sgb_graph.specs.Arena.{arc_numbers}
+use Rattle.std.proofs.Common.{rules, arith, refl}
 use Rattle.sgb_graph.proofs.Chains.{gives_next, gives_none, Gives}
 use Rattle.sgb_graph.proofs.graph.arcs.ArcsIterator.next.Goals as goal
 
@@ -13,7 +12,7 @@ invariant_of-self c =
 
 pub returns-in-Some-clause-steps : goal.returns-in-Some-clause-steps
 returns-in-Some-clause-steps c =
-    ap arc_numbers (gives_next c.self.inside.slots.now c.self.inside.next _ c.in-Some.number _ c.self.invariant c.in-Some.is c.self.view_is c.next_after-self-inside.ensures).steps
+    (gives_next c.self.inside.slots.now c.self.inside.next _ c.in-Some.number _ c.self.invariant c.in-Some.is c.self.view_is c.next_after-self-inside.ensures).steps
 
 pub returns-in-Some-clause-goes : goal.returns-in-Some-clause-goes
 returns-in-Some-clause-goes c =
@@ -25,4 +24,4 @@ returns-in-Some-clause-goes c =
 pub returns-in-None-clause-steps : goal.returns-in-None-clause-steps
 returns-in-None-clause-steps c =
     let none = gives_none c.self.inside.slots.now c.self.inside.next _ c.in-None.is c.self.view_is in
-    (ap arc_numbers none, ap arc_numbers none)
+    (none, none)
