@@ -9,4 +9,4 @@ mod seeding;
 mod tests;
 
 pub use flip::{Drawn, Flip};
-pub use laws::{draws_law, seeding_law, sequence_law};
+pub use laws::{draws_law, seeding_law, sequence_law, uniform_law};

@@ -1,5 +1,5 @@
 // Knuth's published numbers, the states at the ends of a batch, and one call of each public function.
-use crate::{Drawn, Flip, draws_law, seeding_law, sequence_law};
+use crate::{Drawn, Flip, draws_law, seeding_law, sequence_law, uniform_law};
 
 // The numbers that the program of the book prints to show that it was carried over well.
 #[test]
@@ -150,4 +150,5 @@ fn laws() {
     sequence_law();
     seeding_law();
     draws_law();
+    uniform_law();
 }
