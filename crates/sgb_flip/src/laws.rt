@@ -31,7 +31,8 @@ pub fn seeding_law()
 pub fn draws_law()
     ensures none { (w : Generator) → IsGenerator w → after w 0 ≡ w }
     ensures more { (w : Generator) (i j : ℕ) → after (after w i) j ≡ after w (i + j) }
-    ensures number { (w : Generator) (i j : ℕ) → IsGenerator w → drawn (after w i) j ≡ drawn w (i + j) }
+    ensures number { (w : Generator) (i j : ℕ) → IsGenerator w →
+        drawn (after w i) j ≡ drawn w (i + j) }
     ensures read { (w : Generator) → IsGenerator w → 0 < w.unread →
         (drawn w 0 ≡ slice_index w.words (w.unread - 1))
         × (after w 1 ≡ record w { unread = w.unread - 1 }) }
@@ -39,15 +40,18 @@ pub fn draws_law()
         (drawn w 0 ≡ slice_index (terms_after w.words 55) 54)
         × (after w 1 ≡ record { words = terms_after w.words 55; unread = 54 }) }
     // So `back` after `next` changes nothing; `next` after `back` does not by the clause `before`.
-    ensures only { (v w : Generator) (n : ℕ) → IsGenerator v → IsGenerator w → after v n ≡ after w n → v ≡ w }
+    ensures only { (v w : Generator) (n : ℕ) → IsGenerator v → IsGenerator w →
+        after v n ≡ after w n → v ≡ w }
 {}
 
 /// From each generator and for each bound there is a uniform number within 1,814 draws. The function
 /// `uniform` tells it, and the relation `IsUniform` has no other.
 pub fn uniform_law()
-    ensures some { (w : Generator) (m : ℕ) → IsGenerator w → 1 ≤ m → m ≤ 2 ^ 31 → ¬ HasNoUniform w m }
+    ensures some { (w : Generator) (m : ℕ) → IsGenerator w → 1 ≤ m → m ≤ 2 ^ 31 →
+        ¬ HasNoUniform w m }
     ensures holds { (w : Generator) (m : ℕ) → IsGenerator w → 1 ≤ m → m ≤ 2 ^ 31 →
         IsUniform w m (uniform w m).value (uniform w m).draws (uniform w m).rest }
-    ensures only { (w : Generator) (m value draws : ℕ) (rest : Generator) → IsUniform w m value draws rest →
+    ensures only { (w : Generator) (m value draws : ℕ) (rest : Generator) →
+        IsUniform w m value draws rest →
         record { value = value; draws = draws; rest = rest } ≡ uniform w m }
 {}
