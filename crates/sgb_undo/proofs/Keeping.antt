@@ -5,7 +5,6 @@ use Rattle.sgb_undo.specs.Outcome.{Outcome, Accepted, Refused, on_accepted}
 use Rattle.sgb_undo.specs.Replay.{fold, deltas_of, start_of}
 use Rattle.sgb_undo.specs.History.{History, IsJournal, Applies, Undoes, Redoes}
 use Rattle.sgb_undo.specs.Kept.{LedTo, IsKept, IsSound, history}
-use Rattle.sgb_undo.specs.declared.journal.TheConstants.{MOST_COMMANDS}
 
 -- one more delta at the end leads back first
 pub start_of-push : {M D : Type 0} (before : M → D → M) (n : M) (d : D) (ds : List D) → start_of before n (ds ++ d ∷ []) ≡ start_of before (before n d) ds
@@ -146,7 +145,7 @@ module _ {M C D R F : Type 0} (step : M → C → Outcome M D R F) (before : M �
       }
 
   -- what is kept tells a sound history
-  pub IsJournal-sound : (n : M) (cs : List C) (ds : List D) (places k : ℕ) → IsSound step before can_revert n cs ds MOST_COMMANDS places → k ≡ length ds → IsJournal step before (history before n cs ds k)
+  pub IsJournal-sound : (n : M) (cs : List C) (ds : List D) (places k : ℕ) → IsSound step before can_revert n cs ds 65535 places → k ≡ length ds → IsJournal step before (history before n cs ds k)
   IsJournal-sound n cs ds places k s e =
       subst (λ j. IsJournal step before (history before n cs ds j)) (sym e)
       (record {
@@ -159,12 +158,12 @@ module _ {M C D R F : Type 0} (step : M → C → Outcome M D R F) (before : M �
 
 module _ {M C D R F : Type 0} {step : M → C → Outcome M D R F} {before : M → D → M} {can_revert : M → D → Type 0} {n : M} {cs : List C} {ds : List D} {places : ℕ} where
   -- the same of the value by which contracts know it
-  pub IsJournal-seen : {k : ℕ} {h : History M C D} → IsSound step before can_revert n cs ds MOST_COMMANDS places → k ≡ length ds → history before n cs ds k ≡ h → IsJournal step before h
+  pub IsJournal-seen : {k : ℕ} {h : History M C D} → IsSound step before can_revert n cs ds 65535 places → k ≡ length ds → history before n cs ds k ≡ h → IsJournal step before h
   IsJournal-seen s count seen =
       subst (λ h. IsJournal step before h) seen (IsJournal-sound step before can_revert _ _ _ _ _ s count)
 
   -- the same where nothing has changed
-  pub IsJournal-same : {n' : M} {cs' : List C} {ds' : List D} {k : ℕ} → IsSound step before can_revert n cs ds MOST_COMMANDS places → n' ≡ n → cs' ≡ cs → ds' ≡ ds → k ≡ length ds' → IsJournal step before (history before n' cs' ds' k)
+  pub IsJournal-same : {n' : M} {cs' : List C} {ds' : List D} {k : ℕ} → IsSound step before can_revert n cs ds 65535 places → n' ≡ n → cs' ≡ cs → ds' ≡ ds → k ≡ length ds' → IsJournal step before (history before n' cs' ds' k)
   IsJournal-same {n' = n'} {cs' = cs'} {k = k} s machine commands deltas count =
       let first = IsJournal-sound step before can_revert n cs ds _ _ s (count ∙ ap length deltas) in
       let second = subst (λ m. IsJournal step before (history before m cs ds k)) (sym machine) first in

@@ -1,6 +1,5 @@
 -- What a contract sees of a journal, and what its calls do to it.
 use Rattle.std.specs.Prelude.{◌≡◌, ◌+◌, ◌≤◌, List, [], ◌∷◌, ◌++◌, length, Some, IsSome}
-use Rattle.sgb_undo.specs.declared.journal.TheConstants.{MOST_COMMANDS}
 use Rattle.sgb_undo.specs.Outcome.{Outcome, Accepted}
 use Rattle.sgb_undo.specs.Replay.{fold, deltas_of, start_of}
 
@@ -25,7 +24,7 @@ module _ {M C D R F : Type 0} (step : M → C → Outcome M D R F) (before : M �
     pub deltas : deltas_of step h.start h.standing ≡ h.deltas
     pub back : start_of before h.machine h.deltas ≡ h.start
     pub undone : IsSome (fold step h.machine h.undone)
-    pub limit : length h.standing + length h.undone ≤ MOST_COMMANDS
+    pub limit : length h.standing + length h.undone ≤ 65535
 
   -- the command is accepted and stands last, its delta is kept, and nothing is undone any more
   pub record Applies (old : History M C D) (command : C) (reply : R) (new : History M C D) : Type 0 where

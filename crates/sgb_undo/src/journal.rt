@@ -25,14 +25,13 @@ impl<M: Reversible> Model for Journal<M> {
     ghost use Rattle.std.specs.Prelude.{vec_len, vec_capacity};
     ghost use Rattle.sgb_undo.specs.History.{History};
     ghost use Rattle.sgb_undo.specs.Kept.{history, IsSound};
-    ghost use Rattle.sgb_undo.specs.declared.journal.TheConstants.{MOST_COMMANDS};
 
     ghost Value = { History M M.Command M.Delta };
 
     ghost view = { λ j. history M.before j.machine j.commands.items j.deltas.items (vec_len j.deltas) };
 
     ghost invariant = { λ j. IsSound M.step M.before M.can_revert
-        j.machine j.commands.items j.deltas.items MOST_COMMANDS (vec_capacity j.deltas) };
+        j.machine j.commands.items j.deltas.items 65535 (vec_capacity j.deltas) };
 }
 
 impl<M: Reversible> Journal<M> {
@@ -58,7 +57,7 @@ impl<M: Reversible> Journal<M> {
         ensures ok { IfOk result (λ reply. Applies M.step M.before self.old command reply self.new) }
 
         ensures no_room { IsErrOf result JournalRefusal.NoRoom → self.old.undone ≡ [] }
-        ensures full { IsErrOf result JournalRefusal.Full ↔ (length self.old.standing ≡ MOST_COMMANDS) }
+        ensures full { IsErrOf result JournalRefusal.Full ↔ (length self.old.standing ≡ 65535) }
         ensures nothing { IsErrOf result JournalRefusal.NothingToRedo → ⊥ }
         ensures refused { (r : M.Refusal) → IsErrOf result (JournalRefusal.Machine r)
             → (M.is_want_of_memory r ≡ true) ⊎ (M.step self.old.machine command ≡ Refused r) }
@@ -115,16 +114,16 @@ impl<M: Reversible> Journal<M> {
         ensures err { OnErr result (self.new ≡ self.old) }
         ensures sound { IsJournal M.step M.before self.new }
     {
-        let standing = self.deltas.len();
-        if standing == self.commands.len() {
+        let next = self.deltas.len();
+        if next == self.commands.len() {
             return Err(JournalRefusal::NothingToRedo);
         }
-        match self.machine.apply(&self.commands[standing]) {
+        match self.machine.apply(&self.commands[next]) {
             Ok((delta, reply)) => {
                 self.deltas.push_reserved(delta);
                 Ok(reply)
             }
-            Err(refusal) => Err(JournalRefusal::Machine(refusal)),
+            Err(want) => Err(JournalRefusal::Machine(want)),
         }
     }
 

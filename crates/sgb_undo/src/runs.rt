@@ -6,7 +6,7 @@ ghost use Rattle.sgb_undo.specs.Outcome.{Accepted, Refused};
 ghost use Rattle.sgb_undo.specs.History.{IsJournal};
 ghost use Rattle.sgb_undo.specs.Events.{lists_of, after, after_all, accepted_of, MayBeRefused, AreRefusedRightly};
 
-use crate::{Journal, JournalRefusal, MOST_COMMANDS, Reversible};
+use crate::{Journal, JournalRefusal, Reversible};
 use std::alloc::{AllocError, Global};
 
 /// What is asked of a journal.
@@ -70,7 +70,7 @@ pub fn apply_and_undo<M: Reversible>(
         × (M.step journal.old.machine command ≡ Accepted next delta reply)) }
 
     ensures no_room { IsErrOf result JournalRefusal.NoRoom → journal.old.undone ≡ [] }
-    ensures full { IsErrOf result JournalRefusal.Full ↔ (length journal.old.standing ≡ MOST_COMMANDS) }
+    ensures full { IsErrOf result JournalRefusal.Full ↔ (length journal.old.standing ≡ 65535) }
     ensures nothing { IsErrOf result JournalRefusal.NothingToRedo → ⊥ }
     ensures refused { (r : M.Refusal) → IsErrOf result (JournalRefusal.Machine r)
         → (M.is_want_of_memory r ≡ true) ⊎ (M.step journal.old.machine command ≡ Refused r) }

@@ -1,6 +1,5 @@
 use Rattle.std.proofs.Common.{◌≡◌, ◌<◌, [], ◌∷◌, ◌++◌, refl, sym, ap, ◌∙◌, arith, rules, length, take, vec_len, vec_capacity}
 use Rattle.sgb_undo.proofs.Keeping.{Answers, commands-apply, IsJournal-seen, IsJournal-same, length-deltas, length-standing, IsSound-apply, Applies-sound}
-use Rattle.sgb_undo.specs.declared.journal.TheConstants.{MOST_COMMANDS}
 use Rattle.sgb_undo.proofs.journal.Journal.apply.Given.{Over}
 use Rattle.sgb_undo.proofs.journal.Journal.apply.Goals as goal
 use Rattle.sgb_undo.proofs.journal.Journal.apply.Goals.{After-push_reserved-in-Ok}
@@ -44,7 +43,7 @@ returns-then-is_err-clause-sound g c =
 pub invariant_of-self-in-Ok : goal.invariant_of-self-in-Ok
 invariant_of-self-in-Ok g c =
     let held = length-deltas c.self.invariant in
-    let room : vec_len c.self.inside.deltas < MOST_COMMANDS = omega (arith, c.self.inside.deltas.ok.0, c.self.invariant.limited) in
+    let room : vec_len c.self.inside.deltas < 65535 = omega (arith, c.self.inside.deltas.ok.0, c.self.invariant.limited) in
     let placed : vec_len c.make_place.new.deltas < vec_capacity c.make_place.new.deltas = search rules in
     let same = ap length c.make_place.ensures.deltas in
     let place : vec_len c.self.inside.deltas < vec_capacity c.push_reserved-in-Ok.new.self = omega (arith, c.make_place.new.deltas.ok.0, c.self.inside.deltas.ok.0, c.push_reserved-in-Ok.ensures.capacity) in

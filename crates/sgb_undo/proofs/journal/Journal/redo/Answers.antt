@@ -21,7 +21,7 @@ below g c =
 
 waits : (g : Over) (c : After-push_reserved g) → get_or c.self.inside.commands.items (vec_len c.self.inside.deltas) c.index.result.now ≡ c.index.result.now
 waits g c =
-    ap (λ k. get_or c.self.inside.commands.items k c.index.result.now) (sym c.len-standing.ensures)
+    ap (λ k. get_or c.self.inside.commands.items k c.index.result.now) (sym c.len-next.ensures)
     ∙ sym c.index.ensures
 
 below_refused : (g : Over) (c : In-Err g) → vec_len c.self.inside.deltas < length c.self.inside.commands.items
@@ -31,11 +31,11 @@ below_refused g c =
 
 waits_refused : (g : Over) (c : In-Err g) → get_or c.self.inside.commands.items (vec_len c.self.inside.deltas) c.index.result.now ≡ c.index.result.now
 waits_refused g c =
-    ap (λ k. get_or c.self.inside.commands.items k c.index.result.now) (sym c.len-standing.ensures)
+    ap (λ k. get_or c.self.inside.commands.items k c.index.result.now) (sym c.len-next.ensures)
     ∙ sym c.index.ensures
 
-pub returns-then-standing-len-clause-sound : goal.returns-then-standing-len-clause-sound
-returns-then-standing-len-clause-sound g c = IsJournal-seen c.self.invariant c.self.inside.deltas.ok.0 c.self.view_is
+pub returns-then-next-len-clause-sound : goal.returns-then-next-len-clause-sound
+returns-then-next-len-clause-sound g c = IsJournal-seen c.self.invariant c.self.inside.deltas.ok.0 c.self.view_is
 
 pub index-requires : goal.index-requires
 index-requires g c =
@@ -68,7 +68,7 @@ returns-in-Err-clause-nothing g c =
 
 pub returns-in-Err-clause-refused : goal.returns-in-Err-clause-refused
 returns-in-Err-clause-refused g c = λ r e.
-    let same : c.in-Err.refusal ≡ r = cc in
+    let same : c.in-Err.want ≡ r = cc in
     elim c.in-Err.ensures.refused [
       | inl want ↦ ap g.M.Reversible.is_want_of_memory (sym same) ∙ want
       | inr refused ↦ absurd (undone-accepted c.self.invariant c.self.inside.deltas.ok.0 (below_refused g c) (waits_refused g c) refused)
