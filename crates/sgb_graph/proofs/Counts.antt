@@ -15,6 +15,9 @@ occurs_no k j ks other =
     let s : occurrences k (j ∷ ks) ≡ 0 + occurrences k ks = sum_by-cons (λ x. cond (x == k) 1 0) j ks ∙ ap (λ b. cond b 1 0 + occurrences k ks) (ne_eqb j k other) in
     omega arith
 
+pub occurs_more : (k j : ℕ) (ks : List ℕ) → occurrences k ks ≤ occurrences k (j ∷ ks)
+occurs_more k j ks = omega (arith, sum_by-cons (λ x. cond (x == k) 1 0) j ks)
+
 pub any_none : (k : ℕ) (ks : List ℕ) → occurrences k ks ≡ 0 → list_any (λ j. j == k) ks ≡ false
 any_none k [] h = refl
 any_none k (j ∷ ks) h =

@@ -2,4 +2,8 @@ pub mod Chains
 pub mod Counts
 pub mod Graphs
 pub mod NewLemmas
+pub mod PutBack
 pub mod Shows
+pub mod ShowsPut
+pub mod Slots
+pub mod Sound

@@ -32,13 +32,24 @@ opened a g same arena =
     subst (Opened a) same
     (record { graph = arena.graph; shows = arena.shows; live = arena.live; id = refl; types = refl; fields = refl })
 
+-- what the slots show apart from their counts of names
+pub record ShowsBut (vs : List Vertex) (ss : Slots) (g : GraphOf) : Type 0 where
+  pub n : length vs ≡ n_of g
+  pub vertices : (v : ℕ) (d : Vertex) → v < n_of g → ShowsVertex ss (get_or vs v d) (vertex_at g v)
+  pub made : length ss ≡ made_of g
+  pub entries : (k : ℕ) → entry_of (slot_at ss k) ≡ arc_at g k
+  pub owners : (k : ℕ) → IfSome (owner_in (slot_at ss k)) (λ v. occurrences k (arcs_of g v.0) ≡ 1)
+
+pub but_of : (vs : List Vertex) (ss : Slots) (g : GraphOf) → Shows vs ss g → ShowsBut vs ss g
+but_of vs ss g x = record { n = x.n; vertices = x.vertices; made = x.made; entries = x.entries; owners = x.owners }
+
 -- the links of a vertex give its arcs
-pub numbers_are : (vs : List Vertex) (ss : Slots) (g : GraphOf) (v : ℕ) (d : Vertex) → Shows vs ss g → IsGraph g → v < n_of g → numbers ss (get_or vs v d).first ≡ arcs_of g v
+pub numbers_are : (vs : List Vertex) (ss : Slots) (g : GraphOf) (v : ℕ) (d : Vertex) → ShowsBut vs ss g → IsGraph g → v < n_of g → numbers ss (get_or vs v d).first ≡ arcs_of g v
 numbers_are vs ss g v d shows sound h =
     chain_is (next_at ss) (get_or vs v d).first (arcs_of g v) (length ss) (shows.vertices v d h).arcs
     (omega (arith, few_arcs_of g v sound, shows.made))
 
-pub linked_first : (vs : List Vertex) (ss : Slots) (g : GraphOf) (v : ℕ) (d : Vertex) → Shows vs ss g → IsGraph g → v < n_of g → IsLinked ss (get_or vs v d).first
+pub linked_first : (vs : List Vertex) (ss : Slots) (g : GraphOf) (v : ℕ) (d : Vertex) → ShowsBut vs ss g → IsGraph g → v < n_of g → IsLinked ss (get_or vs v d).first
 linked_first vs ss g v d shows sound h =
     let same = numbers_are vs ss g v d shows sound h in
     record {
@@ -55,7 +66,7 @@ closed_vertices vs ss g shows sound =
       let low' : v < n_of g = omega (arith, shows.n) in
       let x = shows.vertices v any_vertex low' in
       get_or-map (vertex_of ss) vs v any_vertex d low
-      ∙ (same_vertex (vertex_of ss (get_or vs v any_vertex)) (vertex_at g v) x.label x.fields (numbers_are vs ss g v any_vertex shows sound low')
+      ∙ (same_vertex (vertex_of ss (get_or vs v any_vertex)) (vertex_at g v) x.label x.fields (numbers_are vs ss g v any_vertex (but_of vs ss g shows) sound low')
       ∙ get_or_default g.vertices v no_vertex d low'))
 
 pub closed_entries : (vs : List Vertex) (ss : Slots) (g : GraphOf) → Shows vs ss g → map entry_of ss ≡ g.entries
@@ -117,7 +128,7 @@ pub linked_at : (a : Inside) (g : GraphOf) (v : ℕ) (x : Vertex) (ss : Slots) �
 linked_at a g v x ss same arena h read is =
     let o = opened a g same arena in
     subst (λ s. IsLinked s x.first) (sym is)
-    (subst (λ y. IsLinked a.slots.items y.first) (sym read) (linked_first a.vertices.items a.slots.items g v x o.shows o.graph h))
+    (subst (λ y. IsLinked a.slots.items y.first) (sym read) (linked_first a.vertices.items a.slots.items g v x (but_of a.vertices.items a.slots.items g o.shows) o.graph h))
 
 pub within_made : (a : Inside) (g : GraphOf) (v : ℕ) (x : Vertex) (ss : Slots) (ks : List ℕ) → graph_of a ≡ g → IsArena a → v < n_of g → x ≡ get_or a.vertices.items v x → ss ≡ a.slots.items → ks ≡ numbers ss x.first → All (λ k. k < made_of g) ks
 within_made a g v x ss ks same arena h read is are =

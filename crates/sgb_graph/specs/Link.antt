@@ -66,6 +66,17 @@ slots_losing ss (Vertex v) = ss
 slots_losing ss (Arc a) = slice_set ss a.0 (named_less (slot_at ss a.0))
 slots_losing ss (Text t) = ss
 
+-- the value at this place of the fields
+abbrev pub value_at : List Util → ℕ → Util
+value_at us i = slice_index_or us i Zero
+
+-- both fields of an arc
+abbrev pub slots_gaining_both : Slots → List Util → Slots
+slots_gaining_both ss us = slots_gaining (slots_gaining ss (value_at us 0)) (value_at us 1)
+
+abbrev pub slots_losing_both : Slots → List Util → Slots
+slots_losing_both ss us = slots_losing (slots_losing ss (value_at us 0)) (value_at us 1)
+
 -- a value that names an arc names a slot, whose count is within these bounds
 abbrev pub IsCounted : Slots → ℕ → ℕ → Util → Type 0
 IsCounted ss low high Zero = Unit {0}

@@ -1,8 +1,9 @@
 //! Linking arcs into the lists of their owners, and out of them.
-ghost use Rattle.std.specs.Prelude.{◌≡◌, ◌<◌, ◌≤◌, ◌^◌, ◌-◌, length, IfSome, Some};
+ghost use Rattle.std.specs.Prelude.{◌≡◌, ◌<◌, ◌≤◌, ◌^◌, ◌-◌, ◌==◌, length, IfSome, Some};
+ghost use Rattle.std.specs.List.{position_or_len};
 ghost use Rattle.std.specs.Option.{ForSome};
 ghost use Rattle.sgb_graph.specs.Arena.{IsLinked, numbers, next_at};
-ghost use Rattle.sgb_graph.specs.Link.{number_before, link_after, vertices_relinked, slots_relinked, slots_gaining, slots_losing, IsCounted, PutsBack, CanBePutBack, TakesOut, CanBeTakenOut};
+ghost use Rattle.sgb_graph.specs.Link.{number_before, link_after, vertices_relinked, slots_relinked, slots_gaining, slots_losing, slots_gaining_both, slots_losing_both, value_at, IsCounted, PutsBack, CanBePutBack, TakesOut, CanBeTakenOut};
 
 use std::mem;
 
@@ -75,4 +76,64 @@ pub(super) fn lose_name(slots: &mut [Option<Slot>], value: &Util)
             slot.names -= 1;
         }
     }
+}
+
+fn gain_names(slots: &mut [Option<Slot>], fields: &[Util; 2])
+    requires first { IsCounted slots.old 0 (2 ^ 32 - 1) (value_at fields.now 0) }
+    requires second { IsCounted (slots_gaining slots.old (value_at fields.now 0)) 0 (2 ^ 32 - 1) (value_at fields.now 1) }
+    ensures { slots.new ≡ slots_gaining_both slots.old fields.now }
+{
+    gain_name(slots, &fields[0]);
+    gain_name(slots, &fields[1]);
+}
+
+fn lose_names(slots: &mut [Option<Slot>], fields: &[Util; 2])
+    requires first { IsCounted slots.old 1 (2 ^ 32) (value_at fields.now 0) }
+    requires second { IsCounted (slots_losing slots.old (value_at fields.now 0)) 1 (2 ^ 32) (value_at fields.now 1) }
+    ensures { slots.new ≡ slots_losing_both slots.old fields.now }
+{
+    lose_name(slots, &fields[0]);
+    lose_name(slots, &fields[1]);
+}
+
+// The place of the arc in a list, or the list's length where it does not stand there.
+fn place_in(slots: &[Option<Slot>], first: Option<ArcNo>, number: ArcNo) -> u32
+    requires linked { IsLinked slots.now first }
+    requires few { length slots.now ≤ 1000000 }
+    ensures { result ≡ position_or_len (λ j. j == number.0) (numbers slots.now first) }
+{
+    let mut place = 0;
+    for other in Arcs::new(slots, first) {
+        if other == number {
+            return place;
+        }
+        place += 1;
+    }
+    place
+}
+
+// Links the arc into its owner's list at its place. Its number is a hole.
+pub(super) fn put_back(vertices: &mut [Vertex], slots: &mut [Option<Slot>], cut: CutArc)
+    requires { CanBePutBack vertices.old slots.old cut }
+    ensures { PutsBack vertices.old slots.old cut vertices.new slots.new }
+{
+    let CutArc {
+        number,
+        owner,
+        place,
+        tip,
+        len,
+        fields,
+    } = cut;
+    gain_names(slots, &fields);
+    let before = number_before(slots, vertices[owner.0 as usize].first, place);
+    let next = replace_link(vertices, slots, owner, before, Some(number));
+    slots[number.0 as usize] = Some(Slot {
+        owner,
+        tip,
+        next,
+        names: 0,
+        len,
+        fields,
+    });
 }
