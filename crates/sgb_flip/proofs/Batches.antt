@@ -6,10 +6,6 @@ use Rattle.sgb_flip.specs.Run.{IsRun}
 use Rattle.sgb_flip.specs.Sequence.{difference, joined, term, terms_after}
 use Rattle.sgb_flip.proofs.Terms.{difference-joined, term-low, term-more, same-terms_after, terms_after-terms_after}
 
--- the words that a pass reads and does not write are apart from those that it writes
-abbrev pub AreApart : ℕ → ℕ → ℕ → Type 0
-AreApart at from count = (from + count ≤ at) ⊎ (at + count ≤ from)
-
 -- ---- one pass
 pub run_none : (f : ℕ → ℕ → ℕ) (at from : ℕ) (xs : List ℕ) → IsRun f at from 0 xs xs
 run_none f at from xs = record {

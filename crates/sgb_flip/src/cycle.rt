@@ -5,8 +5,8 @@ ghost use Rattle.sgb_flip.specs.Sequence.{difference, joined, terms_after};
 
 use std::simd::prelude::*;
 
-/// Turns 55 words into the next 55 of their sequence (`gb_flip_cycle`). Three vectors of eight words
-/// stand between a word and the next one that needs it, so that 48 words go by vectors.
+/// Turns 55 words into the next 55 of their sequence (`gb_flip_cycle`). A new word is needed for the
+/// one 24 places on, three vectors of eight words away: so 48 words go by vectors, and seven remain.
 #[cold]
 #[inline(never)]
 pub(crate) fn cycle(words: &mut [u32])
@@ -20,7 +20,7 @@ pub(crate) fn cycle(words: &mut [u32])
     renew(words, 48, 24, 7);
 }
 
-/// Turns 55 words into the 55 before them of their sequence, from the last word on.
+/// Turns 55 words into the 55 before them of their sequence: the same steps, undone from the last on.
 #[cold]
 #[inline(never)]
 pub(crate) fn uncycle(words: &mut [u32])

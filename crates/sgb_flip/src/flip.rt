@@ -58,7 +58,7 @@ impl Flip {
     }
 
     /// The generator with these very words, each below 2^31, of which `unread`, at most 54, are
-    /// unread; `None` for other numbers.
+    /// unread; `None` where a word or the count is larger.
     pub fn from_words(words: [u32; 55], unread: u32) -> Option<Flip>
         ensures some { IfSome result (λ flip. flip ≡ record { words = words; unread = unread }) }
         ensures when { IsSome result ↔ IsGenerator (record { words = words; unread = unread }) }
@@ -70,7 +70,7 @@ impl Flip {
         }
     }
 
-    /// The words.
+    /// The 55 words, each below 2^31.
     pub fn words(&self) -> [u32; 55]
         ensures value { result ≡ self.now.words }
         ensures generator { IsGenerator self.now }
@@ -104,7 +104,8 @@ impl Flip {
         self.words[self.unread as usize]
     }
 
-    /// Goes back to the one state that a draw leads from to this one.
+    /// Takes one draw back: goes to the one state from which a draw leads here. It is there for every
+    /// state, also before the seeding.
     #[inline]
     pub fn back(&mut self)
         ensures before { after self.new 1 ≡ self.old }
@@ -119,8 +120,8 @@ impl Flip {
         }
     }
 
-    /// Goes back to the one state that `n` draws lead from to this one. Whole batches of 55 draws are
-    /// turned back at once.
+    /// Takes `n` draws back: goes to the one state from which `n` draws lead here. Whole batches of 55
+    /// draws are turned back at once.
     pub fn back_by(&mut self, n: u64)
         ensures before { after self.new n ≡ self.old }
         ensures generator { IsGenerator self.new }
@@ -132,9 +133,9 @@ impl Flip {
         self.unread = part % 55;
     }
 
-    /// Draws a uniform number below `m` (`gb_unif_rand`): the first number drawn that is below the
-    /// greatest multiple of `m` up to 2^31, modulo `m`. From every state that takes at most 1,814
-    /// draws.
+    /// Draws a uniform number below `m`, from 1 to 2^31 (`gb_unif_rand`): the first number drawn that is
+    /// below the greatest multiple of `m` up to 2^31, modulo `m`. That takes at most 1,814 draws from
+    /// every state, and it never gives up.
     pub fn uniform(&mut self, m: u32) -> Drawn
         requires positive { 1 ≤ m }
         requires small { m ≤ 2 ^ 31 }
@@ -145,6 +146,7 @@ impl Flip {
         ensures generator { IsGenerator self.new }
         ensures below { result.value < m }
     {
+        // That opens the invariant to the proof, and does nothing.
         let _ = &self.words;
         let limit = 0x8000_0000 - 0x8000_0000 % m;
         for refused in 0..1814u32 {
