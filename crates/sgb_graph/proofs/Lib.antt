@@ -1,6 +1,8 @@
 pub mod Chains
 pub mod Counts
 pub mod Graphs
+pub mod Holes
+pub mod InsertLemmas
 pub mod NewLemmas
 pub mod PutBack
 pub mod Shows

@@ -7,6 +7,7 @@ pub mod Edit
 pub mod Field
 pub mod Graph
 pub mod Honest
+pub mod Insert
 pub mod Link
 pub mod New
 pub mod Paired

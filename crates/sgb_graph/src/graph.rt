@@ -1,6 +1,7 @@
 //! Graphs.
 
 mod arcs;
+mod insert;
 mod link;
 mod new;
 mod read;

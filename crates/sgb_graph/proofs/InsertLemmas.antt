@@ -1,0 +1,103 @@
+-- Lemmas on what a new arc or edge leaves of the fields.
+use Rattle.std.proofs.Common.{◌≡◌, ◌≢◌, ◌<◌, ◌≤◌, ◌+◌, ◌-◌, ◌*◌, ℕ, ℤ, zero, suc, List, [], ◌∷◌, ◌++◌, length, Option, Some, None, refl, sym, ap, subst, ◌∙◌, arith, FitsSigned, Vec, to_z, of_z}
+use Rattle.std.specs.Int.{w64}
+use Rattle.std.specs.Vec.{with_items}
+use Rattle.std.proofs.lemmas.Int.{to_z-of_z}
+use Rattle.std.proofs.lemmas.List.{with_items_is}
+use Rattle.sgb_graph.specs.declared.field.VertexNo.{VertexNo}
+use Rattle.sgb_graph.specs.declared.field.ArcNo.{ArcNo}
+use Rattle.sgb_graph.specs.declared.graph.Vertex.{Vertex}
+use Rattle.sgb_graph.specs.declared.graph.Slot.{Slot}
+use Rattle.sgb_graph.specs.declared.graph.Graph.TheInside.{Inside}
+use Rattle.sgb_graph.specs.declared.delta.CutArc.{CutArc}
+use Rattle.sgb_graph.specs.Graph.{GraphOf, IsGraph, n_of, made_of, m_of}
+use Rattle.sgb_graph.specs.Edit.{with_arc, with_edge, with_cut_arc, with_listed}
+use Rattle.sgb_graph.specs.Insert.{new_cut}
+use Rattle.sgb_graph.specs.Arena.{Slots, Shows, IsArena, graph_of, arc_no}
+use Rattle.sgb_graph.specs.Link.{CanPutBack, CanBePutBack, PutsBack}
+use Rattle.sgb_graph.specs.Delta.{LeftByArc, LeftByEdge}
+use Rattle.sgb_graph.proofs.Shows.{Opened, opened, closed, closed_arena}
+use Rattle.sgb_graph.proofs.PutBack.{put_sound, put_m}
+use Rattle.sgb_graph.proofs.Holes.{with_hole, hole_made, hole_m, hole_sound, hole_shows, with_arc_is, new_can, arc_accepted}
+
+-- the fields before and after a step between two graphs of one id, types and own fields
+pub record SameOwn (a b : Inside) : Type 0 where
+  pub id : b.id ≡ a.id
+  pub types : b.types ≡ a.types
+  pub fields : b.fields ≡ a.fields
+
+-- fields that show the graph h with an arc put back
+pub put_after : (b : Inside) (h : GraphOf) (c : CutArc) → IsGraph h → CanPutBack h c → Shows b.vertices.items b.slots.items (with_cut_arc h c) → b.live ≡ m_of h + 1
+  → b.id ≡ h.id → b.types ≡ h.types → b.fields ≡ h.fields → Opened b (with_cut_arc h c)
+unfolding with_cut_arc with_listed
+put_after b h c sound can shows live id types fields =
+    record {
+      graph = put_sound h c sound can;
+      shows = shows;
+      live = live ∙ sym (put_m h c can);
+      id = id;
+      types = types;
+      fields = fields
+    }
+
+pub new_cut_is : (u v : VertexNo) (z : ℤ) {c : CutArc} {n m : ℕ} → FitsSigned w64 z → c ≡ new_cut (arc_no n) u v (to_z w64 (of_z w64 z)) → n ≡ m → c ≡ new_cut (arc_no m) u v z
+new_cut_is u v z fits is same = is ∙ (ap (new_cut (arc_no _) u v) (to_z-of_z w64 z fits) ∙ ap (λ k. new_cut (arc_no k) u v z) same)
+
+-- what `new_arc` knows before it links the arc
+pub record NewArcCan (a : Inside) (g : GraphOf) (u v : VertexNo) (z : ℤ) (c : CutArc) (vs : List Vertex) (ss : Slots) : Type 0 where
+  pub opened : Opened a g
+  pub from : u.0 < n_of g
+  pub to : v.0 < n_of g
+  pub few : made_of g < 1000000
+  pub fits : FitsSigned w64 z
+  pub cut : c ≡ new_cut (arc_no (made_of g)) u v z
+  pub vertices : vs ≡ a.vertices.items
+  pub slots : ss ≡ a.slots.items ++ None ∷ []
+
+pub new_arc_can : (a : Inside) (g : GraphOf) (u v : VertexNo) (z : ℤ) (c : CutArc) (vs : List Vertex) (ss : Slots) → NewArcCan a g u v z c vs ss
+  → (IsGraph (with_hole g)) × (Shows vs ss (with_hole g)) × (CanPutBack (with_hole g) c)
+new_arc_can a g u v z c vs ss k =
+    (hole_sound g k.opened.graph k.few,
+     rw (k.vertices, k.slots) (hole_shows a.vertices.items a.slots.items g k.opened.shows),
+     subst (CanPutBack (with_hole g)) (sym k.cut) (new_can g u.0 v.0 z k.opened.graph k.from k.to k.fits))
+
+pub new_arc_requires : (a : Inside) (g : GraphOf) (u v : VertexNo) (z : ℤ) (c : CutArc) (vs : List Vertex) (ss : Slots) → NewArcCan a g u v z c vs ss → CanBePutBack vs ss c
+new_arc_requires a g u v z c vs ss k =
+    let x = new_arc_can a g u v z c vs ss k in
+    record { graph = with_hole g; sound = x.0; shows = x.1; can = x.2 }
+
+pub new_arc_after : (a b : Inside) (g : GraphOf) (u v : VertexNo) (z : ℤ) (c : CutArc) (vs ws : List Vertex) (ss ts : Slots) → NewArcCan a g u v z c vs ss
+  → PutsBack vs ss c ws ts → b.vertices.items ≡ ws → b.slots.items ≡ ts → b.live ≡ a.live + 1 → SameOwn a b → Opened b (with_arc g u.0 v.0 z)
+new_arc_after a b g u v z c vs ws ss ts k puts vertices slots live own =
+    let x = new_arc_can a g u v z c vs ss k in
+    let h = with_hole g in
+    let shows : Shows b.vertices.items b.slots.items (with_cut_arc h c) = rw (vertices, slots) (puts h x.1 x.0 x.2) in
+    let can = x.2 in
+    let o = k.opened in
+    let after : Opened b (with_cut_arc h c) = put_after b h c x.0 can shows (live ∙ (ap (λ n. n + 1) (o.live ∙ sym (hole_m g)))) (own.id ∙ o.id) (own.types ∙ o.types) (own.fields ∙ o.fields) in
+    subst (Opened b) (ap (with_cut_arc h) k.cut ∙ sym (with_arc_is g u.0 v.0 z)) after
+
+-- what `new_arc` leaves, clause by clause
+pub record NewArcDone (b : Inside) (g : GraphOf) (u v : VertexNo) (z : ℤ) (number : ArcNo) : Type 0 where
+  pub arena : IsArena b
+  pub graph : graph_of b ≡ with_arc g u.0 v.0 z
+  pub left : LeftByArc g number (graph_of b)
+  pub sound : IsGraph (graph_of b)
+
+pub new_arc_done : (a b : Inside) (g : GraphOf) (u v : VertexNo) (z : ℤ) (c : CutArc) (vs ws : List Vertex) (ss ts : Slots) (number : ArcNo) → NewArcCan a g u v z c vs ss
+  → PutsBack vs ss c ws ts → b.vertices.items ≡ ws → b.slots.items ≡ ts → b.live ≡ a.live + 1 → SameOwn a b → number ≡ arc_no (made_of g) → NewArcDone b g u v z number
+new_arc_done a b g u v z c vs ws ss ts number k puts vertices slots live own is =
+    let o = new_arc_after a b g u v z c vs ws ss ts k puts vertices slots live own in
+    let arena = closed_arena b (with_arc g u.0 v.0 z) o in
+    record {
+      arena = arena;
+      graph = closed b (with_arc g u.0 v.0 z) o;
+      left = record {
+        from = u.0; to = v.0; len = z;
+        graph = k.opened.graph;
+        accepted = arc_accepted g u.0 v.0 k.from k.to k.few;
+        number = is;
+        left = closed b (with_arc g u.0 v.0 z) o
+      };
+      sound = arena.graph
+    }

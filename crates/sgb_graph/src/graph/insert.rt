@@ -1,0 +1,56 @@
+//! New arcs and edges.
+ghost use Rattle.std.specs.Prelude.{◌≡◌, ◌⊎◌, ◌∷◌, [], IfOk, IfErr, OnOk, OnErr, None, Some};
+ghost use Rattle.sgb_graph.specs.Graph.{IsGraph, made_of};
+ghost use Rattle.sgb_graph.specs.Edit.{with_arc, refusal_of_arc};
+ghost use Rattle.sgb_graph.specs.Delta.{LeftBy};
+ghost use Rattle.sgb_graph.specs.Arena.{arc_no};
+ghost use Rattle.sgb_graph.specs.Insert.{new_cut};
+
+use super::link::put_back;
+use super::{Graph, MOST_ARCS};
+use crate::{ArcNo, CutArc, GraphDelta, Refusal, Tip, Util, VertexNo};
+
+impl Graph {
+    /// A new arc from one vertex to another, first in the list of the first (Knuth's `gb_new_arc`).
+    ///
+    /// Answers its number, and what `revert` needs. Refused `BadOperand` where there is no such vertex, and
+    /// `TooLarge` where 1,000,000 numbers were given out.
+    pub fn new_arc(&mut self, from: VertexNo, to: VertexNo, len: i64) -> Result<(ArcNo, GraphDelta), Refusal>
+        ensures accepted { OnOk result (refusal_of_arc self.old from.0 to.0 ≡ None) }
+        ensures number { IfOk result (λ p. p.0 ≡ arc_no (made_of self.old)) }
+        ensures delta { IfOk result (λ p. p.1 ≡ GraphDelta.NewArc p.0) }
+        ensures graph { OnOk result (self.new ≡ with_arc self.old from.0 to.0 len) }
+        ensures left { IfOk result (λ p. LeftBy self.old p.1 self.new) }
+        ensures err { IfErr result (λ e. (e ≡ Refusal.NoRoom) ⊎ (refusal_of_arc self.old from.0 to.0 ≡ Some e)) }
+        ensures unchanged { OnErr result (self.new ≡ self.old) }
+        ensures sound { IsGraph self.new }
+    {
+        if from.0 >= self.n() || to.0 >= self.n() {
+            return Err(Refusal::BadOperand);
+        }
+        if self.made() >= MOST_ARCS {
+            return Err(Refusal::TooLarge);
+        }
+        let number = ArcNo(self.made());
+        self.slots.push(None)?;
+        let arc = new_arc_at(number, from, to, len);
+        put_back(&mut self.vertices, &mut self.slots, arc);
+        self.live += 1;
+        Ok((number, GraphDelta::NewArc(number)))
+    }
+}
+
+// A new arc, first in its list.
+#[inline]
+fn new_arc_at(number: ArcNo, owner: VertexNo, to: VertexNo, len: i64) -> CutArc
+    ensures { result ≡ new_cut number owner to len }
+{
+    CutArc {
+        number,
+        owner,
+        place: 0,
+        tip: Tip::To(to),
+        len,
+        fields: [Util::Zero, Util::Zero],
+    }
+}
