@@ -1,0 +1,10 @@
+mod Words
+mod Numbers
+mod Printing
+mod Drawings
+mod Performing
+mod LineEnds
+mod Courses
+mod Bytes
+mod Taking
+mod Endings

@@ -1,0 +1,77 @@
+-- What `parse` reads, and the number that a word spells.
+use Rattle.std.proofs.Common.{◌≡◌, ◌≢◌, ℕ, zero, suc, ◌<◌, ◌^◌, Bool, true, false, not, ◌&&◌, ◌==◌, cond, List, [], ◌∷◌, length, Result, Ok, Err, None, Some, ℤ, pos, neg_ℤ, refl, sym, ap, ◌∙◌, arith, w64, nat_le, nat_lt, get_or, slice_index, inl, inr}
+use Rattle.std.specs.Option.{option_and_then}
+use Rattle.std.specs.Result.{OkIff, result_ok}
+use Rattle.std.specs.Str.{all_ascii_digits, IsUtf8, IsAscii}
+use Rattle.std.specs.Str.Parse.{ParsesSigned, digits_value}
+use Rattle.std.proofs.lemmas.Bool.{cases_Bool, and_right, false_from_ne_true, eqb-true, eqb-false, ne_eqb, leb-true, le-leb, ltb-true, lt-ltb}
+use Rattle.std.proofs.lemmas.Str.{IsUtf8-from_ascii}
+use Rattle.std.proofs.lemmas.Fmt.{IsAscii-from_digits}
+use Rattle.std.proofs.lemmas.Str.Parse.{IsNumeralModel, numerals_by_value, tells_all_ascii_digits, parse_signed_minus, parse_signed_plain}
+use Rattle.sgb_shell.specs.Line.{number_of, natural_of}
+
+own : IsNumeralModel (λ ds. all_ascii_digits ds ≡ true) (digits_value 10)
+own = numerals_by_value _ tells_all_ascii_digits
+
+-- a number that is read under three conditions, and the test that asks for them
+read_if : {E : Type 0} (r : Result ℤ E) (a b c : Bool) (P Q R : Type 0) (z : ℤ) → (a ≡ true → P) → (P → a ≡ true) → (b ≡ false → Q) → (Q → b ≡ false) → (c ≡ true → R) → (R → c ≡ true)
+    → OkIff r (P × Q × R) z → result_ok r ≡ cond (not b && a) (cond c (Some z) None) None
+read_if (Ok x) a b c P Q R z _ to_a _ to_b _ to_c h = rw (to_a h.0.0, to_b h.0.1, to_c h.0.2) (ap Some h.1)
+read_if (Err e) false true c P Q R z p _ q _ r _ h = refl
+read_if (Err e) false false c P Q R z p _ q _ r _ h = refl
+read_if (Err e) true true c P Q R z p _ q _ r _ h = refl
+read_if (Err e) true false false P Q R z p _ q _ r _ h = refl
+read_if (Err e) true false true P Q R z p _ q _ r _ h = absurd (h (p refl, q refl, r refl))
+
+-- the second condition asked of the number itself
+asked_after : (a c : Bool) (n : ℕ) (t : ℕ → Bool) (z : ℕ → ℤ) → c ≡ t n
+    → cond a (cond c (Some (z n)) None) None ≡ option_and_then (λ k. cond (t k) (Some (z k)) None) (cond a (Some n) None)
+asked_after true c n t z e = ap (λ b. cond b (Some (z n)) None) e
+asked_after false c n t z e = refl
+
+no_digits : (ds : List ℕ) → (length ds == 0) ≡ false → 0 < length ds
+no_digits ds e = let ne : length ds ≢ 0 = eqb-false (length ds) 0 e in omega arith
+
+some_digits : (ds : List ℕ) → 0 < length ds → (length ds == 0) ≡ false
+some_digits ds h = ne_eqb (length ds) 0 (λ e. absurd (omega arith))
+
+nothing_read : {E : Type 0} (r : Result ℤ E) (P Q : Type 0) (z : ℤ) → OkIff r (P × (0 < 0) × Q) z → result_ok r ≡ None
+nothing_read (Ok x) P Q z h = absurd (let bad : 0 < 0 = h.0.1 in omega arith)
+nothing_read (Err e) P Q z h = refl
+
+number_read : {E : Type 0} (w : List ℕ) (r : Result ℤ E) → ParsesSigned w64 10 w r → get_or w 0 0 ≢ 43 → result_ok r ≡ number_of w
+number_read [] r h plus = nothing_read r _ _ _ (parse_signed_plain own w64 [] r h plus (λ e. absurd (omega arith)))
+number_read (c ∷ cs) r h plus = elim (cases_Bool (c == 45)) [
+  | inl minus ↦ rw minus (
+      read_if r (all_ascii_digits cs) (length cs == 0) (nat_le (digits_value 10 cs) (2 ^ 63)) _ _ _ _ (λ e. e) (λ e. e) (no_digits cs) (some_digits cs)
+      (leb-true (digits_value 10 cs) (2 ^ 63)) (le-leb (digits_value 10 cs) (2 ^ 63))
+      (parse_signed_minus own w64 (c ∷ cs) r h (eqb-true c 45 minus))
+      ∙ asked_after (not (length cs == 0) && all_ascii_digits cs) _ (digits_value 10 cs) (λ n. nat_le n (2 ^ 63)) (λ n. neg_ℤ (pos n)) refl)
+  | inr plain ↦ rw plain (
+      read_if r (all_ascii_digits (c ∷ cs)) (length (c ∷ cs) == 0) (nat_lt (digits_value 10 (c ∷ cs)) (2 ^ 63)) _ _ _ _ (λ e. e) (λ e. e) (no_digits (c ∷ cs)) (some_digits (c ∷ cs))
+      (ltb-true (digits_value 10 (c ∷ cs)) (2 ^ 63)) (lt-ltb (digits_value 10 (c ∷ cs)) (2 ^ 63))
+      (parse_signed_plain own w64 (c ∷ cs) r h plus (eqb-false c 45 plain))
+      ∙ asked_after (not (length (c ∷ cs) == 0) && all_ascii_digits (c ∷ cs)) _ (digits_value 10 (c ∷ cs)) (λ n. nat_lt n (2 ^ 63)) pos refl)
+]
+
+ascii_digits : (ds : List ℕ) → all_ascii_digits ds ≡ true → IsAscii ds
+ascii_digits ds h = IsAscii-from_digits ds (own.to ds h)
+
+natural_none : (ds : List ℕ) → all_ascii_digits ds ≡ false → natural_of ds ≡ None
+natural_none ds h = rw (and_right (not (length ds == 0)) (all_ascii_digits ds) h) refl
+
+after_minus : (c : ℕ) (cs : List ℕ) → c ≡ 45 → IsAscii cs → IsAscii (c ∷ cs)
+after_minus c cs e h zero = omega arith
+after_minus c cs e h (suc i) = h i
+
+pub number_is_utf8 : (w : List ℕ) → (IsUtf8 w → ⊥) → number_of w ≡ None
+number_is_utf8 [] not_text = refl
+number_is_utf8 (c ∷ cs) not_text = elim (cases_Bool (c == 45)) [
+  | inl minus ↦ rw (minus, natural_none cs (false_from_ne_true _ (λ h. not_text (IsUtf8-from_ascii (c ∷ cs) (after_minus c cs (eqb-true c 45 minus) (ascii_digits cs h)))))) refl
+  | inr plain ↦ rw (plain, natural_none (c ∷ cs) (false_from_ne_true _ (λ h. not_text (IsUtf8-from_ascii (c ∷ cs) (ascii_digits (c ∷ cs) h))))) refl
+]
+
+pub text_read : {E : Type 0} (w text : List ℕ) (r : Result ℤ E) (plus : Bool) → text ≡ w → plus ≡ (slice_index w 0 == 43) → plus ≡ false → ParsesSigned w64 10 text r → result_ok r ≡ number_of w
+text_read w text r plus same tested none h =
+    let no_plus : get_or text 0 0 ≢ 43 = λ e. eqb-false (get_or w 0 0) 43 (sym tested ∙ none) (sym (ap (λ t. get_or t 0 0) same) ∙ e) in
+    number_read text r h no_plus ∙ ap number_of same

@@ -1,0 +1,155 @@
+-- What the journal's calls do to the lists of a script's course.
+use Rattle.std.proofs.Common.{◌≡◌, ◌↔◌, ◌⊎◌, true, false, ◌==◌, List, [], ◌∷◌, ◌++◌, length, Option, None, Some, Result, Ok, Err, refl, sym, ap, ◌∙◌, subst, inl, inr}
+use Rattle.std.specs.Prelude.{unwrap_or, IfOk, OnErr, IsErrOf}
+use Rattle.std.specs.Option.{ok_or}
+use Rattle.std.proofs.lemmas.Bool.{ne_eqb, eq-eqb}
+use Rattle.sgb_undo.specs.History.{IsJournal, Applies, Undoes, Redoes}
+use Rattle.sgb_undo.specs.Outcome.{Refused}
+use Rattle.sgb_undo.specs.Replay.{fold}
+use Rattle.sgb_undo.specs.declared.refusal.JournalRefusal.{JournalRefusal}
+use Rattle.sgb_undo.specs.declared.refusal.JournalRefusal.TheVariants as journals
+use Rattle.sgb_shell.specs.declared.answer.Answer.{Answer}
+use Rattle.sgb_shell.specs.declared.answer.Answer.TheVariants as answers
+use Rattle.sgb_shell.specs.declared.command.Command.{Command}
+use Rattle.sgb_shell.specs.declared.command.Line.{Line}
+use Rattle.sgb_shell.specs.declared.command.Line.TheVariants.{Change, Undo, Redo}
+use Rattle.sgb_shell.specs.declared.command.Reply.{Reply}
+use Rattle.sgb_shell.specs.declared.refusal.ShellRefusal.{ShellRefusal}
+use Rattle.sgb_shell.specs.declared.refusal.ShellRefusal.TheVariants.{NoRoom, BadSpecs, TooLarge, ScriptSyntax, NothingToUndo, NothingToRedo, JournalFull}
+use Rattle.sgb_shell.specs.Lines.{all_but_last}
+use Rattle.sgb_shell.specs.Performing.{Kept, IsBegun, Does, lists_of, answer_from}
+use Rattle.sgb_shell.specs.Refusal.{is_no_room}
+use Rattle.sgb_shell.specs.State.{empty, step, before}
+use Rattle.sgb_shell.specs.Transcript.{Lists, Told, state_of, answered, with_command, last_command, undoing, redoing}
+
+pub all_but_last-push : {X : Type 0} (xs : List X) (x : X) → all_but_last (xs ++ x ∷ []) ≡ xs
+all_but_last-push [] x = refl
+all_but_last-push (y ∷ []) x = refl
+all_but_last-push (y ∷ z ∷ zs) x = ap (λ l. y ∷ l) (all_but_last-push (z ∷ zs) x)
+
+last_command-push : (cs : List Command) (c : Command) → last_command (cs ++ c ∷ []) ≡ Some c
+last_command-push [] c = refl
+last_command-push (d ∷ []) c = refl
+last_command-push (d ∷ e ∷ es) c = last_command-push (e ∷ es) c
+
+-- the machine is what the standing commands give
+pub machine_is : (j : Kept) → IsBegun j → state_of j.standing ≡ j.machine
+machine_is j b = ap (λ s. unwrap_or (fold step s j.standing) empty) (sym b.start) ∙ ap (λ o. unwrap_or o empty) b.sound.value
+
+abbrev listed : List Command → List Command → Lists
+listed s u = record { standing = s; undone = u }
+
+same_lists : (s s' u u' : List Command) → s ≡ s' → u ≡ u' → listed s u ≡ listed s' u'
+same_lists s s' u u' p q = rw (p, q) refl
+
+-- a journal that stays as it was, and the answer to that
+abbrev tells : Lists → Answer → Told
+tells l answer = (l, answer)
+
+stays : (old new : Kept) (answer : Answer) → new ≡ old → tells (lists_of old) answer ≡ tells (lists_of new) answer
+stays old new answer same = ap (λ j. tells (lists_of j) answer) (sym same)
+
+no_room_is : (r : ShellRefusal) → is_no_room r ≡ true → r ≡ NoRoom
+no_room_is NoRoom e = refl
+no_room_is BadSpecs e = cc
+no_room_is TooLarge e = cc
+no_room_is ScriptSyntax e = cc
+no_room_is NothingToUndo e = cc
+no_room_is NothingToRedo e = cc
+no_room_is JournalFull e = cc
+
+-- a change that the journal answered
+pub changed : (old new : Kept) (c : Command) (r : Result Reply (JournalRefusal ShellRefusal)) → IsBegun old
+    → IfOk r (λ reply. Applies step before old c reply new)
+    → (IsErrOf r journals.Full ↔ (length old.standing ≡ 65535))
+    → (IsErrOf r journals.NothingToRedo → ⊥)
+    → ((f : ShellRefusal) → IsErrOf r (journals.Machine f) → (is_no_room f ≡ true) ⊎ (step old.machine c ≡ Refused f))
+    → OnErr r (new ≡ old) → IsJournal step before new → Does old new (Some (Change c)) (answer_from r)
+changed old new c (Ok reply) b a full nothing refused same sound =
+    let not_full : (length old.standing == 65535) ≡ false = ne_eqb _ _ (λ e. let bad = full.1 e in cc) in record {
+      no_room = false;
+      told = rw not_full (ap (answered (lists_of old) (with_command (lists_of old) c)) (ap (λ s. step s c) (machine_is old b) ∙ a.accepted)
+          ∙ ap (λ l. tells (l) (answers.Replied reply)) (same_lists _ _ _ _ (sym a.standing) (sym a.undone)));
+      begun = record { start = a.start ∙ b.start; sound = sound };
+    }
+changed old new c (Err journals.NoRoom) b a full nothing refused same sound =
+    let not_full : (length old.standing == 65535) ≡ false = ne_eqb _ _ (λ e. let bad = full.1 e in cc) in record {
+      no_room = true;
+      told = rw not_full (stays old new (answers.Refused NoRoom) same);
+      begun = subst IsBegun (sym same) b;
+    }
+changed old new c (Err journals.Full) b a full nothing refused same sound = record {
+  no_room = false;
+  told = rw (eq-eqb (length old.standing) 65535 (full.0 refl)) (stays old new (answers.Refused JournalFull) same);
+  begun = subst IsBegun (sym same) b;
+}
+changed old new c (Err journals.NothingToRedo) b a full nothing refused same sound = absurd (nothing refl)
+changed old new c (Err (journals.Machine f)) b a full nothing refused same sound =
+    let not_full : (length old.standing == 65535) ≡ false = ne_eqb _ _ (λ e. let bad = full.1 e in cc) in
+    elim (refused f refl) [
+      | inl wants ↦ record {
+        no_room = true;
+        told = rw not_full (stays old new (answers.Refused NoRoom) same ∙ ap (λ g. tells (lists_of new) (answers.Refused g)) (sym (no_room_is f wants)));
+        begun = subst IsBegun (sym same) b;
+      }
+      | inr refuses ↦ record {
+        no_room = false;
+        told = rw not_full (ap (answered (lists_of old) (with_command (lists_of old) c)) (ap (λ s. step s c) (machine_is old b) ∙ refuses) ∙ stays old new (answers.Refused f) same);
+        begun = subst IsBegun (sym same) b;
+      }
+    ]
+
+pub undid : (old new : Kept) → IsBegun old → Undoes step before old new → IsJournal step before new → Does old new (Some Undo) answers.Undone
+undid old new b u sound = record {
+  no_room = false;
+  told = ap (undoing (lists_of old)) (ap last_command u.standing ∙ last_command-push new.standing u.command)
+      ∙ ap (λ l. tells (l) (answers.Undone)) (same_lists _ _ _ _ (ap all_but_last u.standing ∙ all_but_last-push new.standing u.command) (sym u.undone));
+  begun = record { start = u.start ∙ b.start; sound = sound };
+}
+
+refused_redo : (standing undone : List Command) → (undone ≡ [] → ⊥) → redoing true standing undone ≡ tells (listed standing undone) (answers.Refused NoRoom)
+refused_redo standing [] some = absurd (some refl)
+refused_redo standing (c ∷ cs) some = refl
+
+pub redid : (old new : Kept) (r : Result Reply (JournalRefusal ShellRefusal)) → IsBegun old
+    → IfOk r (λ reply. Redoes step before old reply new)
+    → (IsErrOf r journals.NothingToRedo ↔ (old.undone ≡ []))
+    → (IsErrOf r journals.NoRoom → ⊥)
+    → (IsErrOf r journals.Full → ⊥)
+    → ((f : ShellRefusal) → IsErrOf r (journals.Machine f) → is_no_room f ≡ true)
+    → OnErr r (new ≡ old) → IsJournal step before new → Does old new (Some Redo) (answer_from r)
+redid old new (Ok reply) b d nothing no_room full refused same sound = record {
+  no_room = false;
+  told = ap (redoing false old.standing) d.undone
+      ∙ ap (answered (listed old.standing (d.command ∷ new.undone)) (listed (old.standing ++ d.command ∷ []) new.undone)) (ap (λ s. step s d.command) (machine_is old b) ∙ d.accepted)
+      ∙ ap (λ s. tells (listed s new.undone) (answers.Replied reply)) (sym d.standing);
+  begun = record { start = d.start ∙ b.start; sound = sound };
+}
+redid old new (Err journals.NoRoom) b d nothing no_room full refused same sound = absurd (no_room refl)
+redid old new (Err journals.Full) b d nothing no_room full refused same sound = absurd (full refl)
+redid old new (Err journals.NothingToRedo) b d nothing no_room full refused same sound = record {
+  no_room = false;
+  told = ap (redoing false old.standing) (nothing.0 refl)
+      ∙ ap (λ u. tells (listed old.standing u) (answers.Refused NothingToRedo)) (sym (nothing.0 refl)) ∙ stays old new (answers.Refused NothingToRedo) same;
+  begun = subst IsBegun (sym same) b;
+}
+redid old new (Err (journals.Machine f)) b d nothing no_room full refused same sound =
+    let some : old.undone ≡ [] → ⊥ = λ e. let bad = nothing.1 e in cc in record {
+      no_room = true;
+      told = refused_redo old.standing old.undone some ∙ ap (λ g. tells (lists_of old) (answers.Refused g)) (sym (no_room_is f (refused f refl))) ∙ stays old new (answers.Refused f) same;
+      begun = subst IsBegun (sym same) b;
+    }
+
+-- ---- the line that was read
+
+line_read : (o : Option Line) (l : Line) → Prim.Path (Result Line ShellRefusal) (Ok l) (ok_or o ScriptSyntax) → o ≡ Some l
+line_read None l e = cc
+line_read (Some x) l e = cc
+
+pub read_does : (old new : Kept) (o : Option Line) (l l' : Line) (answer : Answer) → Prim.Path (Result Line ShellRefusal) (Ok l) (ok_or o ScriptSyntax) → l ≡ l'
+    → Does old new (Some l') answer → Does old new o answer
+read_does old new o l l' answer e same d = subst (λ p. Does old new p answer) (sym (line_read o l e ∙ ap Some same)) d
+
+pub refused_does : (j : Kept) (o : Option Line) (r : ShellRefusal) → IsBegun j → Prim.Path (Result Line ShellRefusal) (Err r) (ok_or o ScriptSyntax) → Does j j o (answers.Refused r)
+refused_does j None r b e = let same : r ≡ ScriptSyntax = cc in record { no_room = false; told = ap (λ g. tells (lists_of j) (answers.Refused g)) (sym same); begun = b }
+refused_does j (Some x) r b e = absurd (cc)

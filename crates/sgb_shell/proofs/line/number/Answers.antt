@@ -1,0 +1,10 @@
+use Rattle.std.proofs.Common.{◌∙◌, sym}
+use Rattle.sgb_shell.proofs.Numbers.{text_read, number_is_utf8}
+use Rattle.sgb_shell.proofs.line.number.Goals as goal
+
+pub returns-in-Ok : goal.returns-in-Ok
+returns-in-Ok c = c.ok.ensures.value
+    ∙ text_read c.args.word.now c.in-Ok.text.now c.parse.result c.has_plus.result c.in-Ok.ensures.cases.0 c.has_plus.ensures c.if-has_plus.false c.parse.ensures.value.0
+
+pub returns-in-Err : goal.returns-in-Err
+returns-in-Err c = sym (number_is_utf8 c.args.word.now c.in-Err.ensures.cases.0)

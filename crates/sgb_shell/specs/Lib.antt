@@ -1,0 +1,11 @@
+pub mod Drawing
+pub mod Line
+pub mod Lines
+pub mod Performing
+pub mod Print
+pub mod Reaching
+pub mod Refusal
+pub mod Run
+pub mod State
+pub mod Status
+pub mod Transcript

@@ -1,0 +1,94 @@
+//! A reader and a writer that remember whether a call failed, so that a contract can say that a
+//! fault was met.
+ghost use Rattle.std.specs.Prelude.{◌≡◌, ◌+◌, ◌<◌, ◌≤◌, ◌^◌, true, false, length, OnOk, OnErr, IfOk, is_err, ◌||◌};
+ghost use Rattle.std.specs.Io.{ReadsAtMost, WritesAtMost};
+ghost use Rattle.std.specs.Io.KnownBytes.{ReadConsumes, WriteAppends};
+
+use std::io::{Read, Write};
+
+/// A read or a write failed. What went wrong is not told.
+#[derive(Clone, Copy, Debug, PartialEq, Eq)]
+pub struct Failed;
+
+/// A reader, how often it was asked, and whether it ever failed.
+#[derive(Debug, Drop)]
+pub struct MeteredReader<R> {
+    /// The reader itself.
+    pub inner: R,
+    /// How many reads were made.
+    pub reads: u64,
+    /// Whether a read failed.
+    pub failed: bool,
+}
+
+/// A writer, and whether it ever failed.
+#[derive(Debug, Drop)]
+pub struct MeteredWriter<W> {
+    /// The writer itself.
+    pub inner: W,
+    /// Whether a write failed.
+    pub failed: bool,
+}
+
+impl<R: Read> MeteredReader<R> {
+    /// A reader that was not asked yet.
+    pub fn new(inner: R) -> Self
+        ensures inner { result.inner ≡ inner }
+        ensures reads { result.reads ≡ 0 }
+        ensures failed { result.failed ≡ false }
+    {
+        MeteredReader {
+            inner,
+            reads: 0,
+            failed: false,
+        }
+    }
+
+    /// Makes one read. No bytes at `Ok` say that there are no more. An interrupted read has failed.
+    pub fn read(&mut self, buffer: &mut [u8]) -> Result<usize, Failed>
+        requires { self.old.reads < 2 ^ 63 }
+        ensures reads { self.new.reads ≡ self.old.reads + 1 }
+        ensures failed { self.new.failed ≡ (self.old.failed || is_err result) }
+        ensures bound { ReadsAtMost result buffer.new }
+        ensures bytes { ReadConsumes (R.remaining self.old.inner) (R.remaining self.new.inner) result buffer.new }
+    {
+        self.reads += 1;
+        match self.inner.read(buffer) {
+            Ok(count) => Ok(count),
+            Err(_) => {
+                self.failed = true;
+                Err(Failed)
+            }
+        }
+    }
+}
+
+impl<W: Write> MeteredWriter<W> {
+    /// A writer to which nothing was written yet.
+    pub fn new(inner: W) -> Self
+        ensures inner { result.inner ≡ inner }
+        ensures failed { result.failed ≡ false }
+    {
+        MeteredWriter {
+            inner,
+            failed: false,
+        }
+    }
+
+    /// Makes one write of some bytes. To take none of them is to fail.
+    pub fn write(&mut self, bytes: &[u8]) -> Result<usize, Failed>
+        requires { 0 < length bytes.now }
+        ensures failed { self.new.failed ≡ (self.old.failed || is_err result) }
+        ensures bound { WritesAtMost result bytes.now }
+        ensures some { IfOk result (λ count. 0 < count) }
+        ensures bytes { WriteAppends (W.contents self.old.inner) (W.contents self.new.inner) result bytes.now }
+    {
+        match self.inner.write(bytes) {
+            Ok(count) if count > 0 => Ok(count),
+            _ => {
+                self.failed = true;
+                Err(Failed)
+            }
+        }
+    }
+}

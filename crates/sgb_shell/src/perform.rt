@@ -1,0 +1,69 @@
+//! Does what a line says to the session's journal.
+ghost use Rattle.std.specs.Prelude.{◌≡◌, Some};
+ghost use Rattle.sgb_shell.specs.Line.{line_of};
+ghost use Rattle.sgb_shell.specs.Performing.{IsBegun, Does, answer_from, refusal_from};
+ghost use Rattle.sgb_shell.specs.declared.command.Line.TheVariants.{Change, Undo, Redo};
+
+use crate::answer::Answer;
+use crate::command::{Command, Line, Reply};
+use crate::line::parse;
+use crate::refusal::ShellRefusal;
+use crate::session::Session;
+use sgb_undo::{Journal, JournalRefusal};
+
+/// Reads a line, without its newline, and does what it says.
+pub(crate) fn perform(journal: &mut Journal<Session>, line: &[u8]) -> Answer
+    ensures { IsBegun journal.old → Does journal.old journal.new (line_of line.now) result }
+{
+    match parse(line) {
+        Ok(Line::Nothing) => Answer::Silent,
+        Ok(Line::Change(command)) => change(journal, command),
+        Ok(Line::Undo) => undo(journal),
+        Ok(Line::Redo) => redo(journal),
+        Ok(Line::Ask(query)) => Answer::Asked(query),
+        Err(refusal) => Answer::Refused(refusal),
+    }
+}
+
+fn change(journal: &mut Journal<Session>, command: Command) -> Answer
+    ensures { IsBegun journal.old → Does journal.old journal.new (Some (Change command)) result }
+{
+    let outcome = journal.apply(command);
+    answer_to(outcome)
+}
+
+fn undo(journal: &mut Journal<Session>) -> Answer
+    ensures { IsBegun journal.old → Does journal.old journal.new (Some Undo) result }
+{
+    match journal.undo() {
+        Ok(()) => Answer::Undone,
+        Err(_) => Answer::Refused(ShellRefusal::NothingToUndo),
+    }
+}
+
+fn redo(journal: &mut Journal<Session>) -> Answer
+    ensures { IsBegun journal.old → Does journal.old journal.new (Some Redo) result }
+{
+    let outcome = journal.redo();
+    answer_to(outcome)
+}
+
+fn answer_to(outcome: Result<Reply, JournalRefusal<ShellRefusal>>) -> Answer
+    ensures { result ≡ answer_from outcome }
+{
+    match outcome {
+        Ok(reply) => Answer::Replied(reply),
+        Err(refusal) => Answer::Refused(refusal_of(refusal)),
+    }
+}
+
+fn refusal_of(refusal: JournalRefusal<ShellRefusal>) -> ShellRefusal
+    ensures { result ≡ refusal_from refusal }
+{
+    match refusal {
+        JournalRefusal::NoRoom => ShellRefusal::NoRoom,
+        JournalRefusal::Full => ShellRefusal::JournalFull,
+        JournalRefusal::NothingToRedo => ShellRefusal::NothingToRedo,
+        JournalRefusal::Machine(refusal) => refusal,
+    }
+}

@@ -1,0 +1,33 @@
+//! Prints bytes to a metered writer.
+ghost use Rattle.std.specs.Prelude.{List};
+ghost use Rattle.std.specs.List.{flat_map};
+ghost use Rattle.sgb_shell.specs.Print.{Prints};
+
+use crate::meter::{Failed, MeteredWriter};
+use std::io::Write;
+
+/// Writes all the pieces, one after another.
+pub(crate) fn put_all<W: Write>(
+    writer: &mut MeteredWriter<W>,
+    pieces: &[&[u8]],
+) -> Result<(), Failed>
+    ensures { Prints (W.contents writer.old.inner) (W.contents writer.new.inner) writer.old.failed writer.new.failed
+        result (flat_map (λ piece. piece.now) pieces.now) }
+{
+    for piece in pieces {
+        put(writer, piece)?;
+    }
+    Ok(())
+}
+
+/// Writes all the bytes.
+pub(crate) fn put<W: Write>(writer: &mut MeteredWriter<W>, bytes: &[u8]) -> Result<(), Failed>
+    ensures { Prints (W.contents writer.old.inner) (W.contents writer.new.inner) writer.old.failed writer.new.failed result bytes.now }
+{
+    let mut rest = bytes;
+    while !rest.is_empty() {
+        let count = writer.write(rest)?;
+        (_, rest) = rest.split_at(count);
+    }
+    Ok(())
+}

@@ -1,0 +1,57 @@
+//! The refusals of the session and its script, with their numbers.
+
+use thiserror::Error;
+
+/// Why a line or a command was refused. Whatever was refused has changed nothing.
+#[derive(Clone, Copy, Debug, PartialEq, Eq, Error)]
+pub enum ShellRefusal {
+    #[error("no room")]
+    NoRoom,
+    #[error("bad specification")]
+    BadSpecs,
+    #[error("too large")]
+    TooLarge,
+    #[error("bad command")]
+    ScriptSyntax,
+    #[error("nothing to undo")]
+    NothingToUndo,
+    #[error("nothing to redo")]
+    NothingToRedo,
+    #[error("journal is full")]
+    JournalFull,
+}
+
+impl ShellRefusal {
+    ghost use Rattle.std.specs.Prelude.{◌≡◌};
+    ghost use Rattle.sgb_shell.specs.Refusal.{number_of, text_of};
+
+    /// The number that the transcript prints.
+    pub fn number(&self) -> u8
+        ensures { result ≡ number_of self.now }
+    {
+        match self {
+            ShellRefusal::NoRoom => 1,
+            ShellRefusal::BadSpecs => 30,
+            ShellRefusal::TooLarge => 40,
+            ShellRefusal::ScriptSyntax => 100,
+            ShellRefusal::NothingToUndo => 103,
+            ShellRefusal::NothingToRedo => 104,
+            ShellRefusal::JournalFull => 105,
+        }
+    }
+
+    /// The text that the transcript prints after the number. `Display` prints the same.
+    pub fn text(&self) -> &'static str
+        ensures { result.now ≡ text_of self.now }
+    {
+        match self {
+            ShellRefusal::NoRoom => "no room",
+            ShellRefusal::BadSpecs => "bad specification",
+            ShellRefusal::TooLarge => "too large",
+            ShellRefusal::ScriptSyntax => "bad command",
+            ShellRefusal::NothingToUndo => "nothing to undo",
+            ShellRefusal::NothingToRedo => "nothing to redo",
+            ShellRefusal::JournalFull => "journal is full",
+        }
+    }
+}

@@ -1,0 +1,143 @@
+//! Runs a script from a reader to a writer.
+ghost use Rattle.std.specs.Prelude.{◌≡◌, ◌+◌, ◌<◌, ◌≤◌, ◌^◌, ◌||◌, false, length, take, MatchResult, IfOk, IsErrOf, is_err, vec_capacity, [], List, ℕ};
+ghost use Rattle.sgb_shell.specs.Transcript.{transcript};
+ghost use Rattle.std.specs.Io.KnownBytes.{Consumes, IsAtEnd, Keeps};
+ghost use Rattle.sgb_shell.specs.Reaching.{Progress};
+ghost use Rattle.sgb_shell.specs.Run.{Runs, TakesScript};
+
+use crate::fault::{RunEnd, RunFault};
+use crate::meter::{Failed, MeteredReader, MeteredWriter};
+use crate::shell::Shell;
+use std::alloc::Global;
+use std::io::{Read, Write};
+
+/// The most bytes of a script.
+pub const SCRIPT_LIMIT: usize = 16_777_216;
+
+const CHUNK: usize = 4096;
+
+/// How a run ended, with what it was lent.
+#[derive(Debug, Drop)]
+pub struct Ended<R, W> {
+    /// What came of it.
+    pub end: Result<RunEnd, RunFault>,
+    /// The reader, and how it was used.
+    pub reader: MeteredReader<R>,
+    /// The writer, and how it was used.
+    pub writer: MeteredWriter<W>,
+}
+
+/// Runs the script that the reader gives, and writes its transcript.
+///
+/// At most 16,777,216 bytes are taken, and one further read tells whether more follow. Lines are
+/// answered as they come. Room for one line is taken at the start; where it is refused nothing is
+/// read or written.
+pub fn run<R: Read, W: Write>(alloc: Global, reader: R, writer: W) -> Ended<R, W>
+    ensures runs { Runs (R.remaining reader) (R.remaining result.reader.inner) result.reader.failed result.reader.reads
+        (W.contents writer) (W.contents result.writer.inner) result.writer.failed result.end }
+{
+    let mut reader = MeteredReader::new(reader);
+    let mut writer = MeteredWriter::new(writer);
+    let end = transcribe(alloc, &mut reader, &mut writer);
+    Ended {
+        end,
+        reader,
+        writer,
+    }
+}
+
+/// The transcript of a script in memory. The text may want for memory too, which is a failed write.
+pub fn transcript_of(alloc: Global, script: &[u8]) -> Result<Vec<u8>, RunFault>
+    ensures ok { IfOk result (λ text. (no_room : List ℕ) × (text.items ≡ transcript no_room script.now)) }
+    ensures too_long { IsErrOf result RunFault.TooLong → 16777216 < length script.now }
+{
+    let ended = run(alloc, script, Vec::new(alloc));
+    match ended.end {
+        Ok(_) => Ok(ended.writer.inner),
+        Err(fault) => Err(fault),
+    }
+}
+
+fn transcribe<R: Read, W: Write>(
+    alloc: Global,
+    reader: &mut MeteredReader<R>,
+    writer: &mut MeteredWriter<W>,
+) -> Result<RunEnd, RunFault>
+    requires unread { reader.old.reads ≡ 0 }
+    requires reader { reader.old.failed ≡ false }
+    requires writer { writer.old.failed ≡ false }
+    ensures { Runs (R.remaining reader.old.inner) (R.remaining reader.new.inner) reader.new.failed reader.new.reads
+        (W.contents writer.old.inner) (W.contents writer.new.inner) writer.new.failed result }
+{
+    let Ok(mut shell) = Shell::new(alloc) else {
+        return Err(RunFault::NoRoom);
+    };
+    take_script(&mut shell, reader, writer)?;
+    match shell.end(writer) {
+        Ok(()) => Ok(RunEnd {
+            lines: shell.lines,
+            refused: shell.refused,
+        }),
+        Err(_) => Err(RunFault::Write),
+    }
+}
+
+// Takes all the bytes of the script, and answers each line that a newline ends.
+fn take_script<R: Read, W: Write>(
+    shell: &mut Shell,
+    reader: &mut MeteredReader<R>,
+    writer: &mut MeteredWriter<W>,
+) -> Result<(), RunFault>
+    requires unread { reader.old.reads ≡ 0 }
+    requires reader { reader.old.failed ≡ false }
+    requires writer { writer.old.failed ≡ false }
+    requires room { 8192 ≤ vec_capacity shell.old.line }
+    requires begun { Progress (W.contents writer.old.inner) (W.contents writer.old.inner) []
+        shell.old.journal shell.old.line.items shell.old.is_long shell.old.lines shell.old.refused }
+    ensures { TakesScript (R.remaining reader.old.inner) (R.remaining reader.new.inner) reader.new.failed reader.new.reads
+        (W.contents writer.old.inner) (W.contents writer.new.inner) writer.new.failed
+        shell.new.journal shell.new.line.items shell.new.is_long shell.new.lines shell.new.refused result }
+{
+    let mut chunk = [0u8; CHUNK];
+    let mut room = SCRIPT_LIMIT;
+    while room > 0 {
+        let Ok(count) = read_some(reader, &mut chunk, room) else {
+            return Err(RunFault::Read);
+        };
+        if count == 0 {
+            return Ok(());
+        }
+        room -= count;
+        let (bytes, _) = chunk.split_at(count);
+        if shell.take(writer, bytes).is_err() {
+            return Err(RunFault::Write);
+        }
+    }
+    match read_some(reader, &mut chunk, 1) {
+        Ok(0) => Ok(()),
+        Ok(_) => Err(RunFault::TooLong),
+        Err(_) => Err(RunFault::Read),
+    }
+}
+
+// Makes one read, of at most so many bytes.
+fn read_some<R: Read>(
+    reader: &mut MeteredReader<R>,
+    chunk: &mut [u8],
+    most: usize,
+) -> Result<usize, Failed>
+    requires most { 0 < most }
+    requires chunk { 0 < length chunk.old }
+    requires reads { reader.old.reads < 2 ^ 63 }
+    ensures reads { reader.new.reads ≡ reader.old.reads + 1 }
+    ensures failed { reader.new.failed ≡ (reader.old.failed || is_err result) }
+    ensures bytes { MatchResult result
+        (λ count. (count ≤ most) × (count ≤ length chunk.new)
+        × Consumes (R.remaining reader.old.inner) (R.remaining reader.new.inner) (take count chunk.new)
+        × (count ≡ 0 → IsAtEnd (R.remaining reader.new.inner)))
+        (λ _. Keeps (R.remaining reader.old.inner) (R.remaining reader.new.inner)) }
+{
+    let room = chunk.len().min(most);
+    let (space, _) = chunk.split_at_mut(room);
+    reader.read(space)
+}
