@@ -17,6 +17,9 @@ use Rattle.sgb_graph.specs.Edit.{with_entry, with_listed, with_entry_last, with_
 use Rattle.sgb_graph.specs.Insert.{new_cut}
 use Rattle.sgb_graph.specs.Arena.{Slots, Shows, ShowsVertex, arc_no, slot_at, next_of, next_at, entry_of, owner_in, names_counted}
 use Rattle.sgb_graph.specs.Link.{CanPutBack}
+use Rattle.std.proofs.Common.{min, max}
+use Rattle.std.proofs.lemmas.List.{set-append_left}
+use Rattle.sgb_graph.proofs.PutBack.{put_n, put_made, put_entry_other}
 use Rattle.sgb_graph.proofs.Chains.{Leads-agree}
 use Rattle.sgb_graph.proofs.Sound.{Keeps, IsValue-keeps, IsVertex-keeps, IsArc-keeps, IsEntry-keeps}
 
@@ -115,3 +118,50 @@ new_can g u v len sound from to fits =
 -- what the test before a new arc tells
 pub arc_accepted : (g : GraphOf) (u v : ℕ) → u < n_of g → v < n_of g → made_of g < 1000000 → refusal_of_arc g u v ≡ None
 arc_accepted g u v from to few = rw (lt-ltb u (n_of g) from, lt-ltb v (n_of g) to, le-leb (made_of g + 1) 1000000 (omega arith)) refl
+
+-- a new edge is two arcs put at two new holes, the second first
+abbrev pub first_cut : GraphOf → ℕ → ℕ → ℤ → CutArc
+first_cut g low high len = new_cut (arc_no (made_of g)) (record { 0 = low }) (record { 0 = high }) len
+
+abbrev pub second_cut : GraphOf → ℕ → ℕ → ℤ → CutArc
+second_cut g low high len = new_cut (arc_no (made_of g + 1)) (record { 0 = high }) (record { 0 = low }) len
+
+edge_entries : (es : List (Option ArcOf)) (a b : Option ArcOf) → set (set (es ++ None ∷ [] ++ None ∷ []) (length es + 1) b) (length es) a ≡ es ++ a ∷ [] ++ b ∷ []
+edge_entries es a b =
+    ap (λ fs. set fs (length es) a) (set_at (es ++ None ∷ []) None [] b (length es + 1) (length_push es None))
+    ∙ (set-append_left (es ++ None ∷ []) (b ∷ []) (length es) a (omega (arith, length_push es None))
+    ∙ ap (λ fs. fs ++ b ∷ []) (set_at es None [] a (length es) refl))
+
+pub with_edge_is : (g : GraphOf) (u v : ℕ) (len : ℤ) → with_edge g u v len ≡ with_cut_arc (with_cut_arc (with_hole (with_hole g)) (second_cut g (min u v) (max u v) len)) (first_cut g (min u v) (max u v) len)
+unfolding with_edge with_entry_last with_listed with_cut_arc
+with_edge_is g u v len =
+    let h = with_listed (with_listed g (max u v) 0 (made_of g + 1)) (min u v) 0 (made_of g) in
+    ap (λ es. record h { entries = es }) (sym (edge_entries g.entries (Some (arc_to (max u v) len)) (Some (arc_to (min u v) len))))
+
+pub second_can : (g : GraphOf) (low high : ℕ) (len : ℤ) → IsGraph g → low < n_of g → high < n_of g → FitsSigned w64 len → CanPutBack (with_hole (with_hole g)) (second_cut g low high len)
+second_can g low high len sound from to fits =
+    let h = with_hole (with_hole g) in
+    record {
+      hole = at_hole (with_hole g).entries (made_of g + 1) ∙ (at_hole g.entries (made_of g + 1) ∙ get_or_past g.entries (made_of g + 1) None (omega arith));
+      made = omega (arith, hole_made g, hole_made (with_hole g));
+      owner = to;
+      place = omega arith;
+      arc = zeros_arc (n_of g) h.entries low len from fits
+    }
+
+pub first_can : (g : GraphOf) (low high : ℕ) (len : ℤ) → IsGraph g → low < n_of g → high < n_of g → FitsSigned w64 len → CanPutBack (with_cut_arc (with_hole (with_hole g)) (second_cut g low high len)) (first_cut g low high len)
+first_can g low high len sound from to fits =
+    let h = with_hole (with_hole g) in
+    let c = second_cut g low high len in
+    let k = with_cut_arc h c in
+    let n : n_of k ≡ n_of g = put_n h c in
+    record {
+      hole = put_entry_other h c (made_of g) (λ e. omega (arith, e)) ∙ (at_hole (with_hole g).entries (made_of g) ∙ (at_hole g.entries (made_of g) ∙ get_or_past g.entries (made_of g) None (omega arith)));
+      made = omega (arith, put_made h c, hole_made g, hole_made (with_hole g));
+      owner = omega (arith, n, from);
+      place = omega arith;
+      arc = zeros_arc (n_of k) k.entries high len (omega (arith, n, to)) fits
+    }
+
+pub edge_accepted : (g : GraphOf) (u v : ℕ) → u < n_of g → v < n_of g → made_of g + 1 < 1000000 → refusal_of_edge g u v ≡ None
+edge_accepted g u v from to few = rw (lt-ltb u (n_of g) from, lt-ltb v (n_of g) to, le-leb (made_of g + 2) 1000000 (omega arith)) refl

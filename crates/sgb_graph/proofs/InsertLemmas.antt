@@ -1,5 +1,5 @@
 -- Lemmas on what a new arc or edge leaves of the fields.
-use Rattle.std.proofs.Common.{◌≡◌, ◌≢◌, ◌<◌, ◌≤◌, ◌+◌, ◌-◌, ◌*◌, ℕ, ℤ, zero, suc, List, [], ◌∷◌, ◌++◌, length, Option, Some, None, refl, sym, ap, subst, ◌∙◌, arith, FitsSigned, Vec, to_z, of_z}
+use Rattle.std.proofs.Common.{◌≡◌, ◌≢◌, ◌<◌, ◌≤◌, ◌+◌, ◌-◌, ◌*◌, ℕ, ℤ, zero, suc, List, [], ◌∷◌, ◌++◌, length, Option, Some, None, refl, sym, ap, subst, ◌∙◌, arith, min, max, FitsSigned, Vec, to_z, of_z}
 use Rattle.std.specs.Int.{w64}
 use Rattle.std.specs.Vec.{with_items}
 use Rattle.std.proofs.lemmas.Int.{to_z-of_z}
@@ -12,13 +12,13 @@ use Rattle.sgb_graph.specs.declared.graph.Graph.TheInside.{Inside}
 use Rattle.sgb_graph.specs.declared.delta.CutArc.{CutArc}
 use Rattle.sgb_graph.specs.Graph.{GraphOf, IsGraph, n_of, made_of, m_of}
 use Rattle.sgb_graph.specs.Edit.{with_arc, with_edge, with_cut_arc, with_listed}
-use Rattle.sgb_graph.specs.Insert.{new_cut}
+use Rattle.sgb_graph.specs.Insert.{new_cut, PutsBoth, CanBePutBoth}
 use Rattle.sgb_graph.specs.Arena.{Slots, Shows, IsArena, graph_of, arc_no}
 use Rattle.sgb_graph.specs.Link.{CanPutBack, CanBePutBack, PutsBack}
 use Rattle.sgb_graph.specs.Delta.{LeftByArc, LeftByEdge}
 use Rattle.sgb_graph.proofs.Shows.{Opened, opened, closed, closed_arena}
 use Rattle.sgb_graph.proofs.PutBack.{put_sound, put_m}
-use Rattle.sgb_graph.proofs.Holes.{with_hole, hole_made, hole_m, hole_sound, hole_shows, with_arc_is, new_can, arc_accepted}
+use Rattle.sgb_graph.proofs.Holes.{with_hole, hole_made, hole_m, hole_sound, hole_shows, with_arc_is, new_can, arc_accepted, first_cut, second_cut, first_can, second_can, with_edge_is, edge_accepted}
 
 -- the fields before and after a step between two graphs of one id, types and own fields
 pub record SameOwn (a b : Inside) : Type 0 where
@@ -42,6 +42,16 @@ put_after b h c sound can shows live id types fields =
 
 pub new_cut_is : (u v : VertexNo) (z : ℤ) {c : CutArc} {n m : ℕ} → FitsSigned w64 z → c ≡ new_cut (arc_no n) u v (to_z w64 (of_z w64 z)) → n ≡ m → c ≡ new_cut (arc_no m) u v z
 new_cut_is u v z fits is same = is ∙ (ap (new_cut (arc_no _) u v) (to_z-of_z w64 z fits) ∙ ap (λ k. new_cut (arc_no k) u v z) same)
+
+abbrev cut_at : ℕ → ℕ → ℕ → ℤ → CutArc
+cut_at n u v z = new_cut (arc_no n) (record { 0 = u }) (record { 0 = v }) z
+
+pub new_cut_at : (z : ℤ) (c : CutArc) (n m u x v y : ℕ) → FitsSigned w64 z → c ≡ cut_at n u v (to_z w64 (of_z w64 z)) → n ≡ m → u ≡ x → v ≡ y → c ≡ cut_at m x y z
+new_cut_at z c n m u x v y fits is same from to =
+    is
+    ∙ (ap (cut_at n u v) (to_z-of_z w64 z fits)
+    ∙ (ap (λ k. cut_at k u v z) same
+    ∙ (ap (λ k. cut_at m k v z) from ∙ ap (λ k. cut_at m x k z) to)))
 
 -- what `new_arc` knows before it links the arc
 pub record NewArcCan (a : Inside) (g : GraphOf) (u v : VertexNo) (z : ℤ) (c : CutArc) (vs : List Vertex) (ss : Slots) : Type 0 where
@@ -98,6 +108,85 @@ new_arc_done a b g u v z c vs ws ss ts number k puts vertices slots live own is 
         accepted = arc_accepted g u.0 v.0 k.from k.to k.few;
         number = is;
         left = closed b (with_arc g u.0 v.0 z) o
+      };
+      sound = arena.graph
+    }
+
+-- what `new_edge` knows before it links its arcs
+pub record NewEdgeCan (a : Inside) (g : GraphOf) (u v : VertexNo) (z : ℤ) (c d : CutArc) (vs : List Vertex) (ss : Slots) : Type 0 where
+  pub opened : Opened a g
+  pub from : u.0 < n_of g
+  pub to : v.0 < n_of g
+  pub few : made_of g + 1 < 1000000
+  pub fits : FitsSigned w64 z
+  pub second : c ≡ second_cut g (min u.0 v.0) (max u.0 v.0) z
+  pub first : d ≡ first_cut g (min u.0 v.0) (max u.0 v.0) z
+  pub vertices : vs ≡ a.vertices.items
+  pub slots : ss ≡ a.slots.items ++ None ∷ [] ++ None ∷ []
+
+pub record EdgeCan (h : GraphOf) (c d : CutArc) (vs : List Vertex) (ss : Slots) : Type 0 where
+  pub sound : IsGraph h
+  pub shows : Shows vs ss h
+  pub can : CanPutBack h c
+  pub next : CanPutBack (with_cut_arc h c) d
+
+pub new_edge_can : (a : Inside) (g : GraphOf) (u v : VertexNo) (z : ℤ) (c d : CutArc) (vs : List Vertex) (ss : Slots) → NewEdgeCan a g u v z c d vs ss → EdgeCan (with_hole (with_hole g)) c d vs ss
+new_edge_can a g u v z c d vs ss k =
+    let low = min u.0 v.0 in
+    let high = max u.0 v.0 in
+    let h = with_hole g in
+    let below : low < n_of g = omega (arith, k.from, k.to) in
+    let above : high < n_of g = omega (arith, k.from, k.to) in
+    record {
+      sound = hole_sound h (hole_sound g k.opened.graph (omega (arith, k.few))) (omega (arith, hole_made g, k.few));
+      shows = rw (k.vertices, k.slots) (hole_shows a.vertices.items (a.slots.items ++ None ∷ []) h (hole_shows a.vertices.items a.slots.items g k.opened.shows));
+      can = subst (CanPutBack (with_hole h)) (sym k.second) (second_can g low high z k.opened.graph below above k.fits);
+      next =
+        subst (λ x. CanPutBack (with_cut_arc (with_hole h) x) d) (sym k.second)
+        (subst (CanPutBack (with_cut_arc (with_hole h) (second_cut g low high z))) (sym k.first) (first_can g low high z k.opened.graph below above k.fits))
+    }
+
+pub new_edge_requires : (a : Inside) (g : GraphOf) (u v : VertexNo) (z : ℤ) (c d : CutArc) (vs : List Vertex) (ss : Slots) → NewEdgeCan a g u v z c d vs ss → CanBePutBoth vs ss c d
+new_edge_requires a g u v z c d vs ss k =
+    let x = new_edge_can a g u v z c d vs ss k in
+    record { graph = with_hole (with_hole g); sound = x.sound; shows = x.shows; can = x.can; next = x.next }
+
+pub new_edge_after : (a b : Inside) (g : GraphOf) (u v : VertexNo) (z : ℤ) (c d : CutArc) (vs ws : List Vertex) (ss ts : Slots) → NewEdgeCan a g u v z c d vs ss
+  → PutsBoth vs ss c d ws ts → b.vertices.items ≡ ws → b.slots.items ≡ ts → b.live ≡ a.live + 2 → SameOwn a b → Opened b (with_edge g u.0 v.0 z)
+unfolding with_cut_arc with_listed
+new_edge_after a b g u v z c d vs ws ss ts k puts vertices slots live own =
+    let x = new_edge_can a g u v z c d vs ss k in
+    let h = with_hole (with_hole g) in
+    let h1 = with_cut_arc h c in
+    let shows : Shows b.vertices.items b.slots.items (with_cut_arc h1 d) = rw (vertices, slots) (puts h x.shows x.sound x.can x.next) in
+    let o = k.opened in
+    let count : b.live ≡ m_of h1 + 1 = omega (arith, live, o.live, put_m h c x.can, hole_m g, hole_m (with_hole g)) in
+    let after : Opened b (with_cut_arc h1 d) = put_after b h1 d (put_sound h c x.sound x.can) x.next shows count (own.id ∙ o.id) (own.types ∙ o.types) (own.fields ∙ o.fields) in
+    subst (Opened b)
+    (ap (λ y. with_cut_arc (with_cut_arc h y) d) k.second
+      ∙ (ap (with_cut_arc (with_cut_arc h (second_cut g (min u.0 v.0) (max u.0 v.0) z))) k.first ∙ sym (with_edge_is g u.0 v.0 z)))
+    after
+
+pub record NewEdgeDone (b : Inside) (g : GraphOf) (u v : VertexNo) (z : ℤ) (number : ArcNo) : Type 0 where
+  pub arena : IsArena b
+  pub graph : graph_of b ≡ with_edge g u.0 v.0 z
+  pub left : LeftByEdge g number (graph_of b)
+  pub sound : IsGraph (graph_of b)
+
+pub new_edge_done : (a b : Inside) (g : GraphOf) (u v : VertexNo) (z : ℤ) (c d : CutArc) (vs ws : List Vertex) (ss ts : Slots) (number : ArcNo) → NewEdgeCan a g u v z c d vs ss
+  → PutsBoth vs ss c d ws ts → b.vertices.items ≡ ws → b.slots.items ≡ ts → b.live ≡ a.live + 2 → SameOwn a b → number ≡ arc_no (made_of g) → NewEdgeDone b g u v z number
+new_edge_done a b g u v z c d vs ws ss ts number k puts vertices slots live own is =
+    let o = new_edge_after a b g u v z c d vs ws ss ts k puts vertices slots live own in
+    let arena = closed_arena b (with_edge g u.0 v.0 z) o in
+    record {
+      arena = arena;
+      graph = closed b (with_edge g u.0 v.0 z) o;
+      left = record {
+        from = u.0; to = v.0; len = z;
+        graph = k.opened.graph;
+        accepted = edge_accepted g u.0 v.0 k.from k.to k.few;
+        number = is;
+        left = closed b (with_edge g u.0 v.0 z) o
       };
       sound = arena.graph
     }
