@@ -117,3 +117,13 @@ sum_zero f xs none =
 
 pub zero_of_sum : {X : Type 0} (f : X → ℕ) (xs : List X) (k : ℕ) (d : X) → sum_by f xs ≡ 0 → k < length xs → f (get_or xs k d) ≡ 0
 zero_of_sum f xs k d none h = omega (arith, get_or-le-sum_by f xs k d h)
+
+-- no number that stands once stands at two places
+pub two_places : (ks : List ℕ) (i j : ℕ) → i < j → j < length ks → get_or ks i 0 ≡ get_or ks j 0 → occurrences (get_or ks i 0) ks ≤ 1 → ⊥
+two_places ks i j low high same once =
+    let k = get_or ks i 0 in
+    let one : ℕ → ℕ = λ x. cond (x == k) 1 0 in
+    let both : one (get_or ks i 0) + one (get_or ks j 0) ≤ occurrences k ks = sum_two one ks i j 0 low high in
+    let first : one (get_or ks i 0) ≡ 1 = ap (λ b. cond b 1 0) (eq-eqb (get_or ks i 0) k refl) in
+    let second : one (get_or ks j 0) ≡ 1 = ap (λ b. cond b 1 0) (eq-eqb (get_or ks j 0) k (sym same)) in
+    omega (arith, both, first, second)

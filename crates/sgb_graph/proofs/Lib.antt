@@ -7,5 +7,7 @@ pub mod NewLemmas
 pub mod PutBack
 pub mod Shows
 pub mod ShowsPut
+pub mod ShowsTake
 pub mod Slots
 pub mod Sound
+pub mod TakeOut

@@ -85,7 +85,7 @@ before_cases ks (suc i) before is h =
       within = omega arith
     })
 
-next_of_live : (link : Option ArcNo) (o : Option Slot) → is_some (entry_of o) ≡ true → next_of (with_next link o) ≡ link
+pub next_of_live : (link : Option ArcNo) (o : Option Slot) → is_some (entry_of o) ≡ true → next_of (with_next link o) ≡ link
 next_of_live link None live = absurd cc
 next_of_live link (Some s) live = refl
 
@@ -272,7 +272,7 @@ gained ss us k n two known =
     subst (λ z. IfSome (names_counted (slot_at (slots_gaining_both ss us) k)) (λ m. m ≡ z)) sum
     (counted_more (slots_gaining ss (value_at us 0)) (value_at us 1) k (n + one_name k (value_at us 0)) (counted_more ss (value_at us 0) k n known))
 
-length-vertices_relinked : (vs : List Vertex) (v : ℕ) (before link : Option ArcNo) → length (vertices_relinked vs v before link) ≡ length vs
+pub length-vertices_relinked : (vs : List Vertex) (v : ℕ) (before link : Option ArcNo) → length (vertices_relinked vs v before link) ≡ length vs
 length-vertices_relinked vs v None link = length-set vs v (record (vertex_in vs v) { first = link })
 length-vertices_relinked vs v (Some p) link = refl
 

@@ -1,8 +1,8 @@
 //! Linking arcs into the lists of their owners, and out of them.
-ghost use Rattle.std.specs.Prelude.{◌≡◌, ◌<◌, ◌≤◌, ◌^◌, ◌-◌, ◌==◌, length, IfSome, Some};
+ghost use Rattle.std.specs.Prelude.{◌≡◌, ◌<◌, ◌≤◌, ◌^◌, ◌-◌, ◌==◌, length, IfSome, IsSome, None, Some, slice_set};
 ghost use Rattle.std.specs.List.{position_or_len};
 ghost use Rattle.std.specs.Option.{ForSome};
-ghost use Rattle.sgb_graph.specs.Arena.{IsLinked, numbers, next_at};
+ghost use Rattle.sgb_graph.specs.Arena.{IsLinked, numbers, next_at, slot_at, owner_in};
 ghost use Rattle.sgb_graph.specs.Link.{number_before, link_after, vertices_relinked, slots_relinked, slots_gaining, slots_losing, slots_gaining_both, slots_losing_both, value_at, IsCounted, PutsBack, CanBePutBack, TakesOut, CanBeTakenOut};
 
 use std::mem;
@@ -136,4 +136,57 @@ pub(super) fn put_back(vertices: &mut [Vertex], slots: &mut [Option<Slot>], cut:
         len,
         fields,
     });
+}
+
+// The owner of a live arc.
+fn owner_at(slots: &[Option<Slot>], number: ArcNo) -> VertexNo
+    requires { IsSome (slot_at slots.now number.0) }
+    ensures { owner_in (slot_at slots.now number.0) ≡ Some result }
+{
+    match &slots[number.0 as usize] {
+        Some(slot) => slot.owner,
+        None => unreachable!(),
+    }
+}
+
+// Makes the number of a live arc a hole.
+fn remove_slot(slots: &mut [Option<Slot>], number: ArcNo) -> Slot
+    requires { IsSome (slot_at slots.old number.0) }
+    ensures slot { slot_at slots.old number.0 ≡ Some result }
+    ensures slots { slots.new ≡ slice_set slots.old number.0 None }
+{
+    match mem::replace(&mut slots[number.0 as usize], None) {
+        Some(slot) => slot,
+        None => unreachable!(),
+    }
+}
+
+// Takes the arc out of its owner's list, and makes its number a hole.
+pub(super) fn take_out(vertices: &mut [Vertex], slots: &mut [Option<Slot>], number: ArcNo) -> CutArc
+    requires { CanBeTakenOut vertices.old slots.old number.0 }
+    ensures { TakesOut vertices.old slots.old number.0 result vertices.new slots.new }
+{
+    let owner = owner_at(slots, number);
+    let first = vertices[owner.0 as usize].first;
+    let place = place_in(slots, first, number);
+    let before = number_before(slots, first, place);
+    let slot = remove_slot(slots, number);
+    replace_link(vertices, slots, owner, before, slot.next);
+    lose_names(slots, &slot.fields);
+    let Slot {
+        owner,
+        tip,
+        next: _,
+        names: _,
+        len,
+        fields,
+    } = slot;
+    CutArc {
+        number,
+        owner,
+        place,
+        tip,
+        len,
+        fields,
+    }
 }
