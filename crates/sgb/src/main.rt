@@ -1,0 +1,54 @@
+//! The program `sgb`, which runs scripts on a session of graphs.
+#![tactic(auto)]
+
+mod command_line;
+mod complaint;
+mod transcript;
+
+use command_line::{Task, read_task};
+use complaint::Complaint;
+use sgb_shell::{RunFault, exit_status};
+use std::env;
+use std::fs::File;
+use std::process::ExitCode;
+use transcript::print_transcript;
+
+fn main(rt: HostRuntime) -> ExitCode {
+    let words = match words(&rt) {
+        Ok(words) => words,
+        Err(complaint) => return complain(&rt, complaint),
+    };
+    match perform(&rt, words.as_slice()) {
+        Ok(all_accepted) => ExitCode::from(exit_status(&Ok(all_accepted))),
+        Err(complaint) => complain(&rt, complaint),
+    }
+}
+
+// The words of the command line.
+fn words(rt: &HostRuntime) -> Result<Vec<String>, Complaint<'static>> {
+    let mut words = Vec::new(rt.alloc());
+    for word in env::args(rt)? {
+        words.push(word)?;
+    }
+    Ok(words)
+}
+
+// Does what the command line asks for, and answers whether no line was refused.
+fn perform<'a>(rt: &HostRuntime, words: &'a [String]) -> Result<bool, Complaint<'a>> {
+    match read_task(rt, words)? {
+        Task::Explained => Ok(true),
+        Task::Run(None) => Ok(print_transcript(rt, rt.reader())?),
+        Task::Run(Some(name)) => {
+            let Ok(file) = File::open(rt, name) else {
+                return Err(Complaint::CannotOpen(name));
+            };
+            Ok(print_transcript(rt, file)?)
+        }
+    }
+}
+
+// One line on standard error, and the status of a fault.
+fn complain(rt: &HostRuntime, complaint: Complaint<'_>) -> ExitCode {
+    let _ = eprintln!(rt; "sgb: {complaint}");
+    ExitCode::from(exit_status(&Err(RunFault::Read)))
+}
