@@ -3,6 +3,7 @@ pub mod Counts
 pub mod Graphs
 pub mod Holes
 pub mod InsertLemmas
+pub mod Laws
 pub mod NewLemmas
 pub mod PutBack
 pub mod Shows

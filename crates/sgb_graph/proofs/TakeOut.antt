@@ -133,7 +133,7 @@ values_without : (n : ℕ) (es : List (Option ArcOf)) (k : ℕ) (us : List Util)
 values_without n es k us none all i d h =
     IsValue-without n es k (get_or us i d) (false_of_zero (is_name k (get_or us i d)) (zero_of_sum (λ u. cond (is_name k u) 1 0) us i d none h)) (all i d h)
 
-entry_without : (n : ℕ) (es : List (Option ArcOf)) (k : ℕ) (o : Option ArcOf) → names_in_entry k o ≡ 0 → IfSome o (IsArc n es) → IfSome o (IsArc n (set es k None))
+pub entry_without : (n : ℕ) (es : List (Option ArcOf)) (k : ℕ) (o : Option ArcOf) → names_in_entry k o ≡ 0 → IfSome o (IsArc n es) → IfSome o (IsArc n (set es k None))
 entry_without n es k None none x = tt
 entry_without n es k (Some e) none x =
     record { tip = x.tip; len = x.len; two = x.two; values = values_without n es k e.fields none x.values }
