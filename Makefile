@@ -40,6 +40,20 @@ tests/out/refuse_growth.so: tests/refuse_growth.c
 	mkdir -p tests/out
 	$(CC) -O2 -shared -fPIC -o $@ $<
 
+# Times the generator beside the same one in plain C, in one run on one machine. No part of the gate.
+bench: bench/out/plain_flip
+	mkdir -p bench/out/crates/flip_bench/src
+	rm -rf bench/out/crates/sgb_flip
+	cp -r crates/sgb_flip bench/out/crates/sgb_flip
+	cp bench/flip/main.rt bench/out/crates/flip_bench/src/main.rt
+	printf 'sgb_flip:\nflip_bench: sgb_flip\n' > bench/out/crates.txt
+	cd bench/out/crates/flip_bench && rt run > ../../first_run
+	python3 bench/compare.py bench/out/crates/flip_bench/out/flip_bench bench/out/plain_flip
+
+bench/out/plain_flip: bench/plain_flip.c
+	mkdir -p bench/out
+	$(CC) -O3 -o $@ $<
+
 install: bin/sgb
 	mkdir -p $(PREFIX)/bin
 	cp bin/sgb $(PREFIX)/bin/sgb

@@ -1,0 +1,34 @@
+#!/usr/bin/env python3
+"""Runs benchmarks in turn, and compares the best time of each call.
+
+    compare.py OURS PLAIN
+
+Each prints lines NAME PICOSECONDS CHECK. The ratio is ours to the plain one: below 1 ours is faster.
+"""
+import subprocess
+import sys
+
+
+def best(programs, rounds=3):
+    times = [{} for _ in programs]
+    for _ in range(rounds):
+        for program, known in zip(programs, times):
+            output = subprocess.run([program], stdout=subprocess.PIPE, check=True).stdout.decode()
+            for line in output.splitlines():
+                name, time, _ = line.split()
+                known[name] = min(int(time), known.get(name, int(time)))
+    return times
+
+
+def main():
+    ours, plain = best(sys.argv[1:3])
+    print('%-16s %10s %10s %7s' % ('', 'ours, ns', 'plain, ns', 'ratio'))
+    for name in ours:
+        print('%-16s %10.3f %10.3f %7.2f' % (name, ours[name] / 1000, plain[name] / 1000,
+                                            ours[name] / plain[name]))
+    print('back to next: %.2f; back_by to back: %.2f' % (ours['back'] / ours['next'],
+                                                       ours['back_by'] / ours['back']))
+
+
+if __name__ == '__main__':
+    main()
