@@ -3,7 +3,7 @@ use Rattle.std.proofs.Common.{◌≡◌, ◌≢◌, ◌<◌, ◌≤◌, ◌+◌,
 use Rattle.std.specs.List.{insert, remove, sum_by, count_by, list_any}
 use Rattle.std.proofs.lemmas.List.{take-append-drop, get_or-take, get_or-drop, length-take, length-drop}
 use Rattle.std.proofs.lemmas.List.Sums.{sum_by-cons, sum_by-take-drop, get_or-le-sum_by, sum_by-le}
-use Rattle.std.proofs.lemmas.Bool.{cases_Bool, eq-eqb, ne_eqb, eqb-true, eqb-false, cases_order, cases_eq}
+use Rattle.std.proofs.lemmas.Bool.{cases_Bool, eq-eqb, ne_eqb, eqb-true, eqb-false, cases_order, cases_eq, cases_lt}
 use Rattle.sgb_graph.specs.Graph.{occurrences}
 
 -- one more element
@@ -127,3 +127,14 @@ two_places ks i j low high same once =
     let first : one (get_or ks i 0) ≡ 1 = ap (λ b. cond b 1 0) (eq-eqb (get_or ks i 0) k refl) in
     let second : one (get_or ks j 0) ≡ 1 = ap (λ b. cond b 1 0) (eq-eqb (get_or ks j 0) k (sym same)) in
     omega (arith, both, first, second)
+
+-- a sum that is not zero has a part that is not
+pub sum_some : {X : Type 0} (f : X → ℕ) (xs : List X) (d : X) → 0 < sum_by f xs → (i : ℕ) × (i < length xs) × (0 < f (get_or xs i d))
+sum_some f [] d h = absurd (omega arith)
+sum_some f (x ∷ xs) d h =
+    elim (cases_lt 0 (f x)) [
+      inl here ↦ (0, omega arith, here)
+    | inr none ↦
+        let r = sum_some f xs d (omega (arith, sum_by-cons f x xs)) in
+        (suc r.0, omega (arith, r.1), r.2)
+    ]

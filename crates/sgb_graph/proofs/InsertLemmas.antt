@@ -106,6 +106,7 @@ new_arc_done a b g u v z c vs ws ss ts number k puts vertices slots live own is 
         from = u.0; to = v.0; len = z;
         graph = k.opened.graph;
         accepted = arc_accepted g u.0 v.0 k.from k.to k.few;
+        fits = k.fits;
         number = is;
         left = closed b (with_arc g u.0 v.0 z) o
       };
@@ -185,6 +186,7 @@ new_edge_done a b g u v z c d vs ws ss ts number k puts vertices slots live own 
         from = u.0; to = v.0; len = z;
         graph = k.opened.graph;
         accepted = edge_accepted g u.0 v.0 k.from k.to k.few;
+        fits = k.fits;
         number = is;
         left = closed b (with_edge g u.0 v.0 z) o
       };

@@ -1,5 +1,6 @@
 pub mod Chains
 pub mod Counts
+pub mod CutLemmas
 pub mod Graphs
 pub mod Holes
 pub mod InsertLemmas

@@ -11,7 +11,7 @@ use Rattle.sgb_graph.specs.declared.field.Util.TheVariants.{Zero, Int, Vertex, A
 use Rattle.sgb_graph.specs.Graph.{GraphOf, VertexOf, ArcOf, IsGraph, IsVertex, IsArc, IsValue, n_of, made_of, m_of, vertex_at, no_vertex, arcs_of, arc_at, has_arc, occurrences, listings, is_name, names_in, names_in_entry, names_of}
 use Rattle.sgb_graph.specs.Edit.{with_vertex, with_entry, with_arcs, without_listed, without_arc, owner_of, place_of, entry_at, arc_or, no_arc}
 use Rattle.sgb_graph.specs.Link.{CanTakeOut}
-use Rattle.sgb_graph.proofs.Counts.{sum_zero, zero_of_sum, occurs_yes, occurs_no}
+use Rattle.sgb_graph.proofs.Counts.{sum_zero, zero_of_sum, occurs_yes, occurs_no, sum_some}
 use Rattle.sgb_graph.proofs.Graphs.{made_of_live, Listed, listed_live, owner_is}
 use Rattle.sgb_graph.proofs.Sound.{All-set, entry_same, entry_other}
 
@@ -65,6 +65,13 @@ found g k v sound h =
       once = subst (λ w. occurrences k (arcs_of g w) ≡ 1) is it.once;
       entry = some_entry (arc_at g k) it.live
     }
+
+-- a live arc is found
+pub found_live : (g : GraphOf) (k : ℕ) → IsGraph g → has_arc g k ≡ true → Found g k
+found_live g k sound live =
+    let one : listings k g.vertices ≡ 1 = sound.listed k ∙ ap (λ b. cond b 1 0) live in
+    let s = sum_some (λ v. occurrences k v.arcs) g.vertices no_vertex (omega (arith, one)) in
+    found g k s.0 sound s.2
 
 -- the owner without the arc
 abbrev pub owner_without : GraphOf → ℕ → VertexOf

@@ -33,6 +33,7 @@ pub record LeftByArc (g : GraphOf) (k : ArcNo) (h : GraphOf) : Type 0 where
   pub len : ℤ
   pub graph : IsGraph g
   pub accepted : refusal_of_arc g from to ≡ None
+  pub fits : FitsSigned w64 len
   pub number : k ≡ record { 0 = made_of g }
   pub left : h ≡ with_arc g from to len
 
@@ -42,6 +43,7 @@ pub record LeftByEdge (g : GraphOf) (k : ArcNo) (h : GraphOf) : Type 0 where
   pub len : ℤ
   pub graph : IsGraph g
   pub accepted : refusal_of_edge g from to ≡ None
+  pub fits : FitsSigned w64 len
   pub number : k ≡ record { 0 = made_of g }
   pub left : h ≡ with_edge g from to len
 

@@ -13,5 +13,6 @@ pub mod New
 pub mod Paired
 pub mod Read
 pub mod Refusal
+pub mod Revert
 pub mod Text
 pub mod Types

@@ -1,10 +1,12 @@
 //! Graphs.
 
 mod arcs;
+mod cut;
 mod insert;
 mod link;
 mod new;
 mod read;
+mod revert;
 
 pub use arcs::Arcs;
 pub use read::ArcView;

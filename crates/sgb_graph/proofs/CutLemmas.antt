@@ -1,0 +1,240 @@
+-- Lemmas on what cutting an arc, and undoing an edit, leave of the fields.
+use Rattle.std.proofs.Common.{◌≡◌, ◌≢◌, ◌<◌, ◌≤◌, ◌+◌, ◌-◌, ◌*◌, ℕ, ℤ, zero, suc, List, [], ◌∷◌, ◌++◌, length, get_or, take, Option, Some, None, is_some, IsSome, Bool, true, false, ◌&&◌, ◌==◌, nat_le, refl, sym, ap, subst, ◌∙◌, arith, FitsSigned, Vec, to_z, of_z}
+use Rattle.std.specs.Int.{w64}
+use Rattle.sgb_graph.specs.declared.field.VertexNo.{VertexNo}
+use Rattle.sgb_graph.specs.declared.field.ArcNo.{ArcNo}
+use Rattle.sgb_graph.specs.declared.graph.Vertex.{Vertex}
+use Rattle.sgb_graph.specs.declared.graph.Slot.{Slot}
+use Rattle.sgb_graph.specs.declared.graph.Graph.TheInside.{Inside}
+use Rattle.sgb_graph.specs.declared.delta.CutArc.{CutArc}
+use Rattle.sgb_graph.specs.Graph.{GraphOf, IsGraph, n_of, made_of, m_of, arc_at, has_arc, names_of}
+use Rattle.sgb_graph.specs.Edit.{without_arc, without_listed, with_cut_arc, with_listed, refusal_of_cut}
+use Rattle.sgb_graph.specs.Delta.{cut_arc, LeftByArc, LeftByEdge, LeftByCut}
+use Rattle.sgb_graph.specs.Arena.{Slots, Shows, IsArena, graph_of, arc_no, slot_at, entry_of, owner_in}
+use Rattle.sgb_graph.specs.Link.{any_vertex, CanTakeOut, CanBeTakenOut, TakesOut, CanPutBack, CanBePutBack, PutsBack}
+use Rattle.sgb_graph.proofs.Shows.{Opened, opened, closed, closed_arena}
+use Rattle.std.proofs.Common.{IfSome, ◌⊎◌, inl, inr}
+use Rattle.std.proofs.lemmas.Bool.{and_parts, ltb-true, leb-true, eqb-true, cases_Bool, cases_order}
+use Rattle.std.proofs.lemmas.List.{get_or_past, get_or-take, length-take-le}
+use Rattle.sgb_graph.specs.declared.refusal.Refusal.TheVariants.{BadOperand, TooLarge}
+use Rattle.sgb_graph.specs.Graph.{arcs_of, occurrences}
+use Rattle.sgb_graph.specs.Edit.{refusal_unless}
+use Rattle.sgb_graph.specs.Arena.{next_of, next_at, names_counted}
+use Rattle.sgb_graph.proofs.Chains.{Leads-agree}
+use Rattle.sgb_graph.proofs.Holes.{with_hole, at_hole, hole_made, hole_names, hole_m, hole_sound, new_can, with_arc_is}
+use Rattle.sgb_graph.specs.Graph.{has_vertex, names_in}
+use Rattle.sgb_graph.specs.Edit.{refusal_of_arc, with_arc, with_entry_last}
+use Rattle.sgb_graph.specs.Insert.{new_cut}
+use Rattle.sgb_graph.proofs.PutBack.{put_entry_same, put_names}
+use Rattle.sgb_graph.proofs.Sound.{hole_unnamed}
+use Rattle.sgb_graph.proofs.Laws.{cut_can, with_cut_arc-without_arc, without_arc-with_cut_arc}
+use Rattle.sgb_graph.proofs.InsertLemmas.{SameOwn, put_after}
+use Rattle.sgb_graph.proofs.TakeOut.{Found, found_live, take_sound, take_m}
+
+-- what `cut` knows before it takes the arc out
+pub record CutCan (a : Inside) (g : GraphOf) (k : ℕ) (vs : List Vertex) (ss : Slots) : Type 0 where
+  pub opened : Opened a g
+  pub can : CanTakeOut g k
+  pub vertices : vs ≡ a.vertices.items
+  pub slots : ss ≡ a.slots.items
+
+pub cut_requires : (a : Inside) (g : GraphOf) (k : ℕ) (vs : List Vertex) (ss : Slots) → CutCan a g k vs ss → CanBeTakenOut vs ss k
+cut_requires a g k vs ss x =
+    record { graph = g; sound = x.opened.graph; shows = rw (x.vertices, x.slots) x.opened.shows; can = x.can }
+
+pub record CutLeft (b : Inside) (g : GraphOf) (k : ℕ) (c : CutArc) : Type 0 where
+  pub arena : IsArena b
+  pub graph : graph_of b ≡ without_arc g k
+  pub delta : c ≡ cut_arc g k
+  pub left : LeftByCut g c (graph_of b)
+  pub sound : IsGraph (graph_of b)
+
+pub cut_left : (a b : Inside) (g : GraphOf) (k : ℕ) (c : CutArc) (vs ws : List Vertex) (ss ts : Slots) → CutCan a g k vs ss → refusal_of_cut g k ≡ None
+  → TakesOut vs ss k c ws ts → b.vertices.items ≡ ws → b.slots.items ≡ ts → b.live ≡ a.live - 1 → SameOwn a b → CutLeft b g k c
+unfolding without_arc without_listed
+cut_left a b g k c vs ws ss ts x accepted takes vertices slots live own =
+    let o = x.opened in
+    let h = without_arc g k in
+    let shown : Shows vs ss g = rw (x.vertices, x.slots) o.shows in
+    let f = found_live g k o.graph x.can.live in
+    let t = takes g shown o.graph x.can in
+    let after : Opened b h = record {
+      graph = take_sound g k o.graph x.can f;
+      shows = rw (vertices, slots) t.1;
+      live = omega (arith, live, o.live, take_m g k f);
+      id = own.id ∙ o.id;
+      types = own.types ∙ o.types;
+      fields = own.fields ∙ o.fields
+    } in
+    let arena = closed_arena b h after in
+    let number : c.number.0 ≡ k = ap (λ z. z.number.0) t.0 in
+    record {
+      arena = arena;
+      graph = closed b h after;
+      delta = t.0;
+      left = record {
+        graph = o.graph;
+        accepted = ap (refusal_of_cut g) number ∙ accepted;
+        arc = t.0 ∙ ap (cut_arc g) (sym number);
+        left = closed b h after ∙ ap (without_arc g) (sym number)
+      };
+      sound = arena.graph
+    }
+
+-- what the test before a cut tells
+pub can_cut_is : (g : GraphOf) (k : ℕ) → (has_arc g k && (names_of g k == 0)) ≡ true → CanTakeOut g k
+can_cut_is g k both =
+    let p = and_parts (has_arc g k) (names_of g k == 0) both in
+    record { live = p.0; unnamed = eqb-true (names_of g k) 0 p.1 }
+
+pub cut_accepted : (g : GraphOf) (k : ℕ) → (has_arc g k && (names_of g k == 0)) ≡ true → refusal_of_cut g k ≡ None
+cut_accepted g k both = ap (λ b. refusal_unless b BadOperand None) both
+
+-- the last number, a hole, is taken back
+no_slot : (o : Option Slot) → entry_of o ≡ None → o ≡ None
+no_slot None none = refl
+no_slot (Some s) none = absurd cc
+
+pub take_hole : (vs : List Vertex) (ts : Slots) (g : GraphOf) → Shows vs ts (with_hole g) → Shows vs (take (made_of g) ts) g
+take_hole vs ts g x =
+    let m = made_of g in
+    let us = take m ts in
+    let size : length ts ≡ m + 1 = x.made ∙ hole_made g in
+    let size' : length us ≡ m = length-take-le m ts (omega arith) in
+    let same : (j : ℕ) → slot_at us j ≡ slot_at ts j = λ j.
+      elim (cases_order j m) [
+        inl here ↦
+          get_or_past us j None (omega arith)
+          ∙ sym (ap (slot_at ts) here ∙ no_slot (slot_at ts m) (x.entries m ∙ (at_hole g.entries m ∙ get_or_past g.entries m None (omega arith))))
+      | inr (inl low) ↦ get_or-take m ts j None low
+      | inr (inr high) ↦ get_or_past us j None (omega arith) ∙ sym (get_or_past ts j None (omega arith))
+      ] in
+    record {
+      n = x.n;
+      vertices = λ v d h.
+        let y = x.vertices v d h in
+        record {
+          label = y.label; fields = y.fields;
+          arcs = Leads-agree (next_at ts) (next_at us) (get_or vs v d).first (arcs_of g v) None (λ j _. ap next_of (same j)) y.arcs
+        };
+      made = size';
+      entries = λ j. ap entry_of (same j) ∙ (x.entries j ∙ at_hole g.entries j);
+      owners = λ j. subst (λ o. IfSome (owner_in o) (λ v. occurrences j (arcs_of g v.0) ≡ 1)) (sym (same j)) (x.owners j);
+      names = λ j. subst (λ o. IfSome (names_counted o) (λ m. m ≡ names_of g j)) (sym (same j))
+        (subst (λ z. IfSome (names_counted (slot_at ts j)) (λ m. m ≡ z)) (hole_names g j) (x.names j))
+    }
+
+-- undoing a cut
+pub record RevertCan (a : Inside) (h : GraphOf) (vs : List Vertex) (ss : Slots) : Type 0 where
+  pub opened : Opened a h
+  pub vertices : vs ≡ a.vertices.items
+  pub slots : ss ≡ a.slots.items
+
+pub cut_taken : (g h : GraphOf) (c : CutArc) → LeftByCut g c h → CanTakeOut g c.number.0
+cut_taken g h c left =
+    elim (cases_Bool (has_arc g c.number.0 && (names_of g c.number.0 == 0))) [
+      inl e ↦ can_cut_is g c.number.0 e
+    | inr e ↦ absurd (let no_cut = ap (λ b. refusal_unless b BadOperand None) e in let accepted = left.accepted in cc)
+    ]
+
+pub revert_cut_can : (g h : GraphOf) (c : CutArc) → LeftByCut g c h → CanPutBack h c
+revert_cut_can g h c left =
+    let can = cut_taken g h c left in
+    let f = found_live g c.number.0 left.graph can.live in
+    subst (λ k. CanPutBack k c) (sym left.left)
+    (subst (CanPutBack (without_arc g c.number.0)) (sym left.arc) (cut_can g c.number.0 left.graph can f))
+
+pub revert_cut_requires : (a : Inside) (h : GraphOf) (c : CutArc) (vs : List Vertex) (ss : Slots) (g : GraphOf) → RevertCan a h vs ss → LeftByCut g c h → CanBePutBack vs ss c
+revert_cut_requires a h c vs ss g x left =
+    record { graph = h; sound = x.opened.graph; shows = rw (x.vertices, x.slots) x.opened.shows; can = revert_cut_can g h c left }
+
+pub revert_cut_after : (a b : Inside) (h : GraphOf) (c : CutArc) (vs ws : List Vertex) (ss ts : Slots) (g : GraphOf) → RevertCan a h vs ss → LeftByCut g c h
+  → PutsBack vs ss c ws ts → b.vertices.items ≡ ws → b.slots.items ≡ ts → b.live ≡ a.live + 1 → SameOwn a b → Opened b g
+revert_cut_after a b h c vs ws ss ts g x left puts vertices slots live own =
+    let o = x.opened in
+    let can = cut_taken g h c left in
+    let f = found_live g c.number.0 left.graph can.live in
+    let back : with_cut_arc h c ≡ g =
+        ap (λ k. with_cut_arc k c) left.left ∙ (ap (with_cut_arc (without_arc g c.number.0)) left.arc ∙ with_cut_arc-without_arc g c.number.0 f) in
+    let shows : Shows b.vertices.items b.slots.items (with_cut_arc h c) = rw (vertices, slots) (puts h (rw (x.vertices, x.slots) o.shows) o.graph (revert_cut_can g h c left)) in
+    subst (Opened b) back
+    (put_after b h c o.graph (revert_cut_can g h c left) shows (live ∙ ap (λ n. n + 1) o.live) (own.id ∙ o.id) (own.types ∙ o.types) (own.fields ∙ o.fields))
+
+-- undoing a new arc
+pub arc_refused : (g : GraphOf) (u v : ℕ) → refusal_of_arc g u v ≡ None → (u < n_of g) × (v < n_of g) × (made_of g + 1 ≤ 1000000)
+arc_refused g u v none =
+    elim (cases_Bool (has_vertex g u && has_vertex g v)) [
+      inl both ↦
+        let p = and_parts (has_vertex g u) (has_vertex g v) both in
+        elim (cases_Bool (nat_le (made_of g + 1) 1000000)) [
+          inl few ↦ (ltb-true u (n_of g) p.0, ltb-true v (n_of g) p.1, leb-true (made_of g + 1) 1000000 few)
+        | inr many ↦ absurd (let bad = ap (λ b. refusal_unless (has_vertex g u && has_vertex g v) BadOperand (refusal_unless b TooLarge None)) many in let same = ap (λ b. refusal_unless b BadOperand (refusal_unless false TooLarge None)) both in cc)
+        ]
+    | inr not_both ↦ absurd (let bad = ap (λ b. refusal_unless b BadOperand (refusal_unless (nat_le (made_of g + 1) 1000000) TooLarge None)) not_both in cc)
+    ]
+
+pub record NewArcLeft (g : GraphOf) (k : ArcNo) (h : GraphOf) (c : CutArc) : Type 0 where
+  pub hole : IsGraph (with_hole g)
+  pub can : CanPutBack (with_hole g) c
+  pub number : c.number ≡ k
+  pub left : h ≡ with_cut_arc (with_hole g) c
+  pub unnamed : (j : ℕ) → names_in j c.fields ≡ 0
+
+pub new_arc_left : (g h : GraphOf) (k : ArcNo) (l : LeftByArc g k h) → NewArcLeft g k h (new_cut (arc_no (made_of g)) (record { 0 = l.from }) (record { 0 = l.to }) l.len)
+new_arc_left g h k l =
+    let p = arc_refused g l.from l.to l.accepted in
+    record {
+      hole = hole_sound g l.graph (omega (arith, p.2));
+      can = new_can g l.from l.to l.len l.graph p.0 p.1 l.fits;
+      number = sym l.number;
+      left = l.left ∙ with_arc_is g l.from l.to l.len;
+      unnamed = λ j. refl
+    }
+
+-- an arc that was put at a hole can be taken out
+pub put_taken : (h : GraphOf) (c : CutArc) → IsGraph h → CanPutBack h c → names_in c.number.0 c.fields ≡ 0 → CanTakeOut (with_cut_arc h c) c.number.0
+put_taken h c sound can none =
+    record {
+      live = ap is_some (put_entry_same h c can);
+      unnamed = omega (arith, put_names h c c.number.0 can, hole_unnamed h c.number.0 sound can.hole, none)
+    }
+
+pub revert_arc_can : (g h : GraphOf) (k : ArcNo) → LeftByArc g k h → CanTakeOut h k.0
+revert_arc_can g h k l =
+    let c = new_cut (arc_no (made_of g)) (record { 0 = l.from }) (record { 0 = l.to }) l.len in
+    let x = new_arc_left g h k l in
+    subst (λ z. CanTakeOut h z.0) x.number
+    (subst (λ z. CanTakeOut z c.number.0) (sym x.left) (put_taken (with_hole g) c x.hole x.can (x.unnamed c.number.0)))
+
+pub revert_arc_law : (g h : GraphOf) (k : ArcNo) → LeftByArc g k h → without_arc h k.0 ≡ with_hole g
+revert_arc_law g h k l =
+    let c = new_cut (arc_no (made_of g)) (record { 0 = l.from }) (record { 0 = l.to }) l.len in
+    let x = new_arc_left g h k l in
+    ap (λ z. without_arc h z.0) (sym x.number) ∙ (ap (λ z. without_arc z c.number.0) x.left ∙ without_arc-with_cut_arc (with_hole g) c x.hole x.can)
+
+pub revert_requires : (a : Inside) (h : GraphOf) (k : ℕ) (vs : List Vertex) (ss : Slots) → RevertCan a h vs ss → CanTakeOut h k → CanBeTakenOut vs ss k
+revert_requires a h k vs ss x can = record { graph = h; sound = x.opened.graph; shows = rw (x.vertices, x.slots) x.opened.shows; can = can }
+
+-- a new arc leaves id, types and own fields as they were
+pub same_own : (g h : GraphOf) (k : ArcNo) → LeftByArc g k h → (h.id ≡ g.id) × (h.types ≡ g.types) × (h.fields ≡ g.fields)
+unfolding with_arc with_listed with_entry_last
+same_own g h k l = (ap (λ z. z.id) l.left, ap (λ z. z.types) l.left, ap (λ z. z.fields) l.left)
+
+pub revert_arc_after : (a b : Inside) (h : GraphOf) (k : ArcNo) (c : CutArc) (vs ws : List Vertex) (ss ts : Slots) (g : GraphOf) → RevertCan a h vs ss → LeftByArc g k h
+  → TakesOut vs ss k.0 c ws ts → b.vertices.items ≡ ws → b.slots.items ≡ take k.0 ts → b.live ≡ a.live - 1 → SameOwn a b → Opened b g
+revert_arc_after a b h k c vs ws ss ts g x l takes vertices slots live own =
+    let o = x.opened in
+    let can = revert_arc_can g h k l in
+    let f = found_live h k.0 o.graph can.live in
+    let t = takes h (rw (x.vertices, x.slots) o.shows) o.graph can in
+    let law = revert_arc_law g h k l in
+    let shown : Shows ws (take (made_of g) ts) g = take_hole ws ts g (subst (Shows ws ts) law t.1) in
+    let number : k.0 ≡ made_of g = ap (λ z. z.0) l.number in
+    record {
+      graph = l.graph;
+      shows = rw (vertices, slots, number) shown;
+      live = omega (arith, live, o.live, take_m h k.0 f, ap m_of law, hole_m g);
+      id = own.id ∙ (o.id ∙ (same_own g h k l).0);
+      types = own.types ∙ (o.types ∙ (same_own g h k l).1);
+      fields = own.fields ∙ (o.fields ∙ (same_own g h k l).2)
+    }

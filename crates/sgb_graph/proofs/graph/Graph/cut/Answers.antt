@@ -1,0 +1,84 @@
+use Rattle.std.proofs.Common.{◌≡◌, ◌∙◌, ap, sym, refl, arith, ◌-◌}
+use Rattle.std.specs.Vec.{with_items}
+use Rattle.std.proofs.lemmas.List.{with_items_is}
+use Rattle.sgb_graph.specs.declared.graph.Graph.TheInside.{Inside}
+use Rattle.sgb_graph.proofs.Shows.{opened}
+use Rattle.sgb_graph.proofs.InsertLemmas.{SameOwn}
+use Rattle.sgb_graph.proofs.CutLemmas.{CutCan, can_cut_is, cut_accepted, cut_left}
+use Rattle.sgb_graph.proofs.graph.Graph.cut.Goals as goal
+
+pub invariant_of-self : goal.invariant_of-self
+invariant_of-self c =
+    let g = c.args.self.now in
+    let a = c.self.inside in
+    let k = c.args.number.0 in
+    let tested = sym c.can_cut.ensures.value ∙ c.if-not-can_cut.false in
+    let x : CutCan a g k c.deref_mut.result.now c.deref_mut-2.result.now = record {
+      opened = opened a g c.self.view_is c.self.invariant;
+      can = can_cut_is g k tested;
+      vertices = c.deref_mut.ensures.value;
+      slots = c.deref_mut-2.ensures.value
+    } in
+    let b : Inside = record { id = a.id; types = a.types; fields = a.fields; vertices = with_items a.vertices c.take_out-arc.new.vertices; slots = with_items a.slots c.take_out-arc.new.slots; live = a.live - 1 } in
+    let own : SameOwn a b = record { id = refl; types = refl; fields = refl } in
+    (cut_left a b g k c.take_out-arc.result _ _ _ _ x (cut_accepted g k tested) c.take_out-arc.ensures
+      (with_items_is a.vertices c.take_out-arc.new.vertices (c.take_out-arc.auto.vertices ∙ c.deref_mut.ensures.len))
+      (with_items_is a.slots c.take_out-arc.new.slots (c.take_out-arc.auto.slots ∙ c.deref_mut-2.ensures.len))
+      refl own).arena
+
+pub returns-clause-graph : goal.returns-clause-graph
+returns-clause-graph c =
+    let g = c.args.self.now in
+    let a = c.self.inside in
+    let k = c.args.number.0 in
+    let tested = sym c.can_cut.ensures.value ∙ c.if-not-can_cut.false in
+    let x : CutCan a g k c.deref_mut.result.now c.deref_mut-2.result.now = record {
+      opened = opened a g c.self.view_is c.self.invariant;
+      can = can_cut_is g k tested;
+      vertices = c.deref_mut.ensures.value;
+      slots = c.deref_mut-2.ensures.value
+    } in
+    let b : Inside = record { id = a.id; types = a.types; fields = a.fields; vertices = with_items a.vertices c.take_out-arc.new.vertices; slots = with_items a.slots c.take_out-arc.new.slots; live = a.live - 1 } in
+    let own : SameOwn a b = record { id = refl; types = refl; fields = refl } in
+    (cut_left a b g k c.take_out-arc.result _ _ _ _ x (cut_accepted g k tested) c.take_out-arc.ensures
+      (with_items_is a.vertices c.take_out-arc.new.vertices (c.take_out-arc.auto.vertices ∙ c.deref_mut.ensures.len))
+      (with_items_is a.slots c.take_out-arc.new.slots (c.take_out-arc.auto.slots ∙ c.deref_mut-2.ensures.len))
+      refl own).graph
+
+pub returns-clause-left : goal.returns-clause-left
+returns-clause-left c =
+    let g = c.args.self.now in
+    let a = c.self.inside in
+    let k = c.args.number.0 in
+    let tested = sym c.can_cut.ensures.value ∙ c.if-not-can_cut.false in
+    let x : CutCan a g k c.deref_mut.result.now c.deref_mut-2.result.now = record {
+      opened = opened a g c.self.view_is c.self.invariant;
+      can = can_cut_is g k tested;
+      vertices = c.deref_mut.ensures.value;
+      slots = c.deref_mut-2.ensures.value
+    } in
+    let b : Inside = record { id = a.id; types = a.types; fields = a.fields; vertices = with_items a.vertices c.take_out-arc.new.vertices; slots = with_items a.slots c.take_out-arc.new.slots; live = a.live - 1 } in
+    let own : SameOwn a b = record { id = refl; types = refl; fields = refl } in
+    (cut_left a b g k c.take_out-arc.result _ _ _ _ x (cut_accepted g k tested) c.take_out-arc.ensures
+      (with_items_is a.vertices c.take_out-arc.new.vertices (c.take_out-arc.auto.vertices ∙ c.deref_mut.ensures.len))
+      (with_items_is a.slots c.take_out-arc.new.slots (c.take_out-arc.auto.slots ∙ c.deref_mut-2.ensures.len))
+      refl own).left
+
+pub returns-clause-sound : goal.returns-clause-sound
+returns-clause-sound c =
+    let g = c.args.self.now in
+    let a = c.self.inside in
+    let k = c.args.number.0 in
+    let tested = sym c.can_cut.ensures.value ∙ c.if-not-can_cut.false in
+    let x : CutCan a g k c.deref_mut.result.now c.deref_mut-2.result.now = record {
+      opened = opened a g c.self.view_is c.self.invariant;
+      can = can_cut_is g k tested;
+      vertices = c.deref_mut.ensures.value;
+      slots = c.deref_mut-2.ensures.value
+    } in
+    let b : Inside = record { id = a.id; types = a.types; fields = a.fields; vertices = with_items a.vertices c.take_out-arc.new.vertices; slots = with_items a.slots c.take_out-arc.new.slots; live = a.live - 1 } in
+    let own : SameOwn a b = record { id = refl; types = refl; fields = refl } in
+    (cut_left a b g k c.take_out-arc.result _ _ _ _ x (cut_accepted g k tested) c.take_out-arc.ensures
+      (with_items_is a.vertices c.take_out-arc.new.vertices (c.take_out-arc.auto.vertices ∙ c.deref_mut.ensures.len))
+      (with_items_is a.slots c.take_out-arc.new.slots (c.take_out-arc.auto.slots ∙ c.deref_mut-2.ensures.len))
+      refl own).sound
