@@ -165,7 +165,8 @@ impl<M: Reversible> Journal<M> {
     }
 }
 
-/// Makes a place for one more command and its delta, unless some command has none or lost its own.
+/// Makes a place for one more command and its delta, where each command has its delta and so
+/// nothing is undone.
 fn make_place<C, D>(commands: &mut Vec<C>, deltas: &mut Vec<D>) -> Result<(), AllocError>
     requires within { vec_len deltas.old ≤ vec_len commands.old }
     requires placed { vec_len commands.old ≤ vec_capacity deltas.old }

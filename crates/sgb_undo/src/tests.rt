@@ -9,6 +9,7 @@ use crate::{
 };
 use counter::{Counter, TooLarge};
 use stack::{ByteStack, StackCommand, StackRefusal};
+use std::alloc::{AllocError, Global};
 use std::process::Abort;
 use std::test::Fail;
 
@@ -67,19 +68,18 @@ fn a_stack_is_pushed_and_popped(rt: HostRuntime) {
     assert_eq!(rt; applied(&rt, &mut journal, StackCommand::Push(8)), None);
     assert_eq!(rt; applied(&rt, &mut journal, StackCommand::Pop), Some(8));
     assert_eq!(rt; applied(&rt, &mut journal, StackCommand::Pop), Some(7));
-    assert!(rt;
-        matches!(
-            journal.apply(StackCommand::Pop),
-            Err(JournalRefusal::Machine(StackRefusal::Empty))
-        )
-    );
+    let answer = match journal.apply(StackCommand::Pop) {
+        Err(JournalRefusal::NoRoom) => journal.apply(StackCommand::Pop),
+        answer => answer,
+    };
+    assert!(rt; matches!(answer, Err(JournalRefusal::Machine(StackRefusal::Empty))));
     assert_eq!(rt; journal.undo(), Ok(()));
     assert_eq!(rt; journal.undo(), Ok(()));
     assert_eq!(rt; journal.machine().bytes(), [7, 8].as_slice());
     assert_eq!(rt; journal.undo(), Ok(()));
     assert_eq!(rt; journal.machine().bytes(), [7].as_slice());
-    assert!(rt; matches!(journal.redo(), Ok(None)));
-    assert!(rt; matches!(journal.redo(), Ok(Some(8))));
+    assert_eq!(rt; redone(&rt, &mut journal), None);
+    assert_eq!(rt; redone(&rt, &mut journal), Some(8));
     assert_eq!(rt; journal.machine().bytes(), [7].as_slice());
     assert_eq!(rt; (journal.standing(), journal.undone()), (3, 1));
 }
@@ -122,7 +122,24 @@ fn growths_are_granted_when_asked_again(rt: HostRuntime) {
 #[test]
 fn events_are_performed_in_order(rt: HostRuntime) -> Result<(), Fail> {
     let mut journal = Journal::new(rt.alloc(), Counter { value: 0 });
-    let events = vec![in rt.alloc();
+    assert_eq!(rt; applied(&rt, &mut journal, 9), 9);
+    assert_eq!(rt; journal.undo(), Ok(()));
+    let accepted = match performed(rt.alloc(), &mut journal) {
+        Ok(accepted) => accepted,
+        Err(_) => {
+            assert_eq!(rt; (journal.standing(), journal.undone()), (0, 1));
+            performed(rt.alloc(), &mut journal)?
+        }
+    };
+    let want = [false, true, false, true, true, false, true, false, true];
+    assert_eq!(rt; accepted.as_slice(), want.as_slice());
+    assert_eq!(rt; (journal.standing(), journal.undone()), (1, 1));
+    assert_eq!(rt; journal.machine().value, 200);
+    Ok(())
+}
+
+fn performed(alloc: Global, journal: &mut Journal<Counter>) -> Result<Vec<bool>, AllocError> {
+    let events = vec![in alloc;
         Event::Undo,
         Event::Apply(200),
         Event::Apply(56),
@@ -133,20 +150,17 @@ fn events_are_performed_in_order(rt: HostRuntime) -> Result<(), Fail> {
         Event::Redo,
         Event::Undo,
     ]?;
-    let accepted = perform_all(rt.alloc(), &mut journal, events)?;
-    assert_eq!(rt;
-        accepted.as_slice(),
-        [false, true, false, true, true, false, true, false, true].as_slice()
-    );
-    assert_eq!(rt; (journal.standing(), journal.undone()), (1, 1));
-    assert_eq!(rt; journal.machine().value, 200);
-    Ok(())
+    perform_all(alloc, journal, events)
 }
 
 #[test]
 fn a_command_is_applied_and_undone(rt: HostRuntime) {
     let mut journal = Journal::new(rt.alloc(), Counter { value: 4 });
-    assert!(rt; matches!(apply_and_undo(&mut journal, 6), Ok(10)));
+    let reply = match apply_and_undo(&mut journal, 6) {
+        Err(JournalRefusal::NoRoom) => apply_and_undo(&mut journal, 6),
+        answer => answer,
+    };
+    assert!(rt; matches!(reply, Ok(10)));
     assert_eq!(rt; (journal.standing(), journal.undone()), (0, 1));
     assert_eq!(rt; journal.machine().value, 4);
     assert!(rt;
