@@ -1,13 +1,13 @@
 -- Uniform numbers: no long run of draws is at or above a limit, so one below it comes soon.
-use Rattle.std.proofs.Common.{◌≡◌, ℕ, zero, suc, ◌+◌, ◌-◌, ◌*◌, ◌/◌, ◌%◌, ◌^◌, ◌<◌, ◌≤◌, ⊎_elim, not, ltb, length, refl, sym, ap, ◌∙◌, subst, arith, le-ltb, lt-ltb, ltb-false, ltb-true, div-add-mod', mul-le-mul_right, zero-add}
+use Rattle.std.proofs.Common.{◌≡◌, ℕ, zero, suc, ◌+◌, ◌-◌, ◌*◌, ◌/◌, ◌%◌, ◌^◌, ◌<◌, ◌≤◌, ℤ, ⊎_elim, not, ltb, length, refl, sym, ap, ◌∙◌, subst, arith, le-ltb, lt-ltb, ltb-false, ltb-true, div-add-mod', mul-le-mul_right, zero-add}
 use Rattle.std.proofs.lemmas.Bool.{cases_lt}
 use Rattle.std.proofs.lemmas.Nat.{mod_below}
 use Rattle.std.proofs.lemmas.List.FromFn.{get_or-range_with_len, length-range_with_len}
 use Rattle.std.proofs.lemmas.List.Sums.{fails_before_first, passes_at_first, position_or_len_is, prefix_len-le-length}
 use Rattle.std.specs.List.{position_or_len, range_with_len}
-use Rattle.sgb_flip.specs.Generator.{Generator, IsGenerator, IsUniform, HasNoUniform, after, drawn, limit, refused_draws, uniform}
+use Rattle.sgb_flip.specs.Generator.{Generator, IsGenerator, IsUniform, HasNoUniform, after, drawn, limit, refused_draws, uniform, window}
 use Rattle.sgb_flip.specs.Sequence.{difference, term}
-use Rattle.sgb_flip.proofs.Draws.{after-after, drawn-after, drawn_at}
+use Rattle.sgb_flip.proofs.Draws.{after-after, after-window, drawn-after, drawn_at, IsGenerator-after}
 use Rattle.sgb_flip.proofs.Terms.{term-below, term-more}
 
 -- ---- the limit
@@ -203,3 +203,26 @@ IsUniform-uniform w m is some most =
       value_is = ap (λ i. drawn w i % m) (sym index);
       rest_is = refl;
     }
+
+-- ---- for callers, at the function
+pub rest-uniform : (w : Generator) (m : ℕ) → (uniform w m).rest ≡ after w (uniform w m).draws
+unfolding uniform
+rest-uniform w m = refl
+
+pub IsGenerator-uniform : (w : Generator) (m : ℕ) → IsGenerator w → IsGenerator (uniform w m).rest
+IsGenerator-uniform w m is = subst IsGenerator (sym (rest-uniform w m)) (IsGenerator-after w (uniform w m).draws is)
+
+pub uniform-below : (w : Generator) (m : ℕ) → 1 ≤ m → (uniform w m).value < m
+unfolding uniform
+uniform-below w m some = mod_below (drawn w (refused_draws w (limit m) 1814)) m some
+
+pub draws-some : (w : Generator) (m : ℕ) → 0 < (uniform w m).draws
+unfolding uniform
+draws-some w m = omega arith
+
+pub draws-few : (w : Generator) (m : ℕ) → IsGenerator w → 1 ≤ m → m ≤ 2 ^ 31 → (uniform w m).draws ≤ 1814
+draws-few w m is some most = (IsUniform-uniform w m is some most).few
+
+-- a uniform number takes a seeded generator on by its draws
+pub uniform-window : (s : ℤ) (k m : ℕ) → (uniform (window s k) m).rest ≡ window s (k + (uniform (window s k) m).draws)
+uniform-window s k m = rest-uniform (window s k) m ∙ after-window s k (uniform (window s k) m).draws
