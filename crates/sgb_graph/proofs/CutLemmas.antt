@@ -21,7 +21,12 @@ use Rattle.sgb_graph.specs.Graph.{arcs_of, occurrences}
 use Rattle.sgb_graph.specs.Edit.{refusal_unless}
 use Rattle.sgb_graph.specs.Arena.{next_of, next_at, names_counted}
 use Rattle.sgb_graph.proofs.Chains.{Leads-agree}
-use Rattle.sgb_graph.proofs.Holes.{with_hole, at_hole, hole_made, hole_names, hole_m, hole_sound, new_can, with_arc_is}
+use Rattle.sgb_graph.proofs.Holes.{with_hole, at_hole, hole_made, hole_names, hole_m, hole_sound, new_can, with_arc_is, with_edge_is, first_cut, second_cut, first_can, second_can}
+use Rattle.std.proofs.Common.{min, max}
+use Rattle.std.proofs.lemmas.List.{take-take}
+use Rattle.sgb_graph.specs.Edit.{refusal_of_edge, with_edge}
+use Rattle.sgb_graph.specs.Revert.{TakesOutBoth, CanBothBeTakenOut}
+use Rattle.sgb_graph.proofs.PutBack.{put_sound}
 use Rattle.sgb_graph.specs.Graph.{has_vertex, names_in}
 use Rattle.sgb_graph.specs.Edit.{refusal_of_arc, with_arc, with_entry_last}
 use Rattle.sgb_graph.specs.Insert.{new_cut}
@@ -237,4 +242,102 @@ revert_arc_after a b h k c vs ws ss ts g x l takes vertices slots live own =
       id = own.id ∙ (o.id ∙ (same_own g h k l).0);
       types = own.types ∙ (o.types ∙ (same_own g h k l).1);
       fields = own.fields ∙ (o.fields ∙ (same_own g h k l).2)
+    }
+
+-- undoing a new edge
+pub edge_refused : (g : GraphOf) (u v : ℕ) → refusal_of_edge g u v ≡ None → (u < n_of g) × (v < n_of g) × (made_of g + 2 ≤ 1000000)
+edge_refused g u v none =
+    elim (cases_Bool (has_vertex g u && has_vertex g v)) [
+      inl both ↦
+        let p = and_parts (has_vertex g u) (has_vertex g v) both in
+        elim (cases_Bool (nat_le (made_of g + 2) 1000000)) [
+          inl few ↦ (ltb-true u (n_of g) p.0, ltb-true v (n_of g) p.1, leb-true (made_of g + 2) 1000000 few)
+        | inr many ↦ absurd (let bad = ap (λ b. refusal_unless (has_vertex g u && has_vertex g v) BadOperand (refusal_unless b TooLarge None)) many in let same = ap (λ b. refusal_unless b BadOperand (refusal_unless false TooLarge None)) both in cc)
+        ]
+    | inr not_both ↦ absurd (let bad = ap (λ b. refusal_unless b BadOperand (refusal_unless (nat_le (made_of g + 2) 1000000) TooLarge None)) not_both in cc)
+    ]
+
+pub record NewEdgeLeft (g : GraphOf) (k : ArcNo) (h : GraphOf) : Type 0 where
+  pub hole : IsGraph (with_hole (with_hole g))
+  pub second : CutArc
+  pub first : CutArc
+  pub can : CanPutBack (with_hole (with_hole g)) second
+  pub next : CanPutBack (with_cut_arc (with_hole (with_hole g)) second) first
+  pub number : first.number.0 ≡ k.0
+  pub after : second.number.0 ≡ k.0 + 1
+  pub left : h ≡ with_cut_arc (with_cut_arc (with_hole (with_hole g)) second) first
+  pub unnamed : (j : ℕ) → (names_in j first.fields ≡ 0) × (names_in j second.fields ≡ 0)
+
+pub new_edge_left : (g h : GraphOf) (k : ArcNo) → LeftByEdge g k h → NewEdgeLeft g k h
+new_edge_left g h k l =
+    let p = edge_refused g l.from l.to l.accepted in
+    let low = min l.from l.to in
+    let high = max l.from l.to in
+    let below : low < n_of g = omega (arith, p.0, p.1) in
+    let above : high < n_of g = omega (arith, p.0, p.1) in
+    let same : k.0 ≡ made_of g = ap (λ z. z.0) l.number in
+    record {
+      hole = hole_sound (with_hole g) (hole_sound g l.graph (omega (arith, p.2))) (omega (arith, hole_made g, p.2));
+      second = second_cut g low high l.len;
+      first = first_cut g low high l.len;
+      can = second_can g low high l.len l.graph below above l.fits;
+      next = first_can g low high l.len l.graph below above l.fits;
+      number = sym same;
+      after = ap (λ n. n + 1) (sym same);
+      left = l.left ∙ with_edge_is g l.from l.to l.len;
+      unnamed = λ j. (refl, refl)
+    }
+
+pub record RevertEdgeCan (g : GraphOf) (k : ℕ) (h : GraphOf) : Type 0 where
+  pub can : CanTakeOut h k
+  pub next : CanTakeOut (without_arc h k) (k + 1)
+  pub law : without_arc (without_arc h k) (k + 1) ≡ with_hole (with_hole g)
+  pub middle : IsGraph (without_arc h k)
+
+pub revert_edge_can : (g h : GraphOf) (k : ArcNo) → LeftByEdge g k h → RevertEdgeCan g k.0 h
+revert_edge_can g h k l =
+    let x = new_edge_left g h k l in
+    let e = with_hole (with_hole g) in
+    let p = with_cut_arc e x.second in
+    let sound : IsGraph p = put_sound e x.second x.hole x.can in
+    let law : without_arc h k.0 ≡ p =
+        ap (without_arc h) (sym x.number) ∙ (ap (λ z. without_arc z x.first.number.0) x.left ∙ without_arc-with_cut_arc p x.first sound x.next) in
+    record {
+      can = subst (CanTakeOut h) x.number (subst (λ z. CanTakeOut z x.first.number.0) (sym x.left) (put_taken p x.first sound x.next (x.unnamed x.first.number.0).0));
+      next = subst (λ z. CanTakeOut z (k.0 + 1)) (sym law) (subst (CanTakeOut p) x.after (put_taken e x.second x.hole x.can (x.unnamed x.second.number.0).1));
+      law = ap (λ z. without_arc z (k.0 + 1)) law ∙ (ap (without_arc p) (sym x.after) ∙ without_arc-with_cut_arc e x.second x.hole x.can);
+      middle = subst IsGraph (sym law) sound
+    }
+
+pub revert_edge_requires : (a : Inside) (h : GraphOf) (k : ArcNo) (vs : List Vertex) (ss : Slots) (g : GraphOf) → RevertCan a h vs ss → LeftByEdge g k h → CanBothBeTakenOut vs ss k.0
+revert_edge_requires a h k vs ss g x l =
+    let y = revert_edge_can g h k l in
+    record { graph = h; sound = x.opened.graph; shows = rw (x.vertices, x.slots) x.opened.shows; can = y.can; next = y.next }
+
+pub same_own_edge : (g h : GraphOf) (k : ArcNo) → LeftByEdge g k h → (h.id ≡ g.id) × (h.types ≡ g.types) × (h.fields ≡ g.fields)
+unfolding with_edge with_listed with_entry_last
+same_own_edge g h k l = (ap (λ z. z.id) l.left, ap (λ z. z.types) l.left, ap (λ z. z.fields) l.left)
+
+pub revert_edge_live : (g h : GraphOf) (k : ArcNo) → IsGraph h → LeftByEdge g k h → m_of h ≡ m_of g + 2
+revert_edge_live g h k sound l =
+    let y = revert_edge_can g h k l in
+    omega (arith, take_m h k.0 (found_live h k.0 sound y.can.live), take_m (without_arc h k.0) (k.0 + 1) (found_live (without_arc h k.0) (k.0 + 1) y.middle y.next.live), ap m_of y.law, hole_m g, hole_m (with_hole g))
+
+pub revert_edge_after : (a b : Inside) (h : GraphOf) (k : ArcNo) (vs ws : List Vertex) (ss ts : Slots) (g : GraphOf) → RevertCan a h vs ss → LeftByEdge g k h
+  → TakesOutBoth vs ss k.0 ws ts → b.vertices.items ≡ ws → b.slots.items ≡ take k.0 ts → b.live ≡ a.live - 2 → SameOwn a b → Opened b g
+revert_edge_after a b h k vs ws ss ts g x l takes vertices slots live own =
+    let o = x.opened in
+    let y = revert_edge_can g h k l in
+    let t : Shows ws ts (with_hole (with_hole g)) = subst (Shows ws ts) y.law (takes h (rw (x.vertices, x.slots) o.shows) o.graph y.can y.next) in
+    let one : Shows ws (take (made_of (with_hole g)) ts) (with_hole g) = take_hole ws ts (with_hole g) t in
+    let two : Shows ws (take (made_of g) (take (made_of (with_hole g)) ts)) g = take_hole ws (take (made_of (with_hole g)) ts) g one in
+    let shown : Shows ws (take (made_of g) ts) g = subst (λ r. Shows ws r g) (take-take (made_of g) (made_of (with_hole g)) ts (omega (arith, hole_made g))) two in
+    let number : k.0 ≡ made_of g = ap (λ z. z.0) l.number in
+    record {
+      graph = l.graph;
+      shows = rw (vertices, slots, number) shown;
+      live = omega (arith, live, o.live, revert_edge_live g h k o.graph l);
+      id = own.id ∙ (o.id ∙ (same_own_edge g h k l).0);
+      types = own.types ∙ (o.types ∙ (same_own_edge g h k l).1);
+      fields = own.fields ∙ (o.fields ∙ (same_own_edge g h k l).2)
     }
