@@ -1,6 +1,7 @@
 pub mod Chains
 pub mod Counts
 pub mod CutLemmas
+pub mod ExchangeLemmas
 pub mod Graphs
 pub mod Holes
 pub mod InsertLemmas

@@ -315,7 +315,7 @@ counted_room ss g (utils.Arc a) f high made v known below =
     (omega (arith, made, made_of_live g a.0 v), counted_below (names_counted (slot_at ss a.0)) (f a.0) high (below a.0) (known a.0))
 counted_room ss g (utils.Text t) f high made v known below = tt
 
-one_at_most : (k : ℕ) (u : Util) → one_name k u ≤ 1
+pub one_at_most : (k : ℕ) (u : Util) → one_name k u ≤ 1
 one_at_most k u = elim (cases_Bool (is_name k u)) [
     inl e ↦ rw e (omega arith)
   | inr e ↦ rw e (omega arith)

@@ -47,7 +47,7 @@ pub record Found (g : GraphOf) (k : ℕ) : Type 0 where
   pub once : occurrences k (arcs_of g (owner_of g k)) ≡ 1
   pub entry : arc_at g k ≡ Some (entry_at g k)
 
-some_entry : (o : Option ArcOf) → is_some o ≡ true → o ≡ Some (arc_or no_arc o)
+pub some_entry : (o : Option ArcOf) → is_some o ≡ true → o ≡ Some (arc_or no_arc o)
 some_entry None live = absurd cc
 some_entry (Some e) live = refl
 

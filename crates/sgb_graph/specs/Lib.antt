@@ -4,6 +4,7 @@ pub mod Builder
 pub mod Chain
 pub mod Delta
 pub mod Edit
+pub mod Exchange
 pub mod Field
 pub mod Graph
 pub mod Honest

@@ -2,6 +2,7 @@
 
 mod arcs;
 mod cut;
+mod exchange;
 mod insert;
 mod link;
 mod new;
