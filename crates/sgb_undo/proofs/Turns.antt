@@ -69,3 +69,6 @@ length-turn es e bs bs' b pushed long =
 pub rest-turn : {X : Type 0} (es : List X) (e : X) (rest rest' all : List X) → rest ≡ e ∷ rest' → es ++ rest ≡ all → es ++ e ∷ [] ++ rest' ≡ all
 rest-turn es e rest rest' all next told =
     append_assoc es (e ∷ []) rest' ∙ ap (λ xs. es ++ xs) (sym next) ∙ told
+
+pub start-turn : {M C D : Type 0} (old now next : History M C D) → next.start ≡ now.start → now.start ≡ old.start → next.start ≡ old.start
+start-turn old now next kept told = kept ∙ told
