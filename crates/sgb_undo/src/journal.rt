@@ -62,6 +62,7 @@ impl<M: Reversible> Journal<M> {
         ensures refused { (r : M.Refusal) → IsErrOf result (JournalRefusal.Machine r)
             → (M.is_want_of_memory r ≡ true) ⊎ (M.step self.old.machine command ≡ Refused r) }
 
+        ensures start { self.new.start ≡ self.old.start }
         ensures err { OnErr result (self.new ≡ self.old) }
         ensures sound { IsJournal M.step M.before self.new }
     {
@@ -87,6 +88,7 @@ impl<M: Reversible> Journal<M> {
     pub fn undo(&mut self) -> Result<(), NothingToUndo>
         ensures ok { OnOk result (Undoes M.step M.before self.old self.new) }
         ensures nothing { IsErr result ↔ (self.old.standing ≡ []) }
+        ensures start { self.new.start ≡ self.old.start }
         ensures err { OnErr result (self.new ≡ self.old) }
         ensures sound { IsJournal M.step M.before self.new }
     {
@@ -111,6 +113,7 @@ impl<M: Reversible> Journal<M> {
         ensures full { IsErrOf result JournalRefusal.Full → ⊥ }
         ensures refused { (r : M.Refusal) → IsErrOf result (JournalRefusal.Machine r) → M.is_want_of_memory r ≡ true }
 
+        ensures start { self.new.start ≡ self.old.start }
         ensures err { OnErr result (self.new ≡ self.old) }
         ensures sound { IsJournal M.step M.before self.new }
     {

@@ -71,3 +71,6 @@ returns-in-Err-clause-full g c = (
 pub returns-in-Err-clause-sound : goal.returns-in-Err-clause-sound
 returns-in-Err-clause-sound g c =
     IsJournal-same c.self.invariant c.in-Err.ensures.err c.make_place.ensures.commands c.make_place.ensures.deltas c.make_place.new.deltas.ok.0
+
+pub returns-in-Ok-clause-start : goal.returns-in-Ok-clause-start
+returns-in-Ok-clause-start g c = let ok = returns-in-Ok-clause-ok g c in ok.start

@@ -77,3 +77,6 @@ returns-in-Err-clause-refused g c = λ r e.
 pub returns-in-Err-clause-sound : goal.returns-in-Err-clause-sound
 returns-in-Err-clause-sound g c =
     IsJournal-same c.self.invariant c.in-Err.ensures.err refl refl c.self.inside.deltas.ok.0
+
+pub returns-in-Ok-clause-start : goal.returns-in-Ok-clause-start
+returns-in-Ok-clause-start g c = let ok = returns-in-Ok-clause-ok g c in ok.start

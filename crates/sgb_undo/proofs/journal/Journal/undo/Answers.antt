@@ -14,3 +14,6 @@ returns-in-Some-clause-ok g c = Undoes-sound _ c.self.invariant c.in-Some.ensure
 
 pub returns-in-Some-clause-sound : goal.returns-in-Some-clause-sound
 returns-in-Some-clause-sound g c = IsJournal-seen (invariant_of-self g c) c.pop.new.self.ok.0 refl
+
+pub returns-in-Some-clause-start : goal.returns-in-Some-clause-start
+returns-in-Some-clause-start g c = let ok = returns-in-Some-clause-ok g c in ok.start
