@@ -34,7 +34,7 @@ use Rattle.sgb_graph.proofs.ShowsPut.{gaining_but, losing_but, first_room, one_a
 use Rattle.sgb_graph.proofs.ShowsTake.{counted_enough}
 use Rattle.sgb_graph.proofs.TakeOut.{some_entry}
 
-vertex_six : (f : VertexField) → vertex_place f < 6
+pub vertex_six : (f : VertexField) → vertex_place f < 6
 vertex_six U = omega arith
 vertex_six V = omega arith
 vertex_six W = omega arith
@@ -42,11 +42,11 @@ vertex_six X = omega arith
 vertex_six Y = omega arith
 vertex_six Z = omega arith
 
-arc_two : (f : ArcField) → arc_place f < 2
+pub arc_two : (f : ArcField) → arc_place f < 2
 arc_two A = omega arith
 arc_two B = omega arith
 
-graph_six : (f : GraphField) → graph_place f < 6
+pub graph_six : (f : GraphField) → graph_place f < 6
 graph_six Uu = omega arith
 graph_six Vv = omega arith
 graph_six Ww = omega arith
@@ -69,6 +69,7 @@ pub record UtilFacts (g h : GraphOf) (u old : Util) : Type 0 where
   pub arcs : (v : ℕ) → arcs_of h v ≡ arcs_of g v
   pub names : (j : ℕ) → names_of h j + one_name j old ≡ names_of g j + one_name j u
   pub value : IsValue (n_of g) g.entries old
+  pub keeps : Keeps (n_of g) g.entries (n_of h) h.entries
 
 vertex_facts : (g : GraphOf) (v : VertexNo) (f : VertexField) (u : Util) → IsGraph g → CanExchange g (Vertex v f) u → UtilFacts g (with_util g (Vertex v f) u) u (util_at g (Vertex v f))
 unfolding with_util util_at
@@ -116,7 +117,8 @@ vertex_facts g v f u sound can =
       names = λ j.
         let s = sum_by-set (λ z. names_in j z.fields) g.vertices v.0 y no_vertex low in
         omega (arith, s, names_set j x.fields i u within);
-      value = owner.values i utils.Zero within
+      value = owner.values i utils.Zero within;
+      keeps = keeps
     }
 
 arc_facts : (g : GraphOf) (k : ArcNo) (f : ArcField) (u : Util) → IsGraph g → CanExchange g (Arc k f) u → UtilFacts g (with_util g (Arc k f) u) u (util_at g (Arc k f))
@@ -168,7 +170,8 @@ arc_facts g k f u sound can =
         let s = sum_by-set (names_in_entry j) g.entries k.0 (Some y) None low in
         let was : names_in_entry j (get_or g.entries k.0 None) ≡ names_in j e.fields = ap (names_in_entry j) entry in
         omega (arith, s, was, names_set j e.fields i u within);
-      value = arc.values i utils.Zero within
+      value = arc.values i utils.Zero within;
+      keeps = keeps
     }
 
 graph_facts : (g : GraphOf) (f : GraphField) (u : Util) → IsGraph g → CanExchange g (Graph f) u → UtilFacts g (with_util g (Graph f) u) u (util_at g (Graph f))
@@ -186,7 +189,8 @@ graph_facts g f u sound can =
       n = refl; made = refl; m = refl; id = refl; types = refl;
       arcs = λ w. refl;
       names = λ j. omega (arith, names_set j g.fields i u within);
-      value = sound.values i utils.Zero within
+      value = sound.values i utils.Zero within;
+      keeps = record { vertices = omega arith; arcs = λ k l. l }
     }
 
 pub util_facts : (g : GraphOf) (p : Place) (u : Util) → IsGraph g → CanExchange g p u → UtilFacts g (with_util g p u) u (util_at g p)
@@ -229,7 +233,7 @@ entry_with i u None (Some e) same live = absurd cc
 entry_with i u (Some s) None same live = absurd cc
 entry_with i u (Some s) (Some e) same live = ap (λ o. Some (record (arc_or no_arc o) { fields = set (arc_or no_arc o).fields i u })) same
 
-fields_of_entry : (o : Option Slot) (e : Option ArcOf) → entry_of o ≡ e → is_some e ≡ true → fields_in o ≡ (arc_or no_arc e).fields
+pub fields_of_entry : (o : Option Slot) (e : Option ArcOf) → entry_of o ≡ e → is_some e ≡ true → fields_in o ≡ (arc_or no_arc e).fields
 fields_of_entry None None same live = absurd cc
 fields_of_entry None (Some e) same live = absurd cc
 fields_of_entry (Some s) None same live = absurd cc
@@ -281,7 +285,7 @@ vertices_shown vs ss g (Vertex v f) u x there w d h =
         (subst (ShowsVertex ss (get_or vs w d)) (sym (get_or-set_other g.vertices v.0 w z no_vertex ne)) (x.vertices w d h))
     ]
 
-owned_as : (k : ℕ) (o : Option VertexNo) (p q : ℕ → List ℕ) → ((v : ℕ) → q v ≡ p v) → IfSome o (λ v. occurrences k (p v.0) ≡ 1) → IfSome o (λ v. occurrences k (q v.0) ≡ 1)
+pub owned_as : (k : ℕ) (o : Option VertexNo) (p q : ℕ → List ℕ) → ((v : ℕ) → q v ≡ p v) → IfSome o (λ v. occurrences k (p v.0) ≡ 1) → IfSome o (λ v. occurrences k (q v.0) ≡ 1)
 owned_as k None p q same h = tt
 owned_as k (Some v) p q same h = ap (occurrences k) (same v.0) ∙ h
 

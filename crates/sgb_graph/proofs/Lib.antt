@@ -8,9 +8,11 @@ pub mod InsertLemmas
 pub mod Laws
 pub mod NewLemmas
 pub mod PutBack
+pub mod SetLemmas
 pub mod Shows
 pub mod ShowsPut
 pub mod ShowsTake
 pub mod Slots
 pub mod Sound
 pub mod TakeOut
+pub mod UtilLemmas

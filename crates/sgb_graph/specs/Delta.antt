@@ -8,8 +8,7 @@ use Rattle.sgb_graph.specs.declared.field.Util.{Util}
 use Rattle.sgb_graph.specs.declared.delta.CutArc.{CutArc}
 use Rattle.sgb_graph.specs.declared.delta.GraphDelta.{GraphDelta}
 use Rattle.sgb_graph.specs.declared.delta.GraphDelta.TheVariants.{NewArc, NewEdge, Cut, SetLen, SetUtil, SetLabel, SetId, SetTypes}
-use Rattle.sgb_graph.specs.Text.{IsText}
-use Rattle.sgb_graph.specs.Types.{IsTypes}
+use Rattle.sgb_graph.specs.Set.{IsStorable}
 use Rattle.sgb_graph.specs.Graph.{GraphOf, ArcOf, IsGraph, made_of, label_of}
 use Rattle.sgb_graph.specs.Edit.{with_arc, with_edge, without_arc, with_len, with_util, with_label, util_at, entry_at, owner_of, place_of, stored, refusal_of_arc, refusal_of_edge, refusal_of_cut, refusal_of_len, refusal_of_util, refusal_of_label, refusal_of_id}
 
@@ -64,6 +63,7 @@ pub record LeftByUtil (g : GraphOf) (p : Place) (old : Util) (h : GraphOf) : Typ
   pub value : Util
   pub graph : IsGraph g
   pub accepted : refusal_of_util g p value ≡ None
+  pub fits : IsStorable (stored value)
   pub kept : old ≡ util_at g p
   pub left : h ≡ with_util g p (stored value)
 

@@ -15,5 +15,6 @@ pub mod Paired
 pub mod Read
 pub mod Refusal
 pub mod Revert
+pub mod Set
 pub mod Text
 pub mod Types

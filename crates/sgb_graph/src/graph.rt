@@ -8,6 +8,7 @@ mod link;
 mod new;
 mod read;
 mod revert;
+mod set;
 
 pub use arcs::Arcs;
 pub use read::ArcView;

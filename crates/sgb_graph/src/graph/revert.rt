@@ -2,13 +2,33 @@
 ghost use Rattle.std.specs.Prelude.{◌≡◌};
 ghost use Rattle.sgb_graph.specs.Graph.{GraphOf, IsGraph};
 ghost use Rattle.sgb_graph.specs.Revert.{CanBothBeTakenOut, TakesOutBoth};
-ghost use Rattle.sgb_graph.specs.Delta.{LeftByArc, LeftByEdge, LeftByCut};
+ghost use Rattle.sgb_graph.specs.Delta.{LeftBy, LeftByArc, LeftByEdge, LeftByCut, LeftByLen, LeftByUtil, LeftByLabel, LeftById, LeftByTypes};
 
+use super::exchange::exchange;
 use super::link::{put_back, take_out};
+use super::set::replace_len;
 use super::{Graph, Slot, Vertex};
-use crate::{ArcNo, CutArc, GraphDelta};
+use crate::{ArcNo, CutArc, GraphDelta, Label, Place, Text, Types, Util, VertexNo};
 
 impl Graph {
+    /// Undoes the edit that gave this delta and left the graph as it is. Takes no memory.
+    pub fn revert(&mut self, delta: GraphDelta)
+        requires { (g : GraphOf) × LeftBy g delta self.old }
+        ensures back { (g : GraphOf) → LeftBy g delta self.old → self.new ≡ g }
+        ensures sound { IsGraph self.new }
+    {
+        match delta {
+            GraphDelta::NewArc(number) => self.revert_arc(number),
+            GraphDelta::NewEdge(number) => self.revert_edge(number),
+            GraphDelta::Cut(arc) => self.revert_cut(arc),
+            GraphDelta::SetLen(number, len) => self.revert_len(number, len),
+            GraphDelta::SetUtil(place, value) => self.revert_util(place, value),
+            GraphDelta::SetLabel(vertex, label) => self.revert_label(vertex, label),
+            GraphDelta::SetId(id) => self.revert_id(id),
+            GraphDelta::SetTypes(types) => self.revert_types(types),
+        }
+    }
+
     // Takes back the last number, with its arc.
     fn revert_arc(&mut self, number: ArcNo)
         requires { (g : GraphOf) × LeftByArc g number self.old }
@@ -39,6 +59,46 @@ impl Graph {
     {
         put_back(&mut self.vertices, &mut self.slots, arc);
         self.live += 1;
+    }
+
+    fn revert_len(&mut self, number: ArcNo, len: i64)
+        requires { (g : GraphOf) × LeftByLen g number len self.old }
+        ensures back { (g : GraphOf) → LeftByLen g number len self.old → self.new ≡ g }
+        ensures sound { IsGraph self.new }
+    {
+        replace_len(&mut self.slots, number, len);
+    }
+
+    fn revert_util(&mut self, place: Place, value: Util)
+        requires { (g : GraphOf) × LeftByUtil g place value self.old }
+        ensures back { (g : GraphOf) → LeftByUtil g place value self.old → self.new ≡ g }
+        ensures sound { IsGraph self.new }
+    {
+        exchange(&mut self.fields, &mut self.vertices, &mut self.slots, place, value);
+    }
+
+    fn revert_label(&mut self, vertex: VertexNo, label: Label)
+        requires { (g : GraphOf) × LeftByLabel g vertex label self.old }
+        ensures back { (g : GraphOf) → LeftByLabel g vertex label self.old → self.new ≡ g }
+        ensures sound { IsGraph self.new }
+    {
+        self.vertices[vertex.0 as usize].label = label;
+    }
+
+    fn revert_id(&mut self, id: Text)
+        requires { (g : GraphOf) × LeftById g id self.old }
+        ensures back { (g : GraphOf) → LeftById g id self.old → self.new ≡ g }
+        ensures sound { IsGraph self.new }
+    {
+        self.id = id;
+    }
+
+    fn revert_types(&mut self, types: Types)
+        requires { (g : GraphOf) × LeftByTypes g types self.old }
+        ensures back { (g : GraphOf) → LeftByTypes g types self.old → self.new ≡ g }
+        ensures sound { IsGraph self.new }
+    {
+        self.types = types;
     }
 }
 

@@ -1,0 +1,100 @@
+use Rattle.std.proofs.Common.{◌≡◌, ◌∙◌, sym, refl, true}
+use Rattle.std.specs.Vec.{with_items}
+use Rattle.std.proofs.lemmas.List.{with_items_is}
+use Rattle.sgb_graph.specs.declared.graph.Graph.TheInside.{Inside}
+use Rattle.sgb_graph.specs.Edit.{has_place, can_name}
+use Rattle.sgb_graph.proofs.Shows.{opened}
+use Rattle.sgb_graph.proofs.UtilLemmas.{UtilCan, value_sound, util_requires, util_done}
+use Rattle.sgb_graph.proofs.graph.Graph.set_util.Goals as goal
+
+pub exchange-old-requires : goal.exchange-old-requires
+exchange-old-requires c =
+    let a = c.self.inside in
+    let g = c.args.self.now in
+    let there : has_place g c.args.place ≡ true = sym c.has_place.ensures.value ∙ c.if-not-has_place.false in
+    let named : can_name g c.args.value ≡ true = sym c.can_name.ensures.value ∙ c.if-not-can_name.false in
+    let k : UtilCan a g c.args.place c.args.value c.stored-value.result a.fields c.deref_mut.result.now c.deref_mut-2.result.now = record {
+      opened = opened a g c.self.view_is c.self.invariant;
+      place = there;
+      value = value_sound g c.args.value c.stored-value.result named c.stored-value.ensures.value c.stored-value.ensures.storable;
+      fields = refl;
+      vertices = c.deref_mut.ensures.value;
+      slots = c.deref_mut-2.ensures.value
+    } in
+    util_requires _ _ _ _ _ _ _ _ k
+
+pub invariant_of-self : goal.invariant_of-self
+invariant_of-self c =
+    let a = c.self.inside in
+    let g = c.args.self.now in
+    let there : has_place g c.args.place ≡ true = sym c.has_place.ensures.value ∙ c.if-not-has_place.false in
+    let named : can_name g c.args.value ≡ true = sym c.can_name.ensures.value ∙ c.if-not-can_name.false in
+    let k : UtilCan a g c.args.place c.args.value c.stored-value.result a.fields c.deref_mut.result.now c.deref_mut-2.result.now = record {
+      opened = opened a g c.self.view_is c.self.invariant;
+      place = there;
+      value = value_sound g c.args.value c.stored-value.result named c.stored-value.ensures.value c.stored-value.ensures.storable;
+      fields = refl;
+      vertices = c.deref_mut.ensures.value;
+      slots = c.deref_mut-2.ensures.value
+    } in
+    let b : Inside = record { id = a.id; types = a.types; fields = c.exchange-old.new.fields; vertices = with_items a.vertices c.exchange-old.new.vertices; slots = with_items a.slots c.exchange-old.new.slots; live = a.live } in
+    (util_done a b g c.args.place c.args.value c.stored-value.result c.exchange-old.result _ _ _ _ _ _ k named c.stored-value.ensures.value c.stored-value.ensures.storable c.exchange-old.ensures refl
+      (with_items_is a.vertices c.exchange-old.new.vertices (c.exchange-old.auto.vertices ∙ c.deref_mut.ensures.len))
+      (with_items_is a.slots c.exchange-old.new.slots (c.exchange-old.auto.slots ∙ c.deref_mut-2.ensures.len)) refl refl refl).arena
+
+pub returns-clause-graph : goal.returns-clause-graph
+returns-clause-graph c =
+    let a = c.self.inside in
+    let g = c.args.self.now in
+    let there : has_place g c.args.place ≡ true = sym c.has_place.ensures.value ∙ c.if-not-has_place.false in
+    let named : can_name g c.args.value ≡ true = sym c.can_name.ensures.value ∙ c.if-not-can_name.false in
+    let k : UtilCan a g c.args.place c.args.value c.stored-value.result a.fields c.deref_mut.result.now c.deref_mut-2.result.now = record {
+      opened = opened a g c.self.view_is c.self.invariant;
+      place = there;
+      value = value_sound g c.args.value c.stored-value.result named c.stored-value.ensures.value c.stored-value.ensures.storable;
+      fields = refl;
+      vertices = c.deref_mut.ensures.value;
+      slots = c.deref_mut-2.ensures.value
+    } in
+    let b : Inside = record { id = a.id; types = a.types; fields = c.exchange-old.new.fields; vertices = with_items a.vertices c.exchange-old.new.vertices; slots = with_items a.slots c.exchange-old.new.slots; live = a.live } in
+    (util_done a b g c.args.place c.args.value c.stored-value.result c.exchange-old.result _ _ _ _ _ _ k named c.stored-value.ensures.value c.stored-value.ensures.storable c.exchange-old.ensures refl
+      (with_items_is a.vertices c.exchange-old.new.vertices (c.exchange-old.auto.vertices ∙ c.deref_mut.ensures.len))
+      (with_items_is a.slots c.exchange-old.new.slots (c.exchange-old.auto.slots ∙ c.deref_mut-2.ensures.len)) refl refl refl).graph
+
+pub returns-clause-left : goal.returns-clause-left
+returns-clause-left c =
+    let a = c.self.inside in
+    let g = c.args.self.now in
+    let there : has_place g c.args.place ≡ true = sym c.has_place.ensures.value ∙ c.if-not-has_place.false in
+    let named : can_name g c.args.value ≡ true = sym c.can_name.ensures.value ∙ c.if-not-can_name.false in
+    let k : UtilCan a g c.args.place c.args.value c.stored-value.result a.fields c.deref_mut.result.now c.deref_mut-2.result.now = record {
+      opened = opened a g c.self.view_is c.self.invariant;
+      place = there;
+      value = value_sound g c.args.value c.stored-value.result named c.stored-value.ensures.value c.stored-value.ensures.storable;
+      fields = refl;
+      vertices = c.deref_mut.ensures.value;
+      slots = c.deref_mut-2.ensures.value
+    } in
+    let b : Inside = record { id = a.id; types = a.types; fields = c.exchange-old.new.fields; vertices = with_items a.vertices c.exchange-old.new.vertices; slots = with_items a.slots c.exchange-old.new.slots; live = a.live } in
+    (util_done a b g c.args.place c.args.value c.stored-value.result c.exchange-old.result _ _ _ _ _ _ k named c.stored-value.ensures.value c.stored-value.ensures.storable c.exchange-old.ensures refl
+      (with_items_is a.vertices c.exchange-old.new.vertices (c.exchange-old.auto.vertices ∙ c.deref_mut.ensures.len))
+      (with_items_is a.slots c.exchange-old.new.slots (c.exchange-old.auto.slots ∙ c.deref_mut-2.ensures.len)) refl refl refl).left
+
+pub returns-clause-sound : goal.returns-clause-sound
+returns-clause-sound c =
+    let a = c.self.inside in
+    let g = c.args.self.now in
+    let there : has_place g c.args.place ≡ true = sym c.has_place.ensures.value ∙ c.if-not-has_place.false in
+    let named : can_name g c.args.value ≡ true = sym c.can_name.ensures.value ∙ c.if-not-can_name.false in
+    let k : UtilCan a g c.args.place c.args.value c.stored-value.result a.fields c.deref_mut.result.now c.deref_mut-2.result.now = record {
+      opened = opened a g c.self.view_is c.self.invariant;
+      place = there;
+      value = value_sound g c.args.value c.stored-value.result named c.stored-value.ensures.value c.stored-value.ensures.storable;
+      fields = refl;
+      vertices = c.deref_mut.ensures.value;
+      slots = c.deref_mut-2.ensures.value
+    } in
+    let b : Inside = record { id = a.id; types = a.types; fields = c.exchange-old.new.fields; vertices = with_items a.vertices c.exchange-old.new.vertices; slots = with_items a.slots c.exchange-old.new.slots; live = a.live } in
+    (util_done a b g c.args.place c.args.value c.stored-value.result c.exchange-old.result _ _ _ _ _ _ k named c.stored-value.ensures.value c.stored-value.ensures.storable c.exchange-old.ensures refl
+      (with_items_is a.vertices c.exchange-old.new.vertices (c.exchange-old.auto.vertices ∙ c.deref_mut.ensures.len))
+      (with_items_is a.slots c.exchange-old.new.slots (c.exchange-old.auto.slots ∙ c.deref_mut-2.ensures.len)) refl refl refl).sound
