@@ -1,10 +1,12 @@
 # The program, its tests and its benchmark. All that is needed is the toolchain, whose command is `rt`,
-# with python3; the memory test and the benchmark also take a C compiler.
+# with python3; the memory test takes a C compiler, and the benchmarks a C and a Rust compiler.
 
 PREFIX ?= /usr/local
 CC ?= cc
+# Where the benchmarks are built: outside this repository, so that `rt` here does not meet their copies.
+BENCH ?= /tmp/sgb_bench
 
-.PHONY: all demo test examples growths bench install clean FORCE
+.PHONY: all demo test examples growths bench bench_flip bench_graph install clean FORCE
 
 all: bin/sgb
 
@@ -40,26 +42,32 @@ tests/out/refuse_growth.so: tests/refuse_growth.c
 	mkdir -p tests/out
 	$(CC) -O2 -shared -fPIC -o $@ $<
 
-# Times the generator beside the same one in plain C, in one run on one machine. No part of the gate.
-bench: bench/out/plain_flip
-	mkdir -p bench/out/crates/flip_bench/src
-	rm -rf bench/out/crates/sgb_flip
-	cp -r crates/sgb_flip bench/out/crates/sgb_flip
-	cp bench/flip/main.rt bench/out/crates/flip_bench/src/main.rt
-	printf 'sgb_flip:\nflip_bench: sgb_flip\n' > bench/out/crates.txt
-	cd bench/out/crates/flip_bench && rt run > ../../first_run
-	python3 bench/compare.py bench/out/crates/flip_bench/out/flip_bench bench/out/plain_flip
+# Times the generator beside the same one in plain C, and graphs beside the same arena in plain Rust, in
+# one run on one machine. No part of the gate.
+bench: bench_flip bench_graph
 
-bench/out/plain_flip: bench/plain_flip.c
-	mkdir -p bench/out
+bench_flip: $(BENCH)/plain_flip
+	sh bench/build.sh flip sgb_flip $(BENCH)
+	python3 bench/compare.py $(BENCH)/flip/crates/flip_bench/out/flip_bench $(BENCH)/plain_flip
+
+bench_graph: $(BENCH)/plain_graph
+	sh bench/build.sh graph sgb_graph $(BENCH)
+	python3 bench/compare.py $(BENCH)/graph/crates/graph_bench/out/graph_bench $(BENCH)/plain_graph
+
+$(BENCH)/plain_flip: bench/plain_flip.c
+	mkdir -p $(BENCH)
 	$(CC) -O3 -o $@ $<
+
+$(BENCH)/plain_graph: bench/plain_graph.rs
+	mkdir -p $(BENCH)
+	rustc -O -o $@ $<
 
 install: bin/sgb
 	mkdir -p $(PREFIX)/bin
 	cp bin/sgb $(PREFIX)/bin/sgb
 
 clean:
-	rm -rf bin tests/out bench/out
+	rm -rf bin tests/out
 	rm -rf crates/*/out
 
 FORCE:

@@ -26,8 +26,9 @@ def main():
     for name in ours:
         print('%-16s %10.3f %10.3f %7.2f' % (name, ours[name] / 1000, plain[name] / 1000,
                                             ours[name] / plain[name]))
-    print('back to next: %.2f; back_by to back: %.2f' % (ours['back'] / ours['next'],
-                                                       ours['back_by'] / ours['back']))
+    if 'back_by' in ours:
+        print('back to next: %.2f; back_by to back: %.2f' % (ours['back'] / ours['next'],
+                                                           ours['back_by'] / ours['back']))
 
 
 if __name__ == '__main__':
