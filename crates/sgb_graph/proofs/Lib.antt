@@ -3,6 +3,8 @@ pub mod Counts
 pub mod CutLemmas
 pub mod ExchangeLemmas
 pub mod Graphs
+pub mod GrowLemmas
+pub mod Growing
 pub mod Holes
 pub mod InsertLemmas
 pub mod Laws

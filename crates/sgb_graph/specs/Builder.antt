@@ -12,6 +12,9 @@ pub record Insertion : Type 0 where
   pub to : ℕ
   pub len : ℤ
 
+abbrev pub insertion : ℕ → ℕ → ℤ → Insertion
+insertion from to len = record { from = from; to = to; len = len }
+
 unfoldable pub inserted : Bool → GraphOf → Insertion → GraphOf
 inserted true g e = with_arc g e.from e.to e.len
 inserted false g e = with_edge g e.from e.to e.len

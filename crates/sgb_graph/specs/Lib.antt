@@ -18,3 +18,4 @@ pub mod Revert
 pub mod Set
 pub mod Text
 pub mod Types
+pub mod Vertex

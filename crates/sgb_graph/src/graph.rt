@@ -3,6 +3,7 @@
 mod arcs;
 mod cut;
 mod exchange;
+mod grow;
 mod insert;
 mod link;
 mod new;

@@ -27,10 +27,21 @@ impl Graph {
         let vertices = blank_vertices(alloc, n)?;
         Ok(bare_graph(alloc, id, Types::none(), vertices))
     }
+
+    // A graph without vertices.
+    pub(crate) fn empty(alloc: Global, id: Text, types: Types) -> Graph
+        requires { length id ≤ 160 }
+        ensures value { result ≡ bare_graph id types [] }
+        ensures graph { IsGraph result }
+    {
+        let _ = id.bytes();
+        let _ = types.letters();
+        bare_graph(alloc, id, types, Vec::new(alloc))
+    }
 }
 
 // The graph of these vertices, without arcs.
-pub(super) fn bare_graph(alloc: Global, id: Text, types: Types, vertices: Vec<Vertex>) -> Graph
+fn bare_graph(alloc: Global, id: Text, types: Types, vertices: Vec<Vertex>) -> Graph
     requires few { length vertices.items ≤ 65535 }
     requires id { IsId id }
     requires types { IsTypes types }
@@ -48,7 +59,7 @@ pub(super) fn bare_graph(alloc: Global, id: Text, types: Types, vertices: Vec<Ve
     }
 }
 
-pub(super) fn six_zeros() -> [Util; 6]
+fn six_zeros() -> [Util; 6]
     ensures { result ≡ six_zeros }
 {
     [

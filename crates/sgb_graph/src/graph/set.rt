@@ -148,7 +148,7 @@ impl Graph {
 }
 
 // The value as it is stored.
-fn stored(value: Util) -> Util
+pub(super) fn stored(value: Util) -> Util
     ensures value { result ≡ stored value }
     ensures storable { IsStorable result }
 {

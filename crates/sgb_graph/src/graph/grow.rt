@@ -1,0 +1,65 @@
+//! New vertices, and room for vertices and arcs.
+ghost use Rattle.std.specs.Prelude.{◌≡◌, ◌≤◌, ◌⊎◌, length, map, All, IfErr, OnOk, OnErr};
+ghost use Rattle.sgb_graph.specs.Graph.{n_of};
+ghost use Rattle.sgb_graph.specs.Edit.{stored};
+ghost use Rattle.sgb_graph.specs.Set.{IsStorable};
+ghost use Rattle.sgb_graph.specs.Vertex.{NamesNothing, new_vertex, with_vertex_last};
+
+use super::set::stored;
+use super::{Graph, MOST_VERTICES, Vertex};
+use crate::{Label, Refusal, Text, Util};
+
+impl Graph {
+    // Adds a vertex, last. Its fields name nothing.
+    pub(crate) fn push_vertex(&mut self, label: Text, fields: [Util; 6]) -> Result<(), Refusal>
+        requires { All NamesNothing fields }
+        ensures ok { OnOk result (self.new ≡ with_vertex_last self.old (new_vertex label fields)) }
+        ensures err { IfErr result (λ e. (e ≡ Refusal.NoRoom) ⊎ ((e ≡ Refusal.TooLarge) × (65535 ≤ n_of self.old))) }
+        ensures unchanged { OnErr result (self.new ≡ self.old) }
+    {
+        if self.n() >= MOST_VERTICES {
+            return Err(Refusal::TooLarge);
+        }
+        let label = Label::new(label);
+        let fields = stored_six(fields);
+        self.vertices.push(Vertex {
+            label,
+            fields,
+            first: None,
+        })?;
+        Ok(())
+    }
+
+    pub(crate) fn reserve_vertices(&mut self, count: usize) -> Result<(), Refusal>
+        ensures same { self.new ≡ self.old }
+        ensures err { IfErr result (λ e. e ≡ Refusal.NoRoom) }
+    {
+        self.vertices.reserve(count)?;
+        Ok(())
+    }
+
+    pub(crate) fn reserve_arcs(&mut self, count: usize) -> Result<(), Refusal>
+        ensures same { self.new ≡ self.old }
+        ensures err { IfErr result (λ e. e ≡ Refusal.NoRoom) }
+    {
+        self.slots.reserve(count)?;
+        Ok(())
+    }
+}
+
+// The values as they are stored.
+fn stored_six(fields: [Util; 6]) -> [Util; 6]
+    ensures value { result ≡ map stored fields }
+    ensures storable { All IsStorable result }
+    ensures six { length result ≡ 6 }
+{
+    let [u, v, w, x, y, z] = fields;
+    [
+        stored(u),
+        stored(v),
+        stored(w),
+        stored(x),
+        stored(y),
+        stored(z),
+    ]
+}
