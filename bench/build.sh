@@ -1,6 +1,7 @@
 #!/bin/sh
 # Builds the benchmark NAME over the crate CRATE in a workspace of its own below PLACE, outside this
-# repository, so that neither the gate nor `rt` here meets the copy.
+# repository, so that neither the gate nor `rt` here meets the copy. For the same reason the benchmark's
+# source is no file of Rattle here, and becomes one there.
 set -eu
 name=$1
 crate=$2
@@ -9,7 +10,7 @@ rm -rf "$place"
 mkdir -p "$place/crates/${name}_bench/src"
 cp -r "crates/$crate" "$place/crates/$crate"
 rm -rf "$place/crates/$crate/out"
-cp "bench/$name/main.rt" "$place/crates/${name}_bench/src/main.rt"
+cp "bench/$name.rt.in" "$place/crates/${name}_bench/src/main.rt"
 grep "^$crate:" crates.txt > "$place/crates.txt"
 echo "${name}_bench: $crate" >> "$place/crates.txt"
 cd "$place/crates/${name}_bench"
