@@ -16,3 +16,6 @@ pub use graph::{ArcView, Arcs, Graph, MOST_ARCS, MOST_VERTICES};
 pub use refusal::Refusal;
 pub use text::{Label, Text};
 pub use types::Types;
+
+#[cfg(test)]
+mod tests;
