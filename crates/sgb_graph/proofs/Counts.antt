@@ -22,16 +22,16 @@ pub any_none : (k : ℕ) (ks : List ℕ) → occurrences k ks ≡ 0 → list_any
 any_none k [] h = refl
 any_none k (j ∷ ks) h =
     elim (cases_Bool (j == k)) [
-      inl e ↦ absurd (omega (arith, occurs_yes k j ks (eqb-true j k e)))
-    | inr e ↦ rw e (any_none k ks (omega (arith, occurs_no k j ks (eqb-false j k e))))
+      | inl e ↦ absurd (omega (arith, occurs_yes k j ks (eqb-true j k e)))
+      | inr e ↦ rw e (any_none k ks (omega (arith, occurs_no k j ks (eqb-false j k e))))
     ]
 
 pub any_some : (k : ℕ) (ks : List ℕ) → 0 < occurrences k ks → list_any (λ j. j == k) ks ≡ true
 any_some k [] h = absurd (omega arith)
 any_some k (j ∷ ks) h =
     elim (cases_Bool (j == k)) [
-      inl e ↦ rw e refl
-    | inr e ↦ rw e (any_some k ks (omega (arith, occurs_no k j ks (eqb-false j k e))))
+      | inl e ↦ rw e refl
+      | inr e ↦ rw e (any_some k ks (omega (arith, occurs_no k j ks (eqb-false j k e))))
     ]
 
 -- an element of the list occurs
@@ -51,33 +51,33 @@ occurs-without : (n k : ℕ) (ks : List ℕ) → k ≢ n → occurrences k (with
 occurs-without n k [] other = refl
 occurs-without n k (j ∷ ks) other =
     elim (cases_Bool (j == n)) [
-      inl e ↦
-        let ne : j ≢ k = λ same. other (sym same ∙ eqb-true j n e) in
-        rw e (occurs-without n k ks other ∙ sym (occurs_no k j ks ne))
-    | inr e ↦
-        let s = sum_by-cons (λ x. cond (x == k) 1 0) j ks in
-        let t = sum_by-cons (λ x. cond (x == k) 1 0) j (without n ks) in
-        rw e (omega (arith, s, t, occurs-without n k ks other))
+      | inl e ↦
+          let ne : j ≢ k = λ same. other (sym same ∙ eqb-true j n e) in
+          rw e (occurs-without n k ks other ∙ sym (occurs_no k j ks ne))
+      | inr e ↦
+          let s = sum_by-cons (λ x. cond (x == k) 1 0) j ks in
+          let t = sum_by-cons (λ x. cond (x == k) 1 0) j (without n ks) in
+          rw e (omega (arith, s, t, occurs-without n k ks other))
     ]
 
 occurs-without_it : (n : ℕ) (ks : List ℕ) → occurrences n (without n ks) ≡ 0
 occurs-without_it n [] = refl
 occurs-without_it n (j ∷ ks) =
     elim (cases_Bool (j == n)) [
-      inl e ↦ rw e (occurs-without_it n ks)
-    | inr e ↦ rw e (occurs_no n j (without n ks) (eqb-false j n e) ∙ occurs-without_it n ks)
+      | inl e ↦ rw e (occurs-without_it n ks)
+      | inr e ↦ rw e (occurs_no n j (without n ks) (eqb-false j n e) ∙ occurs-without_it n ks)
     ]
 
 length-without : (n : ℕ) (ks : List ℕ) → length ks ≡ occurrences n ks + length (without n ks)
 length-without n [] = refl
 length-without n (j ∷ ks) =
     elim (cases_Bool (j == n)) [
-      inl e ↦
-        let w : length (without n (j ∷ ks)) ≡ length (without n ks) = ap (λ b. length (cond b (without n ks) (j ∷ without n ks))) e in
-        omega (arith, w, length-without n ks, occurs_yes n j ks (eqb-true j n e))
-    | inr e ↦
-        let w : length (without n (j ∷ ks)) ≡ 1 + length (without n ks) = ap (λ b. length (cond b (without n ks) (j ∷ without n ks))) e ∙ omega arith in
-        omega (arith, w, length-without n ks, occurs_no n j ks (eqb-false j n e))
+      | inl e ↦
+          let w : length (without n (j ∷ ks)) ≡ length (without n ks) = ap (λ b. length (cond b (without n ks) (j ∷ without n ks))) e in
+          omega (arith, w, length-without n ks, occurs_yes n j ks (eqb-true j n e))
+      | inr e ↦
+          let w : length (without n (j ∷ ks)) ≡ 1 + length (without n ks) = ap (λ b. length (cond b (without n ks) (j ∷ without n ks))) e ∙ omega arith in
+          omega (arith, w, length-without n ks, occurs_no n j ks (eqb-false j n e))
     ]
 
 -- numbers below n that do not repeat are at most n
@@ -86,24 +86,24 @@ few_numbers zero [] once below = omega arith
 few_numbers zero (k ∷ ks) once below = absurd (omega (arith, below k (omega arith), occurs_yes k k ks refl))
 few_numbers (suc n) ks once below =
     let rest : length (without n ks) ≤ n =
-        few_numbers n (without n ks)
-        (λ k. elim (cases_eq k n) [
-          inl same ↦ omega (arith, ap (λ x. occurrences x (without n ks)) same, occurs-without_it n ks)
-        | inr other ↦ omega (arith, occurs-without n k ks other, once k)
-        ])
-        (λ k h. elim (cases_eq k n) [
-          inl same ↦ ap (λ x. occurrences x (without n ks)) same ∙ occurs-without_it n ks
-        | inr other ↦ occurs-without n k ks other ∙ below k (let ne : k ≢ n = other in omega arith)
-        ]) in
+    few_numbers n (without n ks)
+    (λ k. elim (cases_eq k n) [
+      | inl same ↦ omega (arith, ap (λ x. occurrences x (without n ks)) same, occurs-without_it n ks)
+      | inr other ↦ omega (arith, occurs-without n k ks other, once k)
+    ])
+    (λ k h. elim (cases_eq k n) [
+      | inl same ↦ ap (λ x. occurrences x (without n ks)) same ∙ occurs-without_it n ks
+      | inr other ↦ occurs-without n k ks other ∙ below k (let ne : k ≢ n = other in omega arith)
+    ]) in
     omega (arith, rest, length-without n ks, once n)
 
 -- two places of a list add up to no more than the whole
 pub sum_two : {X : Type 0} (f : X → ℕ) (xs : List X) (i j : ℕ) (d : X) → i < j → j < length xs → f (get_or xs i d) + f (get_or xs j d) ≤ sum_by f xs
 sum_two {X} f xs i j d low high =
     let first : f (get_or (take j xs) i d) ≤ sum_by f (take j xs) =
-        get_or-le-sum_by f (take j xs) i d (omega (arith, length-take {A = X})) in
+    get_or-le-sum_by f (take j xs) i d (omega (arith, length-take {A = X})) in
     let second : f (get_or (drop j xs) 0 d) ≤ sum_by f (drop j xs) =
-        get_or-le-sum_by f (drop j xs) 0 d (omega (arith, length-drop {A = X})) in
+    get_or-le-sum_by f (drop j xs) 0 d (omega (arith, length-drop {A = X})) in
     let here : f (get_or xs i d) ≤ sum_by f (take j xs) = rw get_or-take at first in
     let there : f (get_or xs (j + 0) d) ≤ sum_by f (drop j xs) = rw (get_or-drop j xs 0 d) at second in
     let there' : f (get_or xs j d) ≤ sum_by f (drop j xs) = subst (λ n. f (get_or xs n d) ≤ sum_by f (drop j xs)) (omega arith) there in
@@ -133,8 +133,8 @@ pub sum_some : {X : Type 0} (f : X → ℕ) (xs : List X) (d : X) → 0 < sum_by
 sum_some f [] d h = absurd (omega arith)
 sum_some f (x ∷ xs) d h =
     elim (cases_lt 0 (f x)) [
-      inl here ↦ (0, omega arith, here)
-    | inr none ↦
-        let r = sum_some f xs d (omega (arith, sum_by-cons f x xs)) in
-        (suc r.0, omega (arith, r.1), r.2)
+      | inl here ↦ (0, omega arith, here)
+      | inr none ↦
+          let r = sum_some f xs d (omega (arith, sum_by-cons f x xs)) in
+          (suc r.0, omega (arith, r.1), r.2)
     ]

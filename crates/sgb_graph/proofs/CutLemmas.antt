@@ -55,7 +55,7 @@ pub record CutLeft (b : Inside) (g : GraphOf) (k : ℕ) (c : CutArc) : Type 0 wh
   pub sound : IsGraph (graph_of b)
 
 pub cut_left : (a b : Inside) (g : GraphOf) (k : ℕ) (c : CutArc) (vs ws : List Vertex) (ss ts : Slots) → CutCan a g k vs ss → refusal_of_cut g k ≡ None
-  → TakesOut vs ss k c ws ts → b.vertices.items ≡ ws → b.slots.items ≡ ts → b.live ≡ a.live - 1 → SameOwn a b → CutLeft b g k c
+    → TakesOut vs ss k c ws ts → b.vertices.items ≡ ws → b.slots.items ≡ ts → b.live ≡ a.live - 1 → SameOwn a b → CutLeft b g k c
 unfolding without_arc without_listed
 cut_left a b g k c vs ws ss ts x accepted takes vertices slots live own =
     let o = x.opened in
@@ -69,7 +69,7 @@ cut_left a b g k c vs ws ss ts x accepted takes vertices slots live own =
       live = omega (arith, live, o.live, take_m g k f);
       id = own.id ∙ o.id;
       types = own.types ∙ o.types;
-      fields = own.fields ∙ o.fields
+      fields = own.fields ∙ o.fields;
     } in
     let arena = closed_arena b h after in
     let number : c.number.0 ≡ k = ap (λ z. z.number.0) t.0 in
@@ -81,9 +81,9 @@ cut_left a b g k c vs ws ss ts x accepted takes vertices slots live own =
         graph = o.graph;
         accepted = ap (refusal_of_cut g) number ∙ accepted;
         arc = t.0 ∙ ap (cut_arc g) (sym number);
-        left = closed b h after ∙ ap (without_arc g) (sym number)
+        left = closed b h after ∙ ap (without_arc g) (sym number);
       };
-      sound = arena.graph
+      sound = arena.graph;
     }
 
 -- what the test before a cut tells
@@ -107,26 +107,27 @@ take_hole vs ts g x =
     let size : length ts ≡ m + 1 = x.made ∙ hole_made g in
     let size' : length us ≡ m = length-take-le m ts (omega arith) in
     let same : (j : ℕ) → slot_at us j ≡ slot_at ts j = λ j.
-      elim (cases_order j m) [
-        inl here ↦
+    elim (cases_order j m) [
+      | inl here ↦
           get_or_past us j None (omega arith)
           ∙ sym (ap (slot_at ts) here ∙ no_slot (slot_at ts m) (x.entries m ∙ (at_hole g.entries m ∙ get_or_past g.entries m None (omega arith))))
       | inr (inl low) ↦ get_or-take m ts j None low
       | inr (inr high) ↦ get_or_past us j None (omega arith) ∙ sym (get_or_past ts j None (omega arith))
-      ] in
+    ] in
     record {
       n = x.n;
       vertices = λ v d h.
-        let y = x.vertices v d h in
-        record {
-          label = y.label; fields = y.fields;
-          arcs = Leads-agree (next_at ts) (next_at us) (get_or vs v d).first (arcs_of g v) None (λ j _. ap next_of (same j)) y.arcs
-        };
+          let y = x.vertices v d h in
+          record {
+            label = y.label;
+            fields = y.fields;
+            arcs = Leads-agree (next_at ts) (next_at us) (get_or vs v d).first (arcs_of g v) None (λ j _. ap next_of (same j)) y.arcs;
+          };
       made = size';
       entries = λ j. ap entry_of (same j) ∙ (x.entries j ∙ at_hole g.entries j);
       owners = λ j. subst (λ o. IfSome (owner_in o) (λ v. occurrences j (arcs_of g v.0) ≡ 1)) (sym (same j)) (x.owners j);
       names = λ j. subst (λ o. IfSome (names_counted o) (λ m. m ≡ names_of g j)) (sym (same j))
-        (subst (λ z. IfSome (names_counted (slot_at ts j)) (λ m. m ≡ z)) (hole_names g j) (x.names j))
+          (subst (λ z. IfSome (names_counted (slot_at ts j)) (λ m. m ≡ z)) (hole_names g j) (x.names j));
     }
 
 -- undoing a cut
@@ -138,8 +139,8 @@ pub record RevertCan (a : Inside) (h : GraphOf) (vs : List Vertex) (ss : Slots) 
 pub cut_taken : (g h : GraphOf) (c : CutArc) → LeftByCut g c h → CanTakeOut g c.number.0
 cut_taken g h c left =
     elim (cases_Bool (has_arc g c.number.0 && (names_of g c.number.0 == 0))) [
-      inl e ↦ can_cut_is g c.number.0 e
-    | inr e ↦ absurd (let no_cut = ap (λ b. refusal_unless b BadOperand None) e in let accepted = left.accepted in cc)
+      | inl e ↦ can_cut_is g c.number.0 e
+      | inr e ↦ absurd (let no_cut = ap (λ b. refusal_unless b BadOperand None) e in let accepted = left.accepted in cc)
     ]
 
 pub revert_cut_can : (g h : GraphOf) (c : CutArc) → LeftByCut g c h → CanPutBack h c
@@ -154,13 +155,13 @@ revert_cut_requires a h c vs ss g x left =
     record { graph = h; sound = x.opened.graph; shows = rw (x.vertices, x.slots) x.opened.shows; can = revert_cut_can g h c left }
 
 pub revert_cut_after : (a b : Inside) (h : GraphOf) (c : CutArc) (vs ws : List Vertex) (ss ts : Slots) (g : GraphOf) → RevertCan a h vs ss → LeftByCut g c h
-  → PutsBack vs ss c ws ts → b.vertices.items ≡ ws → b.slots.items ≡ ts → b.live ≡ a.live + 1 → SameOwn a b → Opened b g
+    → PutsBack vs ss c ws ts → b.vertices.items ≡ ws → b.slots.items ≡ ts → b.live ≡ a.live + 1 → SameOwn a b → Opened b g
 revert_cut_after a b h c vs ws ss ts g x left puts vertices slots live own =
     let o = x.opened in
     let can = cut_taken g h c left in
     let f = found_live g c.number.0 left.graph can.live in
     let back : with_cut_arc h c ≡ g =
-        ap (λ k. with_cut_arc k c) left.left ∙ (ap (with_cut_arc (without_arc g c.number.0)) left.arc ∙ with_cut_arc-without_arc g c.number.0 f) in
+    ap (λ k. with_cut_arc k c) left.left ∙ (ap (with_cut_arc (without_arc g c.number.0)) left.arc ∙ with_cut_arc-without_arc g c.number.0 f) in
     let shows : Shows b.vertices.items b.slots.items (with_cut_arc h c) = rw (vertices, slots) (puts h (rw (x.vertices, x.slots) o.shows) o.graph (revert_cut_can g h c left)) in
     subst (Opened b) back
     (put_after b h c o.graph (revert_cut_can g h c left) shows (live ∙ ap (λ n. n + 1) o.live) (own.id ∙ o.id) (own.types ∙ o.types) (own.fields ∙ o.fields))
@@ -169,13 +170,13 @@ revert_cut_after a b h c vs ws ss ts g x left puts vertices slots live own =
 pub arc_refused : (g : GraphOf) (u v : ℕ) → refusal_of_arc g u v ≡ None → (u < n_of g) × (v < n_of g) × (made_of g + 1 ≤ 1000000)
 arc_refused g u v none =
     elim (cases_Bool (has_vertex g u && has_vertex g v)) [
-      inl both ↦
-        let p = and_parts (has_vertex g u) (has_vertex g v) both in
-        elim (cases_Bool (nat_le (made_of g + 1) 1000000)) [
-          inl few ↦ (ltb-true u (n_of g) p.0, ltb-true v (n_of g) p.1, leb-true (made_of g + 1) 1000000 few)
-        | inr many ↦ absurd (let bad = ap (λ b. refusal_unless (has_vertex g u && has_vertex g v) BadOperand (refusal_unless b TooLarge None)) many in let same = ap (λ b. refusal_unless b BadOperand (refusal_unless false TooLarge None)) both in cc)
-        ]
-    | inr not_both ↦ absurd (let bad = ap (λ b. refusal_unless b BadOperand (refusal_unless (nat_le (made_of g + 1) 1000000) TooLarge None)) not_both in cc)
+      | inl both ↦
+          let p = and_parts (has_vertex g u) (has_vertex g v) both in
+          elim (cases_Bool (nat_le (made_of g + 1) 1000000)) [
+            | inl few ↦ (ltb-true u (n_of g) p.0, ltb-true v (n_of g) p.1, leb-true (made_of g + 1) 1000000 few)
+            | inr many ↦ absurd (let bad = ap (λ b. refusal_unless (has_vertex g u && has_vertex g v) BadOperand (refusal_unless b TooLarge None)) many in let same = ap (λ b. refusal_unless b BadOperand (refusal_unless false TooLarge None)) both in cc)
+          ]
+      | inr not_both ↦ absurd (let bad = ap (λ b. refusal_unless b BadOperand (refusal_unless (nat_le (made_of g + 1) 1000000) TooLarge None)) not_both in cc)
     ]
 
 pub record NewArcLeft (g : GraphOf) (k : ArcNo) (h : GraphOf) (c : CutArc) : Type 0 where
@@ -193,7 +194,7 @@ new_arc_left g h k l =
       can = new_can g l.from l.to l.len l.graph p.0 p.1 l.fits;
       number = sym l.number;
       left = l.left ∙ with_arc_is g l.from l.to l.len;
-      unnamed = λ j. refl
+      unnamed = λ j. refl;
     }
 
 -- an arc that was put at a hole can be taken out
@@ -201,7 +202,7 @@ pub put_taken : (h : GraphOf) (c : CutArc) → IsGraph h → CanPutBack h c → 
 put_taken h c sound can none =
     record {
       live = ap is_some (put_entry_same h c can);
-      unnamed = omega (arith, put_names h c c.number.0 can, hole_unnamed h c.number.0 sound can.hole, none)
+      unnamed = omega (arith, put_names h c c.number.0 can, hole_unnamed h c.number.0 sound can.hole, none);
     }
 
 pub revert_arc_can : (g h : GraphOf) (k : ArcNo) → LeftByArc g k h → CanTakeOut h k.0
@@ -226,7 +227,7 @@ unfolding with_arc with_listed with_entry_last
 same_own g h k l = (ap (λ z. z.id) l.left, ap (λ z. z.types) l.left, ap (λ z. z.fields) l.left)
 
 pub revert_arc_after : (a b : Inside) (h : GraphOf) (k : ArcNo) (c : CutArc) (vs ws : List Vertex) (ss ts : Slots) (g : GraphOf) → RevertCan a h vs ss → LeftByArc g k h
-  → TakesOut vs ss k.0 c ws ts → b.vertices.items ≡ ws → b.slots.items ≡ take k.0 ts → b.live ≡ a.live - 1 → SameOwn a b → Opened b g
+    → TakesOut vs ss k.0 c ws ts → b.vertices.items ≡ ws → b.slots.items ≡ take k.0 ts → b.live ≡ a.live - 1 → SameOwn a b → Opened b g
 revert_arc_after a b h k c vs ws ss ts g x l takes vertices slots live own =
     let o = x.opened in
     let can = revert_arc_can g h k l in
@@ -241,20 +242,20 @@ revert_arc_after a b h k c vs ws ss ts g x l takes vertices slots live own =
       live = omega (arith, live, o.live, take_m h k.0 f, ap m_of law, hole_m g);
       id = own.id ∙ (o.id ∙ (same_own g h k l).0);
       types = own.types ∙ (o.types ∙ (same_own g h k l).1);
-      fields = own.fields ∙ (o.fields ∙ (same_own g h k l).2)
+      fields = own.fields ∙ (o.fields ∙ (same_own g h k l).2);
     }
 
 -- undoing a new edge
 pub edge_refused : (g : GraphOf) (u v : ℕ) → refusal_of_edge g u v ≡ None → (u < n_of g) × (v < n_of g) × (made_of g + 2 ≤ 1000000)
 edge_refused g u v none =
     elim (cases_Bool (has_vertex g u && has_vertex g v)) [
-      inl both ↦
-        let p = and_parts (has_vertex g u) (has_vertex g v) both in
-        elim (cases_Bool (nat_le (made_of g + 2) 1000000)) [
-          inl few ↦ (ltb-true u (n_of g) p.0, ltb-true v (n_of g) p.1, leb-true (made_of g + 2) 1000000 few)
-        | inr many ↦ absurd (let bad = ap (λ b. refusal_unless (has_vertex g u && has_vertex g v) BadOperand (refusal_unless b TooLarge None)) many in let same = ap (λ b. refusal_unless b BadOperand (refusal_unless false TooLarge None)) both in cc)
-        ]
-    | inr not_both ↦ absurd (let bad = ap (λ b. refusal_unless b BadOperand (refusal_unless (nat_le (made_of g + 2) 1000000) TooLarge None)) not_both in cc)
+      | inl both ↦
+          let p = and_parts (has_vertex g u) (has_vertex g v) both in
+          elim (cases_Bool (nat_le (made_of g + 2) 1000000)) [
+            | inl few ↦ (ltb-true u (n_of g) p.0, ltb-true v (n_of g) p.1, leb-true (made_of g + 2) 1000000 few)
+            | inr many ↦ absurd (let bad = ap (λ b. refusal_unless (has_vertex g u && has_vertex g v) BadOperand (refusal_unless b TooLarge None)) many in let same = ap (λ b. refusal_unless b BadOperand (refusal_unless false TooLarge None)) both in cc)
+          ]
+      | inr not_both ↦ absurd (let bad = ap (λ b. refusal_unless b BadOperand (refusal_unless (nat_le (made_of g + 2) 1000000) TooLarge None)) not_both in cc)
     ]
 
 pub record NewEdgeLeft (g : GraphOf) (k : ArcNo) (h : GraphOf) : Type 0 where
@@ -285,7 +286,7 @@ new_edge_left g h k l =
       number = sym same;
       after = ap (λ n. n + 1) (sym same);
       left = l.left ∙ with_edge_is g l.from l.to l.len;
-      unnamed = λ j. (refl, refl)
+      unnamed = λ j. (refl, refl);
     }
 
 pub record RevertEdgeCan (g : GraphOf) (k : ℕ) (h : GraphOf) : Type 0 where
@@ -301,12 +302,12 @@ revert_edge_can g h k l =
     let p = with_cut_arc e x.second in
     let sound : IsGraph p = put_sound e x.second x.hole x.can in
     let law : without_arc h k.0 ≡ p =
-        ap (without_arc h) (sym x.number) ∙ (ap (λ z. without_arc z x.first.number.0) x.left ∙ without_arc-with_cut_arc p x.first sound x.next) in
+    ap (without_arc h) (sym x.number) ∙ (ap (λ z. without_arc z x.first.number.0) x.left ∙ without_arc-with_cut_arc p x.first sound x.next) in
     record {
       can = subst (CanTakeOut h) x.number (subst (λ z. CanTakeOut z x.first.number.0) (sym x.left) (put_taken p x.first sound x.next (x.unnamed x.first.number.0).0));
       next = subst (λ z. CanTakeOut z (k.0 + 1)) (sym law) (subst (CanTakeOut p) x.after (put_taken e x.second x.hole x.can (x.unnamed x.second.number.0).1));
       law = ap (λ z. without_arc z (k.0 + 1)) law ∙ (ap (without_arc p) (sym x.after) ∙ without_arc-with_cut_arc e x.second x.hole x.can);
-      middle = subst IsGraph (sym law) sound
+      middle = subst IsGraph (sym law) sound;
     }
 
 pub revert_edge_requires : (a : Inside) (h : GraphOf) (k : ArcNo) (vs : List Vertex) (ss : Slots) (g : GraphOf) → RevertCan a h vs ss → LeftByEdge g k h → CanBothBeTakenOut vs ss k.0
@@ -324,7 +325,7 @@ revert_edge_live g h k sound l =
     omega (arith, take_m h k.0 (found_live h k.0 sound y.can.live), take_m (without_arc h k.0) (k.0 + 1) (found_live (without_arc h k.0) (k.0 + 1) y.middle y.next.live), ap m_of y.law, hole_m g, hole_m (with_hole g))
 
 pub revert_edge_after : (a b : Inside) (h : GraphOf) (k : ArcNo) (vs ws : List Vertex) (ss ts : Slots) (g : GraphOf) → RevertCan a h vs ss → LeftByEdge g k h
-  → TakesOutBoth vs ss k.0 ws ts → b.vertices.items ≡ ws → b.slots.items ≡ take k.0 ts → b.live ≡ a.live - 2 → SameOwn a b → Opened b g
+    → TakesOutBoth vs ss k.0 ws ts → b.vertices.items ≡ ws → b.slots.items ≡ take k.0 ts → b.live ≡ a.live - 2 → SameOwn a b → Opened b g
 revert_edge_after a b h k vs ws ss ts g x l takes vertices slots live own =
     let o = x.opened in
     let y = revert_edge_can g h k l in
@@ -339,5 +340,5 @@ revert_edge_after a b h k vs ws ss ts g x l takes vertices slots live own =
       live = omega (arith, live, o.live, revert_edge_live g h k o.graph l);
       id = own.id ∙ (o.id ∙ (same_own_edge g h k l).0);
       types = own.types ∙ (o.types ∙ (same_own_edge g h k l).1);
-      fields = own.fields ∙ (o.fields ∙ (same_own_edge g h k l).2)
+      fields = own.fields ∙ (o.fields ∙ (same_own_edge g h k l).2);
     }

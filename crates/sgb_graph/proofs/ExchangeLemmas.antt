@@ -86,39 +86,42 @@ vertex_facts g v f u sound can =
     record {
       sound = record {
         listed = λ k.
-          let s = sum_by-set (λ z. occurrences k z.arcs) g.vertices v.0 y no_vertex low in
-          let same : listings k h.vertices ≡ listings k g.vertices = omega (arith, s) in
-          same ∙ sound.listed k;
-        id = sound.id; types = sound.types; six = sound.six;
+            let s = sum_by-set (λ z. occurrences k z.arcs) g.vertices v.0 y no_vertex low in
+            let same : listings k h.vertices ≡ listings k g.vertices = omega (arith, s) in
+            same ∙ sound.listed k;
+        id = sound.id;
+        types = sound.types;
+        six = sound.six;
         values = λ k d l. IsValue-keeps (n_of g) (n_of h) g.entries h.entries (get_or g.fields k d) keeps (sound.values k d l);
         vertices = All-set (IsVertex (n_of h) h.entries) g.vertices v.0 y
-          (λ k d l. IsVertex-keeps (n_of g) (n_of h) g.entries h.entries (get_or g.vertices k d) keeps (sound.vertices k d l))
-          (record {
-            label = owner.label;
-            six = length-set x.fields i u ∙ owner.six;
-            values = All-set (IsValue (n_of h) h.entries) x.fields i u
-              (λ k d l. IsValue-keeps (n_of g) (n_of h) g.entries h.entries (get_or x.fields k d) keeps (owner.values k d l))
-              (IsValue-keeps (n_of g) (n_of h) g.entries h.entries u keeps can.value)
-          });
+            (λ k d l. IsVertex-keeps (n_of g) (n_of h) g.entries h.entries (get_or g.vertices k d) keeps (sound.vertices k d l))
+            (record {
+              label = owner.label;
+              six = length-set x.fields i u ∙ owner.six;
+              values = All-set (IsValue (n_of h) h.entries) x.fields i u
+                  (λ k d l. IsValue-keeps (n_of g) (n_of h) g.entries h.entries (get_or x.fields k d) keeps (owner.values k d l))
+                  (IsValue-keeps (n_of g) (n_of h) g.entries h.entries u keeps can.value);
+            });
         arcs = λ k d l. IsEntry-keeps (n_of g) (n_of h) g.entries h.entries (get_or g.entries k d) keeps (sound.arcs k d l);
         few_vertices = omega (arith, n, sound.few_vertices);
-        few_arcs = sound.few_arcs
+        few_arcs = sound.few_arcs;
       };
       n = n;
       made = refl;
       m = refl;
-      id = refl; types = refl;
+      id = refl;
+      types = refl;
       arcs = λ w. elim (cases_eq w v.0) [
-        inl same ↦
-          ap (λ k. (get_or h.vertices k no_vertex).arcs) same
-          ∙ (ap (λ z. z.arcs) (get_or-set_same g.vertices v.0 y no_vertex low) ∙ ap (arcs_of g) (sym same))
-      | inr ne ↦ ap (λ z. z.arcs) (get_or-set_other g.vertices v.0 w y no_vertex ne)
+        | inl same ↦
+            ap (λ k. (get_or h.vertices k no_vertex).arcs) same
+            ∙ (ap (λ z. z.arcs) (get_or-set_same g.vertices v.0 y no_vertex low) ∙ ap (arcs_of g) (sym same))
+        | inr ne ↦ ap (λ z. z.arcs) (get_or-set_other g.vertices v.0 w y no_vertex ne)
       ];
       names = λ j.
-        let s = sum_by-set (λ z. names_in j z.fields) g.vertices v.0 y no_vertex low in
-        omega (arith, s, names_set j x.fields i u within);
+          let s = sum_by-set (λ z. names_in j z.fields) g.vertices v.0 y no_vertex low in
+          omega (arith, s, names_set j x.fields i u within);
       value = owner.values i utils.Zero within;
-      keeps = keeps
+      keeps = keeps;
     }
 
 arc_facts : (g : GraphOf) (k : ArcNo) (f : ArcField) (u : Util) → IsGraph g → CanExchange g (Arc k f) u → UtilFacts g (with_util g (Arc k f) u) u (util_at g (Arc k f))
@@ -134,44 +137,48 @@ arc_facts g k f u sound can =
     let y : ArcOf = record e { fields = set e.fields i u } in
     let made : made_of h ≡ made_of g = length-set g.entries k.0 (Some y) in
     let live : (j : ℕ) → has_arc h j ≡ has_arc g j = λ j.
-      elim (cases_eq j k.0) [
-        inl same ↦
+    elim (cases_eq j k.0) [
+      | inl same ↦
           ap (has_arc h) same ∙ (ap is_some (entry_same g.entries k.0 (Some y) low) ∙ (sym can.place ∙ ap (has_arc g) (sym same)))
       | inr ne ↦ ap is_some (entry_other g.entries k.0 j (Some y) ne)
-      ] in
+    ] in
     let keeps : Keeps (n_of g) g.entries (n_of h) h.entries = record { vertices = omega arith; arcs = λ j l. live j ∙ l } in
     let arc' : IsArc (n_of h) h.entries e = IsArc-keeps (n_of g) (n_of h) g.entries h.entries e keeps arc in
     let one : Option ArcOf → ℕ = λ o. cond (is_some o) 1 0 in
     record {
       sound = record {
         listed = λ j. sound.listed j ∙ ap (λ b. cond b 1 0) (sym (live j));
-        id = sound.id; types = sound.types; six = sound.six;
+        id = sound.id;
+        types = sound.types;
+        six = sound.six;
         values = λ j d l. IsValue-keeps (n_of g) (n_of h) g.entries h.entries (get_or g.fields j d) keeps (sound.values j d l);
         vertices = λ j d l. IsVertex-keeps (n_of g) (n_of h) g.entries h.entries (get_or g.vertices j d) keeps (sound.vertices j d l);
         arcs = All-set (λ o. IfSome o (IsArc (n_of h) h.entries)) g.entries k.0 (Some y)
-          (λ j d l. IsEntry-keeps (n_of g) (n_of h) g.entries h.entries (get_or g.entries j d) keeps (sound.arcs j d l))
-          (record {
-            tip = arc'.tip; len = arc'.len;
-            two = length-set e.fields i u ∙ arc.two;
-            values = All-set (IsValue (n_of h) h.entries) e.fields i u arc'.values (IsValue-keeps (n_of g) (n_of h) g.entries h.entries u keeps can.value)
-          });
+            (λ j d l. IsEntry-keeps (n_of g) (n_of h) g.entries h.entries (get_or g.entries j d) keeps (sound.arcs j d l))
+            (record {
+              tip = arc'.tip;
+              len = arc'.len;
+              two = length-set e.fields i u ∙ arc.two;
+              values = All-set (IsValue (n_of h) h.entries) e.fields i u arc'.values (IsValue-keeps (n_of g) (n_of h) g.entries h.entries u keeps can.value);
+            });
         few_vertices = sound.few_vertices;
-        few_arcs = omega (arith, made, sound.few_arcs)
+        few_arcs = omega (arith, made, sound.few_arcs);
       };
       n = refl;
       made = made;
       m =
-        (let s = sum_by-set one g.entries k.0 (Some y) None low in
-         let was : one (get_or g.entries k.0 None) ≡ 1 = ap one entry in
-         omega (arith, s, was));
-      id = refl; types = refl;
+          (let s = sum_by-set one g.entries k.0 (Some y) None low in
+          let was : one (get_or g.entries k.0 None) ≡ 1 = ap one entry in
+          omega (arith, s, was));
+      id = refl;
+      types = refl;
       arcs = λ w. refl;
       names = λ j.
-        let s = sum_by-set (names_in_entry j) g.entries k.0 (Some y) None low in
-        let was : names_in_entry j (get_or g.entries k.0 None) ≡ names_in j e.fields = ap (names_in_entry j) entry in
-        omega (arith, s, was, names_set j e.fields i u within);
+          let s = sum_by-set (names_in_entry j) g.entries k.0 (Some y) None low in
+          let was : names_in_entry j (get_or g.entries k.0 None) ≡ names_in j e.fields = ap (names_in_entry j) entry in
+          omega (arith, s, was, names_set j e.fields i u within);
       value = arc.values i utils.Zero within;
-      keeps = keeps
+      keeps = keeps;
     }
 
 graph_facts : (g : GraphOf) (f : GraphField) (u : Util) → IsGraph g → CanExchange g (Graph f) u → UtilFacts g (with_util g (Graph f) u) u (util_at g (Graph f))
@@ -181,16 +188,25 @@ graph_facts g f u sound can =
     let within : i < length g.fields = omega (arith, sound.six, graph_six f) in
     record {
       sound = record {
-        listed = sound.listed; id = sound.id; types = sound.types;
+        listed = sound.listed;
+        id = sound.id;
+        types = sound.types;
         six = length-set g.fields i u ∙ sound.six;
         values = All-set (IsValue (n_of g) g.entries) g.fields i u sound.values can.value;
-        vertices = sound.vertices; arcs = sound.arcs; few_vertices = sound.few_vertices; few_arcs = sound.few_arcs
+        vertices = sound.vertices;
+        arcs = sound.arcs;
+        few_vertices = sound.few_vertices;
+        few_arcs = sound.few_arcs;
       };
-      n = refl; made = refl; m = refl; id = refl; types = refl;
+      n = refl;
+      made = refl;
+      m = refl;
+      id = refl;
+      types = refl;
       arcs = λ w. refl;
       names = λ j. omega (arith, names_set j g.fields i u within);
       value = sound.values i utils.Zero within;
-      keeps = record { vertices = omega arith; arcs = λ k l. l }
+      keeps = record { vertices = omega arith; arcs = λ k l. l };
     }
 
 pub util_facts : (g : GraphOf) (p : Place) (u : Util) → IsGraph g → CanExchange g p u → UtilFacts g (with_util g p u) u (util_at g p)
@@ -249,12 +265,12 @@ entries_shown ss g (Arc k f) u made shown there j =
     let y : ArcOf = record e { fields = set e.fields (arc_place f) u } in
     let o = with_field (arc_place f) u (slot_at ss k.0) in
     elim (cases_eq j k.0) [
-      inl same ↦
-        ap (λ i. entry_of (slot_at (set ss k.0 o) i)) same
-        ∙ (ap entry_of (slot_same ss k.0 o (omega (arith, made)))
-        ∙ (entry_with (arc_place f) u (slot_at ss k.0) (arc_at g k.0) (shown k.0) there
-        ∙ (sym (entry_same g.entries k.0 (Some y) low) ∙ ap (λ i. get_or (set g.entries k.0 (Some y)) i None) (sym same))))
-    | inr ne ↦ ap entry_of (slot_other ss k.0 j o ne) ∙ (shown j ∙ sym (entry_other g.entries k.0 j (Some y) ne))
+      | inl same ↦
+          ap (λ i. entry_of (slot_at (set ss k.0 o) i)) same
+          ∙ (ap entry_of (slot_same ss k.0 o (omega (arith, made)))
+          ∙ (entry_with (arc_place f) u (slot_at ss k.0) (arc_at g k.0) (shown k.0) there
+          ∙ (sym (entry_same g.entries k.0 (Some y) low) ∙ ap (λ i. get_or (set g.entries k.0 (Some y)) i None) (sym same))))
+      | inr ne ↦ ap entry_of (slot_other ss k.0 j o ne) ∙ (shown j ∙ sym (entry_other g.entries k.0 j (Some y) ne))
     ]
 
 -- the links of the lists are as before
@@ -262,7 +278,7 @@ linked_shown : (ss : Slots) (p : Place) (u : Util) (link : Option ArcNo) (ks : L
 linked_shown ss p u link ks l = Leads-agree (next_at ss) (next_at (slots_with ss p u)) link ks None (λ j _. slots_unseen next_of field_blind_next ss p u j) l
 
 vertices_shown : (vs : List vertex.Vertex) (ss : Slots) (g : GraphOf) (p : Place) (u : Util) → ShowsBut vs ss g → has_place g p ≡ true → (w : ℕ) (d : vertex.Vertex) → w < n_of g
-  → ShowsVertex (slots_with ss p u) (get_or (vertices_with vs p u) w d) (vertex_at (with_util g p u) w)
+    → ShowsVertex (slots_with ss p u) (get_or (vertices_with vs p u) w d) (vertex_at (with_util g p u) w)
 unfolding with_util
 vertices_shown vs ss g (Arc k f) u x there w d h =
     let y = x.vertices w d h in
@@ -274,15 +290,15 @@ vertices_shown vs ss g (Vertex v f) u x there w d h =
     let new : vertex.Vertex = record (vertex_in vs v.0) { fields = set (vertex_in vs v.0).fields i u } in
     let z : VertexOf = record (vertex_at g v.0) { fields = set (vertex_at g v.0).fields i u } in
     elim (cases_eq w v.0) [
-      inl same ↦
-        let y = x.vertices v.0 any_vertex low in
-        let made : ShowsVertex ss new z = record { label = y.label; fields = ap (λ us. set us i u) y.fields; arcs = y.arcs } in
-        let one : get_or (set vs v.0 new) w d ≡ new = ap (λ k. get_or (set vs v.0 new) k d) same ∙ get_or-set_same vs v.0 new d (omega (arith, x.n, low)) in
-        let two : get_or (set g.vertices v.0 z) w no_vertex ≡ z = ap (λ k. get_or (set g.vertices v.0 z) k no_vertex) same ∙ get_or-set_same g.vertices v.0 z no_vertex low in
-        subst (λ r. ShowsVertex ss r (get_or (set g.vertices v.0 z) w no_vertex)) (sym one) (subst (ShowsVertex ss new) (sym two) made)
-    | inr ne ↦
-        subst (λ r. ShowsVertex ss r (get_or (set g.vertices v.0 z) w no_vertex)) (sym (get_or-set_other vs v.0 w new d ne))
-        (subst (ShowsVertex ss (get_or vs w d)) (sym (get_or-set_other g.vertices v.0 w z no_vertex ne)) (x.vertices w d h))
+      | inl same ↦
+          let y = x.vertices v.0 any_vertex low in
+          let made : ShowsVertex ss new z = record { label = y.label; fields = ap (λ us. set us i u) y.fields; arcs = y.arcs } in
+          let one : get_or (set vs v.0 new) w d ≡ new = ap (λ k. get_or (set vs v.0 new) k d) same ∙ get_or-set_same vs v.0 new d (omega (arith, x.n, low)) in
+          let two : get_or (set g.vertices v.0 z) w no_vertex ≡ z = ap (λ k. get_or (set g.vertices v.0 z) k no_vertex) same ∙ get_or-set_same g.vertices v.0 z no_vertex low in
+          subst (λ r. ShowsVertex ss r (get_or (set g.vertices v.0 z) w no_vertex)) (sym one) (subst (ShowsVertex ss new) (sym two) made)
+      | inr ne ↦
+          subst (λ r. ShowsVertex ss r (get_or (set g.vertices v.0 z) w no_vertex)) (sym (get_or-set_other vs v.0 w new d ne))
+          (subst (ShowsVertex ss (get_or vs w d)) (sym (get_or-set_other g.vertices v.0 w z no_vertex ne)) (x.vertices w d h))
     ]
 
 pub owned_as : (k : ℕ) (o : Option VertexNo) (p q : ℕ → List ℕ) → ((v : ℕ) → q v ≡ p v) → IfSome o (λ v. occurrences k (p v.0) ≡ 1) → IfSome o (λ v. occurrences k (q v.0) ≡ 1)
@@ -298,7 +314,7 @@ exchange_but vs ss g p u x sound can =
       made = omega (arith, length-slots_with ss p u, x.made, y.made);
       entries = entries_shown ss g p u x.made x.entries can.place;
       owners = λ k. owned_as k (owner_in (slot_at (slots_with ss p u) k)) (arcs_of g) (arcs_of (with_util g p u)) y.arcs
-        (subst (λ o. IfSome o (λ v. occurrences k (arcs_of g v.0) ≡ 1)) (sym (slots_unseen owner_in field_blind_owner ss p u k)) (x.owners k))
+          (subst (λ o. IfSome o (λ v. occurrences k (arcs_of g v.0) ≡ 1)) (sym (slots_unseen owner_in field_blind_owner ss p u k)) (x.owners k));
     }
 
 -- the value that is there
@@ -317,7 +333,7 @@ fields_shown us g (Graph f) u same = ap (λ r. set r (graph_place f) u) same
 
 -- the counts once the new name is counted
 exchange_known : (vs : List vertex.Vertex) (ss : Slots) (g : GraphOf) (p : Place) (u : Util) → Shows vs ss g → IsGraph g → CanExchange g p u → (j : ℕ)
-  → IfSome (names_counted (slot_at (slots_with (slots_gaining ss u) p u) j)) (λ m. m ≡ names_of (with_util g p u) j + one_name j (util_at g p))
+    → IfSome (names_counted (slot_at (slots_with (slots_gaining ss u) p u) j)) (λ m. m ≡ names_of (with_util g p u) j + one_name j (util_at g p))
 exchange_known vs ss g p u shows sound can j =
     let y = util_facts g p u sound can in
     subst (λ o. IfSome o (λ m. m ≡ names_of (with_util g p u) j + one_name j (util_at g p))) (sym (slots_unseen names_counted field_blind_names (slots_gaining ss u) p u j))
@@ -325,8 +341,8 @@ exchange_known vs ss g p u shows sound can j =
 
 -- what the steps of `exchange` leave
 pub exchange_done : (us : List Util) (vs : List vertex.Vertex) (ss : Slots) (g : GraphOf) (p : Place) (u : Util) (us' : List Util) (ws : List vertex.Vertex) (rs ts qs : Slots) (old : Util)
-  → us ≡ g.fields → Shows vs ss g → IsGraph g → CanExchange g p u
-  → rs ≡ slots_gaining ss u → old ≡ value_in us vs rs p → us' ≡ fields_with us p u → ws ≡ vertices_with vs p u → ts ≡ slots_with rs p u → qs ≡ slots_losing ts old → Exchanged us' ws qs g p u old
+    → us ≡ g.fields → Shows vs ss g → IsGraph g → CanExchange g p u
+    → rs ≡ slots_gaining ss u → old ≡ value_in us vs rs p → us' ≡ fields_with us p u → ws ≡ vertices_with vs p u → ts ≡ slots_with rs p u → qs ≡ slots_losing ts old → Exchanged us' ws qs g p u old
 exchange_done us vs ss g p u us' ws rs ts qs old same shows sound can rs_is old_is us_is ws_is ts_is qs_is =
     let h = with_util g p u in
     let as' = slots_gaining ss u in
@@ -335,20 +351,24 @@ exchange_done us vs ss g p u us' ws rs ts qs old same shows sound can rs_is old_
     let bs = slots_with as' p u in
     let y : ShowsBut (vertices_with vs p u) (slots_losing bs (util_at g p)) h = losing_but (vertices_with vs p u) bs h (util_at g p) (exchange_but vs as' g p u x sound can) in
     let shown : Shows (vertices_with vs p u) (slots_losing bs (util_at g p)) h = record {
-      n = y.n; vertices = y.vertices; made = y.made; entries = y.entries; owners = y.owners;
-      names = λ j. counted_less bs (util_at g p) j (names_of h j) (exchange_known vs ss g p u shows sound can j)
+      n = y.n;
+      vertices = y.vertices;
+      made = y.made;
+      entries = y.entries;
+      owners = y.owners;
+      names = λ j. counted_less bs (util_at g p) j (names_of h j) (exchange_known vs ss g p u shows sound can j);
     } in
     let slots : qs ≡ slots_losing bs (util_at g p) = qs_is ∙ (ap (λ r. slots_losing r old) (ts_is ∙ ap (λ r. slots_with r p u) rs_is) ∙ ap (slots_losing bs) was) in
     record {
       kept = was;
       fields = us_is ∙ fields_shown us g p u same;
-      shows = rw (ws_is, slots) shown
+      shows = rw (ws_is, slots) shown;
     }
 
 -- what losing the old name requires
 pub exchange_room : (us : List Util) (vs : List vertex.Vertex) (ss : Slots) (g : GraphOf) (p : Place) (u : Util) (rs ts : Slots) (old : Util)
-  → us ≡ g.fields → Shows vs ss g → IsGraph g → CanExchange g p u
-  → rs ≡ slots_gaining ss u → old ≡ value_in us vs rs p → ts ≡ slots_with rs p u → IsCounted ts 1 (2 ^ 32) old
+    → us ≡ g.fields → Shows vs ss g → IsGraph g → CanExchange g p u
+    → rs ≡ slots_gaining ss u → old ≡ value_in us vs rs p → ts ≡ slots_with rs p u → IsCounted ts 1 (2 ^ 32) old
 exchange_room us vs ss g p u rs ts old same shows sound can rs_is old_is ts_is =
     let as' = slots_gaining ss u in
     let x : ShowsBut vs as' g = gaining_but vs ss g u (but_of vs ss g shows) in
@@ -358,6 +378,6 @@ exchange_room us vs ss g p u rs ts old same shows sound can rs_is old_is ts_is =
     let slots : ts ≡ bs = ts_is ∙ ap (λ r. slots_with r p u) rs_is in
     let size : length bs ≡ length g.entries = length-slots_with as' p u ∙ (length-gaining ss u ∙ shows.made) in
     let room : IsCounted bs 1 (2 ^ 32) (util_at g p) =
-        counted_enough bs g.entries (n_of g) (util_at g p) (names_of (with_util g p u)) size y.value (exchange_known vs ss g p u shows sound can)
-        (λ j. omega (arith, y.names j, few_names g j sound, one_at_most j u)) in
+    counted_enough bs g.entries (n_of g) (util_at g p) (names_of (with_util g p u)) size y.value (exchange_known vs ss g p u shows sound can)
+    (λ j. omega (arith, y.names j, few_names g j sound, one_at_most j u)) in
     rw (slots, was) room

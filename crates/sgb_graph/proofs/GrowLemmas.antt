@@ -27,15 +27,15 @@ use Rattle.sgb_graph.proofs.ExchangeLemmas.{owned_as}
 -- a storable value that names nothing is sound in each graph, and names no arc
 stored_int : (n : ℕ) (es : List (Option ArcOf)) (z : ℤ) → IsStorable (stored (Int z)) → IsValue n es (stored (Int z))
 stored_int n es z s = elim (cases_Bool (int_eq z (pos 0))) [
-    inl b ↦ rw b tt
+  | inl b ↦ rw b tt
   | inr b ↦ subst (IsValue n es) (sym (ap (λ c. cond c Zero (Int z)) b)) (let t : IsStorable (Int z) = subst IsStorable (ap (λ c. cond c Zero (Int z)) b) s in t)
-  ]
+]
 
 stored_text : (n : ℕ) (es : List (Option ArcOf)) (t : List ℕ) → IsStorable (stored (Text t)) → IsValue n es (stored (Text t))
 stored_text n es t s = elim (cases_Bool (length t == 0)) [
-    inl b ↦ rw b tt
+  | inl b ↦ rw b tt
   | inr b ↦ subst (IsValue n es) (sym (ap (λ c. cond c Zero (Text t)) b)) (let w : IsStorable (Text t) = subst IsStorable (ap (λ c. cond c Zero (Text t)) b) s in w)
-  ]
+]
 
 plain_value : (n : ℕ) (es : List (Option ArcOf)) (u : Util) → NamesNothing u → IsStorable (stored u) → IsValue n es (stored u)
 plain_value n es Zero p s = tt
@@ -61,8 +61,8 @@ plain_names : (k : ℕ) (us : List Util) → All NamesNothing us → names_in k 
 plain_names k us p =
     sum_zero (λ u. cond (is_name k u) 1 0) (map stored us)
     (λ i d h.
-      let low : i < length us = omega (arith, length-map us stored) in
-      ap (λ u. cond (is_name k u) 1 0) (get_or-map stored us i Zero d low) ∙ ap (λ b. cond b 1 0) (plain_unnamed k (get_or us i Zero) (p i Zero low)))
+    let low : i < length us = omega (arith, length-map us stored) in
+    ap (λ u. cond (is_name k u) 1 0) (get_or-map stored us i Zero d low) ∙ ap (λ b. cond b 1 0) (plain_unnamed k (get_or us i Zero) (p i Zero low)))
 
 all_one : {X : Type 0} (P : X → Type 0) (x : X) → P x → All P (x ∷ [])
 all_one P x p zero d h = p
@@ -76,15 +76,15 @@ new_arcs : (g : GraphOf) (x : VertexOf) (v : ℕ) → x.arcs ≡ [] → arcs_of 
 unfolding with_vertex_last
 new_arcs g x v none =
     elim (cases_order v (n_of g)) [
-      inl same ↦ ap (λ y. y.arcs) (get_or_push g.vertices x no_vertex v (sym same)) ∙ (none ∙ sym (ap (λ y. y.arcs) (get_or_past g.vertices v no_vertex (omega arith))))
-    | inr (inl low) ↦ ap (λ y. y.arcs) (vertex_before g x v no_vertex low)
-    | inr (inr high) ↦ ap (λ y. y.arcs) (get_or_past (g.vertices ++ x ∷ []) v no_vertex (omega (arith, length_push g.vertices x)) ∙ sym (get_or_past g.vertices v no_vertex (omega arith)))
+      | inl same ↦ ap (λ y. y.arcs) (get_or_push g.vertices x no_vertex v (sym same)) ∙ (none ∙ sym (ap (λ y. y.arcs) (get_or_past g.vertices v no_vertex (omega arith))))
+      | inr (inl low) ↦ ap (λ y. y.arcs) (vertex_before g x v no_vertex low)
+      | inr (inr high) ↦ ap (λ y. y.arcs) (get_or_past (g.vertices ++ x ∷ []) v no_vertex (omega (arith, length_push g.vertices x)) ∙ sym (get_or_past g.vertices v no_vertex (omega arith)))
     ]
 
 pub grow_opened : (a b : Inside) (g : GraphOf) (label : List ℕ) (us : List Util) (y : vertex.Vertex) → Opened a g → n_of g < 65535 → IsText label → length (map stored us) ≡ 6 → All NamesNothing us → All IsStorable (map stored us)
-  → y ≡ record { label = label; fields = map stored us; first = None }
-  → b.id ≡ a.id → b.types ≡ a.types → b.fields ≡ a.fields → b.live ≡ a.live → b.slots.items ≡ a.slots.items → b.vertices.items ≡ a.vertices.items ++ y ∷ []
-  → Opened b (with_vertex_last g (new_vertex label us))
+    → y ≡ record { label = label; fields = map stored us; first = None }
+    → b.id ≡ a.id → b.types ≡ a.types → b.fields ≡ a.fields → b.live ≡ a.live → b.slots.items ≡ a.slots.items → b.vertices.items ≡ a.vertices.items ++ y ∷ []
+    → Opened b (with_vertex_last g (new_vertex label us))
 unfolding with_vertex_last Leads
 grow_opened a b g label us y o few text six plain storable is id types fields live slots vertices =
     let x = new_vertex label us in
@@ -99,42 +99,46 @@ grow_opened a b g label us y o few text six plain storable is id types fields li
     let shown : Shows (vs ++ new ∷ []) ss h = record {
       n = omega (arith, m, n, o.shows.n);
       vertices = λ v d l.
-        elim (cases_lt v (n_of g)) [
-          inl low ↦
-            subst (λ q. ShowsVertex ss q (vertex_at h v)) (sym (get_or_append_left vs (new ∷ []) d v (omega (arith, o.shows.n, low))))
-            (subst (ShowsVertex ss (get_or vs v d)) (sym (vertex_before g x v no_vertex low)) (o.shows.vertices v d low))
-        | inr high ↦
-            let at : v ≡ n_of g = omega (arith, n) in
-            let one : get_or (vs ++ new ∷ []) v d ≡ new = get_or_push vs new d v (omega (arith, o.shows.n, at)) in
-            let two : vertex_at h v ≡ x = get_or_push g.vertices x no_vertex v (sym at) in
-            let made : ShowsVertex ss new x = record { label = refl; fields = refl; arcs = refl } in
-            subst (λ q. ShowsVertex ss q (vertex_at h v)) (sym one) (subst (ShowsVertex ss new) (sym two) made)
-        ];
+          elim (cases_lt v (n_of g)) [
+            | inl low ↦
+                subst (λ q. ShowsVertex ss q (vertex_at h v)) (sym (get_or_append_left vs (new ∷ []) d v (omega (arith, o.shows.n, low))))
+                (subst (ShowsVertex ss (get_or vs v d)) (sym (vertex_before g x v no_vertex low)) (o.shows.vertices v d low))
+            | inr high ↦
+                let at : v ≡ n_of g = omega (arith, n) in
+                let one : get_or (vs ++ new ∷ []) v d ≡ new = get_or_push vs new d v (omega (arith, o.shows.n, at)) in
+                let two : vertex_at h v ≡ x = get_or_push g.vertices x no_vertex v (sym at) in
+                let made : ShowsVertex ss new x = record { label = refl; fields = refl; arcs = refl } in
+                subst (λ q. ShowsVertex ss q (vertex_at h v)) (sym one) (subst (ShowsVertex ss new) (sym two) made)
+          ];
       made = o.shows.made;
       entries = o.shows.entries;
       owners = λ k. owned_as k (owner_in (slot_at ss k)) (arcs_of g) (arcs_of h) (λ v. new_arcs g x v refl) (o.shows.owners k);
       names = λ k.
-        let same : names_of h k ≡ names_of g k = omega (arith, sum_by_push (λ v. names_in k v.fields) g.vertices x, plain_names k us plain) in
-        subst (λ z. IfSome (names_counted (slot_at ss k)) (λ c. c ≡ z)) (sym same) (o.shows.names k)
+          let same : names_of h k ≡ names_of g k = omega (arith, sum_by_push (λ v. names_in k v.fields) g.vertices x, plain_names k us plain) in
+          subst (λ z. IfSome (names_counted (slot_at ss k)) (λ c. c ≡ z)) (sym same) (o.shows.names k);
     } in
     record {
       graph = record {
         listed = λ k.
-          let s = sum_by_push (λ v. occurrences k v.arcs) g.vertices x in
-          let same : listings k h.vertices ≡ listings k g.vertices = omega (arith, s) in
-          same ∙ sound.listed k;
-        id = sound.id; types = sound.types; six = sound.six;
+            let s = sum_by_push (λ v. occurrences k v.arcs) g.vertices x in
+            let same : listings k h.vertices ≡ listings k g.vertices = omega (arith, s) in
+            same ∙ sound.listed k;
+        id = sound.id;
+        types = sound.types;
+        six = sound.six;
         values = λ k d l. IsValue-keeps (n_of g) (n_of h) g.entries h.entries (get_or g.fields k d) keeps (sound.values k d l);
         vertices = All-append (IsVertex (n_of h) h.entries) g.vertices (x ∷ [])
-          (λ k d l. IsVertex-keeps (n_of g) (n_of h) g.entries h.entries (get_or g.vertices k d) keeps (sound.vertices k d l))
-          (all_one (IsVertex (n_of h) h.entries) x (record { label = text; six = six; values = plain_values (n_of h) h.entries us plain storable }));
+            (λ k d l. IsVertex-keeps (n_of g) (n_of h) g.entries h.entries (get_or g.vertices k d) keeps (sound.vertices k d l))
+            (all_one (IsVertex (n_of h) h.entries) x (record { label = text; six = six; values = plain_values (n_of h) h.entries us plain storable }));
         arcs = λ k d l. IsEntry-keeps (n_of g) (n_of h) g.entries h.entries (get_or g.entries k d) keeps (sound.arcs k d l);
         few_vertices = omega (arith, n, few);
-        few_arcs = sound.few_arcs
+        few_arcs = sound.few_arcs;
       };
       shows = rw (vertices, slots, is) shown;
       live = live ∙ o.live;
-      id = id ∙ o.id; types = types ∙ o.types; fields = fields ∙ o.fields
+      id = id ∙ o.id;
+      types = types ∙ o.types;
+      fields = fields ∙ o.fields;
     }
 
 abbrev pub vertex_made : List ℕ → List Util → vertex.Vertex

@@ -96,17 +96,19 @@ pub Inserts-append : {T S : Type 0} (a b c : Builder) (es fs : List Insertion) (
 Inserts-append a b c es fs (Ok y) x first next = next ∙ (ap (λ d. grown d fs) first ∙ sym (grown-append a es fs))
 Inserts-append a b c es fs (Err e) x first next =
     elim next [
-      inl room ↦ inl room
-    | inr large ↦ inr (large.0,
-        (let same : made_of (grown a (es ++ fs)).graph ≡ made_of (grown b fs).graph = ap (λ (d : Builder). made_of d.graph) (grown-append a es fs ∙ ap (λ d. grown d fs) (sym first)) in omega (arith, large.1, same)))
+      | inl room ↦ inl room
+      | inr large ↦ inr (
+        large.0,
+        (let same : made_of (grown a (es ++ fs)).graph ≡ made_of (grown b fs).graph = ap (λ (d : Builder). made_of d.graph) (grown-append a es fs ∙ ap (λ d. grown d fs) (sym first)) in omega (arith, large.1, same)),
+      )
     ]
 
 -- a refusal stays one, whatever was to follow
 pub Inserts-err : (T S : Type 0) (a b c : Builder) (es fs : List Insertion) (e : Refusal) → Inserts {T = T} a b es (Err e) → Inserts {T = S} a c (es ++ fs) (Err e)
 Inserts-err T S a b c es fs e refused =
     elim refused [
-      inl room ↦ inl room
-    | inr large ↦ inr (large.0, too_many-append a es fs large.1)
+      | inl room ↦ inl room
+      | inr large ↦ inr (large.0, too_many-append a es fs large.1)
     ]
 
 -- what a refused arc or edge tells
@@ -115,13 +117,13 @@ arc_too_many b e r is from to (inl room) = inl room
 arc_too_many b e r is from to (inr refused) =
     let both : (has_vertex b.graph e.from && has_vertex b.graph e.to) ≡ true = and_from (has_vertex b.graph e.from) (has_vertex b.graph e.to) (lt-ltb e.from (n_of b.graph) from) (lt-ltb e.to (n_of b.graph) to) in
     let now : refusal_unless (nat_le (made_of b.graph + 1) 1000000) TooLarge None ≡ Some r =
-        ap (λ t. refusal_unless t BadOperand (refusal_unless (nat_le (made_of b.graph + 1) 1000000) TooLarge None)) (sym both) ∙ refused in
+    ap (λ t. refusal_unless t BadOperand (refusal_unless (nat_le (made_of b.graph + 1) 1000000) TooLarge None)) (sym both) ∙ refused in
     elim (cases_Bool (nat_le (made_of b.graph + 1) 1000000)) [
-      inl few ↦ absurd (let none = ap (λ t. refusal_unless t TooLarge None) few in cc)
-    | inr many ↦
-        let large : Some TooLarge ≡ Some r = sym (ap (λ t. refusal_unless t TooLarge None) many) ∙ now in
-        let same : made_of (grown b (e ∷ [])).graph ≡ made_of b.graph + 1 = ap (λ (c : Builder). made_of c.graph) (grown_arc b e is) ∙ made-with_arc b.graph e.from e.to e.len in
-        inr (cc, omega (arith, same, leb-false (made_of b.graph + 1) 1000000 many))
+      | inl few ↦ absurd (let none = ap (λ t. refusal_unless t TooLarge None) few in cc)
+      | inr many ↦
+          let large : Some TooLarge ≡ Some r = sym (ap (λ t. refusal_unless t TooLarge None) many) ∙ now in
+          let same : made_of (grown b (e ∷ [])).graph ≡ made_of b.graph + 1 = ap (λ (c : Builder). made_of c.graph) (grown_arc b e is) ∙ made-with_arc b.graph e.from e.to e.len in
+          inr (cc, omega (arith, same, leb-false (made_of b.graph + 1) 1000000 many))
     ]
 
 pub edge_too_many : (b : Builder) (e : Insertion) (r : Refusal) → b.directed ≡ false → e.from < n_of b.graph → e.to < n_of b.graph → (r ≡ NoRoom) ⊎ (refusal_of_edge b.graph e.from e.to ≡ Some r) → (r ≡ NoRoom) ⊎ ((r ≡ TooLarge) × IsTooMany b (e ∷ []))
@@ -129,11 +131,11 @@ edge_too_many b e r is from to (inl room) = inl room
 edge_too_many b e r is from to (inr refused) =
     let both : (has_vertex b.graph e.from && has_vertex b.graph e.to) ≡ true = and_from (has_vertex b.graph e.from) (has_vertex b.graph e.to) (lt-ltb e.from (n_of b.graph) from) (lt-ltb e.to (n_of b.graph) to) in
     let now : refusal_unless (nat_le (made_of b.graph + 2) 1000000) TooLarge None ≡ Some r =
-        ap (λ t. refusal_unless t BadOperand (refusal_unless (nat_le (made_of b.graph + 2) 1000000) TooLarge None)) (sym both) ∙ refused in
+    ap (λ t. refusal_unless t BadOperand (refusal_unless (nat_le (made_of b.graph + 2) 1000000) TooLarge None)) (sym both) ∙ refused in
     elim (cases_Bool (nat_le (made_of b.graph + 2) 1000000)) [
-      inl few ↦ absurd (let none = ap (λ t. refusal_unless t TooLarge None) few in cc)
-    | inr many ↦
-        let large : Some TooLarge ≡ Some r = sym (ap (λ t. refusal_unless t TooLarge None) many) ∙ now in
-        let same : made_of (grown b (e ∷ [])).graph ≡ made_of b.graph + 2 = ap (λ (c : Builder). made_of c.graph) (grown_edge b e is) ∙ made-with_edge b.graph e.from e.to e.len in
-        inr (cc, omega (arith, same, leb-false (made_of b.graph + 2) 1000000 many))
+      | inl few ↦ absurd (let none = ap (λ t. refusal_unless t TooLarge None) few in cc)
+      | inr many ↦
+          let large : Some TooLarge ≡ Some r = sym (ap (λ t. refusal_unless t TooLarge None) many) ∙ now in
+          let same : made_of (grown b (e ∷ [])).graph ≡ made_of b.graph + 2 = ap (λ (c : Builder). made_of c.graph) (grown_edge b e is) ∙ made-with_edge b.graph e.from e.to e.len in
+          inr (cc, omega (arith, same, leb-false (made_of b.graph + 2) 1000000 many))
     ]

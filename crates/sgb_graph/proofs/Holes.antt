@@ -27,9 +27,9 @@ use Rattle.sgb_graph.proofs.Sound.{Keeps, IsValue-keeps, IsVertex-keeps, IsArc-k
 pub at_hole : {X : Type 0} (os : List (Option X)) (k : ℕ) → get_or (os ++ None ∷ []) k None ≡ get_or os k None
 at_hole {X} os k =
     elim (cases_order k (length os)) [
-      inl same ↦ get_or_push os None None k (sym same) ∙ sym (get_or_past os k None (omega arith))
-    | inr (inl low) ↦ get_or_append_left os (None ∷ []) None k low
-    | inr (inr high) ↦ get_or_past (os ++ None ∷ []) k None (omega (arith, length_push os None)) ∙ sym (get_or_past os k None (omega arith))
+      | inl same ↦ get_or_push os None None k (sym same) ∙ sym (get_or_past os k None (omega arith))
+      | inr (inl low) ↦ get_or_append_left os (None ∷ []) None k low
+      | inr (inr high) ↦ get_or_past (os ++ None ∷ []) k None (omega (arith, length_push os None)) ∙ sym (get_or_past os k None (omega arith))
     ]
 
 abbrev pub with_hole : GraphOf → GraphOf
@@ -59,15 +59,15 @@ hole_sound g sound few =
       values = λ i d l. IsValue-keeps (n_of g) (n_of g) g.entries h.entries (get_or g.fields i d) keeps (sound.values i d l);
       vertices = λ i d l. IsVertex-keeps (n_of g) (n_of g) g.entries h.entries (get_or g.vertices i d) keeps (sound.vertices i d l);
       arcs = λ i d l.
-        let entry : get_or h.entries i d ≡ get_or g.entries i None =
+          let entry : get_or h.entries i d ≡ get_or g.entries i None =
           get_or_default h.entries i d None l ∙ at_hole g.entries i in
-        subst (λ o. IfSome o (IsArc (n_of g) h.entries)) (sym entry)
-        (elim (cases_lt i (made_of g)) [
-          inl low ↦ IsEntry-keeps (n_of g) (n_of g) g.entries h.entries (get_or g.entries i None) keeps (sound.arcs i None low)
-        | inr high ↦ subst (λ o. IfSome o (IsArc (n_of g) h.entries)) (sym (get_or_past g.entries i None high)) tt
-        ]);
+          subst (λ o. IfSome o (IsArc (n_of g) h.entries)) (sym entry)
+          (elim (cases_lt i (made_of g)) [
+            | inl low ↦ IsEntry-keeps (n_of g) (n_of g) g.entries h.entries (get_or g.entries i None) keeps (sound.arcs i None low)
+            | inr high ↦ subst (λ o. IfSome o (IsArc (n_of g) h.entries)) (sym (get_or_past g.entries i None high)) tt
+          ]);
       few_vertices = sound.few_vertices;
-      few_arcs = omega (arith, hole_made g)
+      few_arcs = omega (arith, hole_made g);
     }
 
 pub hole_shows : (vs : List Vertex) (ss : Slots) (g : GraphOf) → Shows vs ss g → Shows vs (ss ++ None ∷ []) (with_hole g)
@@ -76,16 +76,17 @@ hole_shows vs ss g x =
     record {
       n = x.n;
       vertices = λ v d h.
-        let y = x.vertices v d h in
-        record {
-          label = y.label; fields = y.fields;
-          arcs = Leads-agree (next_at ss) (next_at ts) (get_or vs v d).first (arcs_of g v) None (λ j _. ap next_of (at_hole ss j)) y.arcs
-        };
+          let y = x.vertices v d h in
+          record {
+            label = y.label;
+            fields = y.fields;
+            arcs = Leads-agree (next_at ss) (next_at ts) (get_or vs v d).first (arcs_of g v) None (λ j _. ap next_of (at_hole ss j)) y.arcs;
+          };
       made = omega (arith, length_push ss None, hole_made g, x.made);
       entries = λ k. ap entry_of (at_hole ss k) ∙ (x.entries k ∙ sym (at_hole g.entries k));
       owners = λ k. subst (λ o. IfSome (owner_in o) (λ v. occurrences k (arcs_of g v.0) ≡ 1)) (sym (at_hole ss k)) (x.owners k);
       names = λ k. subst (λ o. IfSome (names_counted o) (λ m. m ≡ names_of (with_hole g) k)) (sym (at_hole ss k))
-        (subst (λ z. IfSome (names_counted (slot_at ss k)) (λ m. m ≡ z)) (sym (hole_names g k)) (x.names k))
+          (subst (λ z. IfSome (names_counted (slot_at ss k)) (λ m. m ≡ z)) (sym (hole_names g k)) (x.names k));
     }
 
 -- a new arc is put at a new hole
@@ -105,14 +106,14 @@ zeros_arc n es v len h fits =
     record { tip = h; len = fits; two = refl; values = zero_value n es }
 
 pub new_can : (g : GraphOf) (u v : ℕ) (len : ℤ) → IsGraph g → u < n_of g → v < n_of g → FitsSigned w64 len
-  → CanPutBack (with_hole g) (new_cut (arc_no (made_of g)) (record { 0 = u }) (record { 0 = v }) len)
+    → CanPutBack (with_hole g) (new_cut (arc_no (made_of g)) (record { 0 = u }) (record { 0 = v }) len)
 new_can g u v len sound from to fits =
     record {
       hole = at_hole g.entries (made_of g) ∙ get_or_past g.entries (made_of g) None (omega arith);
       made = omega (arith, hole_made g);
       owner = from;
       place = omega arith;
-      arc = zeros_arc (n_of g) (with_hole g).entries v len to fits
+      arc = zeros_arc (n_of g) (with_hole g).entries v len to fits;
     }
 
 -- what the test before a new arc tells
@@ -146,7 +147,7 @@ second_can g low high len sound from to fits =
       made = omega (arith, hole_made g, hole_made (with_hole g));
       owner = to;
       place = omega arith;
-      arc = zeros_arc (n_of g) h.entries low len from fits
+      arc = zeros_arc (n_of g) h.entries low len from fits;
     }
 
 pub first_can : (g : GraphOf) (low high : ℕ) (len : ℤ) → IsGraph g → low < n_of g → high < n_of g → FitsSigned w64 len → CanPutBack (with_cut_arc (with_hole (with_hole g)) (second_cut g low high len)) (first_cut g low high len)
@@ -160,7 +161,7 @@ first_can g low high len sound from to fits =
       made = omega (arith, put_made h c, hole_made g, hole_made (with_hole g));
       owner = omega (arith, n, from);
       place = omega arith;
-      arc = zeros_arc (n_of k) k.entries high len (omega (arith, n, to)) fits
+      arc = zeros_arc (n_of k) k.entries high len (omega (arith, n, to)) fits;
     }
 
 pub edge_accepted : (g : GraphOf) (u v : ℕ) → u < n_of g → v < n_of g → made_of g + 1 < 1000000 → refusal_of_edge g u v ≡ None

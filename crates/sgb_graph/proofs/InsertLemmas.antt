@@ -28,7 +28,7 @@ pub record SameOwn (a b : Inside) : Type 0 where
 
 -- fields that show the graph h with an arc put back
 pub put_after : (b : Inside) (h : GraphOf) (c : CutArc) → IsGraph h → CanPutBack h c → Shows b.vertices.items b.slots.items (with_cut_arc h c) → b.live ≡ m_of h + 1
-  → b.id ≡ h.id → b.types ≡ h.types → b.fields ≡ h.fields → Opened b (with_cut_arc h c)
+    → b.id ≡ h.id → b.types ≡ h.types → b.fields ≡ h.fields → Opened b (with_cut_arc h c)
 unfolding with_cut_arc with_listed
 put_after b h c sound can shows live id types fields =
     record {
@@ -37,7 +37,7 @@ put_after b h c sound can shows live id types fields =
       live = live ∙ sym (put_m h c can);
       id = id;
       types = types;
-      fields = fields
+      fields = fields;
     }
 
 pub new_cut_is : (u v : VertexNo) (z : ℤ) {c : CutArc} {n m : ℕ} → FitsSigned w64 z → c ≡ new_cut (arc_no n) u v (to_z w64 (of_z w64 z)) → n ≡ m → c ≡ new_cut (arc_no m) u v z
@@ -65,11 +65,12 @@ pub record NewArcCan (a : Inside) (g : GraphOf) (u v : VertexNo) (z : ℤ) (c : 
   pub slots : ss ≡ a.slots.items ++ None ∷ []
 
 pub new_arc_can : (a : Inside) (g : GraphOf) (u v : VertexNo) (z : ℤ) (c : CutArc) (vs : List Vertex) (ss : Slots) → NewArcCan a g u v z c vs ss
-  → (IsGraph (with_hole g)) × (Shows vs ss (with_hole g)) × (CanPutBack (with_hole g) c)
-new_arc_can a g u v z c vs ss k =
-    (hole_sound g k.opened.graph k.few,
-     rw (k.vertices, k.slots) (hole_shows a.vertices.items a.slots.items g k.opened.shows),
-     subst (CanPutBack (with_hole g)) (sym k.cut) (new_can g u.0 v.0 z k.opened.graph k.from k.to k.fits))
+    → (IsGraph (with_hole g)) × (Shows vs ss (with_hole g)) × (CanPutBack (with_hole g) c)
+new_arc_can a g u v z c vs ss k = (
+  hole_sound g k.opened.graph k.few,
+  rw (k.vertices, k.slots) (hole_shows a.vertices.items a.slots.items g k.opened.shows),
+  subst (CanPutBack (with_hole g)) (sym k.cut) (new_can g u.0 v.0 z k.opened.graph k.from k.to k.fits),
+)
 
 pub new_arc_requires : (a : Inside) (g : GraphOf) (u v : VertexNo) (z : ℤ) (c : CutArc) (vs : List Vertex) (ss : Slots) → NewArcCan a g u v z c vs ss → CanBePutBack vs ss c
 new_arc_requires a g u v z c vs ss k =
@@ -77,7 +78,7 @@ new_arc_requires a g u v z c vs ss k =
     record { graph = with_hole g; sound = x.0; shows = x.1; can = x.2 }
 
 pub new_arc_after : (a b : Inside) (g : GraphOf) (u v : VertexNo) (z : ℤ) (c : CutArc) (vs ws : List Vertex) (ss ts : Slots) → NewArcCan a g u v z c vs ss
-  → PutsBack vs ss c ws ts → b.vertices.items ≡ ws → b.slots.items ≡ ts → b.live ≡ a.live + 1 → SameOwn a b → Opened b (with_arc g u.0 v.0 z)
+    → PutsBack vs ss c ws ts → b.vertices.items ≡ ws → b.slots.items ≡ ts → b.live ≡ a.live + 1 → SameOwn a b → Opened b (with_arc g u.0 v.0 z)
 new_arc_after a b g u v z c vs ws ss ts k puts vertices slots live own =
     let x = new_arc_can a g u v z c vs ss k in
     let h = with_hole g in
@@ -95,7 +96,7 @@ pub record NewArcDone (b : Inside) (g : GraphOf) (u v : VertexNo) (z : ℤ) (num
   pub sound : IsGraph (graph_of b)
 
 pub new_arc_done : (a b : Inside) (g : GraphOf) (u v : VertexNo) (z : ℤ) (c : CutArc) (vs ws : List Vertex) (ss ts : Slots) (number : ArcNo) → NewArcCan a g u v z c vs ss
-  → PutsBack vs ss c ws ts → b.vertices.items ≡ ws → b.slots.items ≡ ts → b.live ≡ a.live + 1 → SameOwn a b → number ≡ arc_no (made_of g) → NewArcDone b g u v z number
+    → PutsBack vs ss c ws ts → b.vertices.items ≡ ws → b.slots.items ≡ ts → b.live ≡ a.live + 1 → SameOwn a b → number ≡ arc_no (made_of g) → NewArcDone b g u v z number
 new_arc_done a b g u v z c vs ws ss ts number k puts vertices slots live own is =
     let o = new_arc_after a b g u v z c vs ws ss ts k puts vertices slots live own in
     let arena = closed_arena b (with_arc g u.0 v.0 z) o in
@@ -103,14 +104,16 @@ new_arc_done a b g u v z c vs ws ss ts number k puts vertices slots live own is 
       arena = arena;
       graph = closed b (with_arc g u.0 v.0 z) o;
       left = record {
-        from = u.0; to = v.0; len = z;
+        from = u.0;
+        to = v.0;
+        len = z;
         graph = k.opened.graph;
         accepted = arc_accepted g u.0 v.0 k.from k.to k.few;
         fits = k.fits;
         number = is;
-        left = closed b (with_arc g u.0 v.0 z) o
+        left = closed b (with_arc g u.0 v.0 z) o;
       };
-      sound = arena.graph
+      sound = arena.graph;
     }
 
 -- what `new_edge` knows before it links its arcs
@@ -143,8 +146,8 @@ new_edge_can a g u v z c d vs ss k =
       shows = rw (k.vertices, k.slots) (hole_shows a.vertices.items (a.slots.items ++ None ∷ []) h (hole_shows a.vertices.items a.slots.items g k.opened.shows));
       can = subst (CanPutBack (with_hole h)) (sym k.second) (second_can g low high z k.opened.graph below above k.fits);
       next =
-        subst (λ x. CanPutBack (with_cut_arc (with_hole h) x) d) (sym k.second)
-        (subst (CanPutBack (with_cut_arc (with_hole h) (second_cut g low high z))) (sym k.first) (first_can g low high z k.opened.graph below above k.fits))
+          subst (λ x. CanPutBack (with_cut_arc (with_hole h) x) d) (sym k.second)
+          (subst (CanPutBack (with_cut_arc (with_hole h) (second_cut g low high z))) (sym k.first) (first_can g low high z k.opened.graph below above k.fits));
     }
 
 pub new_edge_requires : (a : Inside) (g : GraphOf) (u v : VertexNo) (z : ℤ) (c d : CutArc) (vs : List Vertex) (ss : Slots) → NewEdgeCan a g u v z c d vs ss → CanBePutBoth vs ss c d
@@ -153,7 +156,7 @@ new_edge_requires a g u v z c d vs ss k =
     record { graph = with_hole (with_hole g); sound = x.sound; shows = x.shows; can = x.can; next = x.next }
 
 pub new_edge_after : (a b : Inside) (g : GraphOf) (u v : VertexNo) (z : ℤ) (c d : CutArc) (vs ws : List Vertex) (ss ts : Slots) → NewEdgeCan a g u v z c d vs ss
-  → PutsBoth vs ss c d ws ts → b.vertices.items ≡ ws → b.slots.items ≡ ts → b.live ≡ a.live + 2 → SameOwn a b → Opened b (with_edge g u.0 v.0 z)
+    → PutsBoth vs ss c d ws ts → b.vertices.items ≡ ws → b.slots.items ≡ ts → b.live ≡ a.live + 2 → SameOwn a b → Opened b (with_edge g u.0 v.0 z)
 unfolding with_cut_arc with_listed
 new_edge_after a b g u v z c d vs ws ss ts k puts vertices slots live own =
     let x = new_edge_can a g u v z c d vs ss k in
@@ -165,7 +168,7 @@ new_edge_after a b g u v z c d vs ws ss ts k puts vertices slots live own =
     let after : Opened b (with_cut_arc h1 d) = put_after b h1 d (put_sound h c x.sound x.can) x.next shows count (own.id ∙ o.id) (own.types ∙ o.types) (own.fields ∙ o.fields) in
     subst (Opened b)
     (ap (λ y. with_cut_arc (with_cut_arc h y) d) k.second
-      ∙ (ap (with_cut_arc (with_cut_arc h (second_cut g (min u.0 v.0) (max u.0 v.0) z))) k.first ∙ sym (with_edge_is g u.0 v.0 z)))
+    ∙ (ap (with_cut_arc (with_cut_arc h (second_cut g (min u.0 v.0) (max u.0 v.0) z))) k.first ∙ sym (with_edge_is g u.0 v.0 z)))
     after
 
 pub record NewEdgeDone (b : Inside) (g : GraphOf) (u v : VertexNo) (z : ℤ) (number : ArcNo) : Type 0 where
@@ -175,7 +178,7 @@ pub record NewEdgeDone (b : Inside) (g : GraphOf) (u v : VertexNo) (z : ℤ) (nu
   pub sound : IsGraph (graph_of b)
 
 pub new_edge_done : (a b : Inside) (g : GraphOf) (u v : VertexNo) (z : ℤ) (c d : CutArc) (vs ws : List Vertex) (ss ts : Slots) (number : ArcNo) → NewEdgeCan a g u v z c d vs ss
-  → PutsBoth vs ss c d ws ts → b.vertices.items ≡ ws → b.slots.items ≡ ts → b.live ≡ a.live + 2 → SameOwn a b → number ≡ arc_no (made_of g) → NewEdgeDone b g u v z number
+    → PutsBoth vs ss c d ws ts → b.vertices.items ≡ ws → b.slots.items ≡ ts → b.live ≡ a.live + 2 → SameOwn a b → number ≡ arc_no (made_of g) → NewEdgeDone b g u v z number
 new_edge_done a b g u v z c d vs ws ss ts number k puts vertices slots live own is =
     let o = new_edge_after a b g u v z c d vs ws ss ts k puts vertices slots live own in
     let arena = closed_arena b (with_edge g u.0 v.0 z) o in
@@ -183,12 +186,14 @@ new_edge_done a b g u v z c d vs ws ss ts number k puts vertices slots live own 
       arena = arena;
       graph = closed b (with_edge g u.0 v.0 z) o;
       left = record {
-        from = u.0; to = v.0; len = z;
+        from = u.0;
+        to = v.0;
+        len = z;
         graph = k.opened.graph;
         accepted = edge_accepted g u.0 v.0 k.from k.to k.few;
         fits = k.fits;
         number = is;
-        left = closed b (with_edge g u.0 v.0 z) o
+        left = closed b (with_edge g u.0 v.0 z) o;
       };
-      sound = arena.graph
+      sound = arena.graph;
     }

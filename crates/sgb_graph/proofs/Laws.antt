@@ -36,7 +36,7 @@ position-insert (q ∷ ks) (suc i) k h none =
     let ne : q ≢ k = λ e. omega (arith, occurs_yes k q ks e) in
     let rest : position_or_len (λ j. j == k) (insert ks i k) ≡ i = position-insert ks i k (omega arith) (omega (arith, occurs_no k q ks ne)) in
     let step : position_or_len (λ j. j == k) (insert (q ∷ ks) (suc i) k) ≡ 1 + position_or_len (λ j. j == k) (insert ks i k) =
-        ap (λ b. let m : ℕ = cond (not b) (1 + position_or_len (λ j. j == k) (insert ks i k)) 0 in m) (ne_eqb q k ne) in
+    ap (λ b. let m : ℕ = cond (not b) (1 + position_or_len (λ j. j == k) (insert ks i k)) 0 in m) (ne_eqb q k ne) in
     omega (arith, step, rest)
 
 pub put_once : (g : GraphOf) (c : CutArc) → IsGraph g → CanPutBack g c → occurrences c.number.0 (arcs_of (with_cut_arc g c) c.owner.0) ≡ 1
@@ -69,14 +69,14 @@ without_arc-with_cut_arc g c sound can =
     let taken : ℕ → ℕ → List VertexOf = λ w i. set h.vertices w (record (vertex_at h w) { arcs = remove (arcs_of h w) i }) in
     let here : vertex_at h v ≡ owner_with g c = put_vertex_same g c can in
     let vertices : taken (owner_of h k) (place_of h k) ≡ g.vertices =
-        ap (λ w. taken w (place_of h k)) (put_owner_of g c sound can)
-        ∙ (ap (taken v) (put_place_of g c sound can)
-        ∙ (ap (λ x. set h.vertices v (record x { arcs = remove x.arcs c.place })) here
-        ∙ (ap (λ ks. set h.vertices v (record (vertex_at g v) { arcs = ks })) (remove-insert (arcs_of g v) c.place k can.place)
-        ∙ (set-set g.vertices v (owner_with g c) (vertex_at g v) ∙ set-get_or g.vertices v no_vertex)))) in
+    ap (λ w. taken w (place_of h k)) (put_owner_of g c sound can)
+    ∙ (ap (taken v) (put_place_of g c sound can)
+    ∙ (ap (λ x. set h.vertices v (record x { arcs = remove x.arcs c.place })) here
+    ∙ (ap (λ ks. set h.vertices v (record (vertex_at g v) { arcs = ks })) (remove-insert (arcs_of g v) c.place k can.place)
+    ∙ (set-set g.vertices v (owner_with g c) (vertex_at g v) ∙ set-get_or g.vertices v no_vertex)))) in
     let entries : set h.entries k None ≡ g.entries =
-        set-set g.entries k (Some (arc_of c)) None
-        ∙ (ap (set g.entries k) (sym can.hole) ∙ set-get_or g.entries k None) in
+    set-set g.entries k (Some (arc_of c)) None
+    ∙ (ap (set g.entries k) (sym can.hole) ∙ set-get_or g.entries k None) in
     same_graph (without_arc h k) g refl refl refl vertices entries
 
 -- taken out and put back
@@ -92,7 +92,7 @@ cut_can g k sound can f =
       made = omega (arith, take_made g k, f.made);
       owner = omega (arith, take_n g k, f.owner);
       place = omega (arith, length-remove ks (place_of g k) f.within, f.within, ap (λ x. length x.arcs) (take_vertex_same g k f));
-      arc = subst (λ n. IsArc n h.entries (entry_at g k)) (sym (take_n g k)) (entry_without (n_of g) g.entries k (Some (entry_at g k)) named arc)
+      arc = subst (λ n. IsArc n h.entries (entry_at g k)) (sym (take_n g k)) (entry_without (n_of g) g.entries k (Some (entry_at g k)) named arc);
     }
 
 pub with_cut_arc-without_arc : (g : GraphOf) (k : ℕ) → Found g k → with_cut_arc (without_arc g k) (cut_arc g k) ≡ g
@@ -102,10 +102,10 @@ with_cut_arc-without_arc g k f =
     let v = owner_of g k in
     let i = place_of g k in
     let vertices : set h.vertices v (record (vertex_at h v) { arcs = insert (arcs_of h v) i k }) ≡ g.vertices =
-        ap (λ x. set h.vertices v (record x { arcs = insert x.arcs i k })) (take_vertex_same g k f)
-        ∙ (ap (λ ks. set h.vertices v (record (vertex_at g v) { arcs = ks })) (insert-remove (arcs_of g v) i k f.within f.at)
-        ∙ (set-set g.vertices v (owner_without g k) (vertex_at g v) ∙ set-get_or g.vertices v no_vertex)) in
+    ap (λ x. set h.vertices v (record x { arcs = insert x.arcs i k })) (take_vertex_same g k f)
+    ∙ (ap (λ ks. set h.vertices v (record (vertex_at g v) { arcs = ks })) (insert-remove (arcs_of g v) i k f.within f.at)
+    ∙ (set-set g.vertices v (owner_without g k) (vertex_at g v) ∙ set-get_or g.vertices v no_vertex)) in
     let entries : set h.entries k (Some (entry_at g k)) ≡ g.entries =
-        set-set g.entries k None (Some (entry_at g k))
-        ∙ (ap (set g.entries k) (sym f.entry) ∙ set-get_or g.entries k None) in
+    set-set g.entries k None (Some (entry_at g k))
+    ∙ (ap (set g.entries k) (sym f.entry) ∙ set-get_or g.entries k None) in
     same_graph (with_cut_arc h (cut_arc g k)) g refl refl refl vertices entries

@@ -6,6 +6,7 @@ pub mod Graphs
 pub mod GrowLemmas
 pub mod Growing
 pub mod Holes
+pub mod HonestLemmas
 pub mod InsertLemmas
 pub mod Laws
 pub mod NewLemmas

@@ -41,10 +41,10 @@ new_id_is n h =
       text = record {
         short = omega arith;
         printable =
-          list_all-append is_text_byte (codes "gb_new_graph(" ++ decimal n) (codes ")")
-          ∙ (ap (λ b. b && true) (list_all-append is_text_byte (codes "gb_new_graph(") (decimal n)) ∙ rw (decimal_bytes n (omega arith)) refl)
+            list_all-append is_text_byte (codes "gb_new_graph(" ++ decimal n) (codes ")")
+            ∙ (ap (λ b. b && true) (list_all-append is_text_byte (codes "gb_new_graph(") (decimal n)) ∙ rw (decimal_bytes n (omega arith)) refl);
       };
-      short = omega arith
+      short = omega arith;
     }
 
 pub zeros_are : (n : ℕ) → All (IsValue n []) six_zeros
@@ -55,7 +55,7 @@ blank_is_bare n k i d h =
     rw (get_or-replicate k i blank d (omega (arith, length-replicate {A = Vertex})))
     (record {
       first = refl;
-      shown = record { label = record { short = lit≤ tt; printable = refl }; six = refl; values = zeros_are n }
+      shown = record { label = record { short = lit≤ tt; printable = refl }; six = refl; values = zeros_are n };
     })
 
 pub map-replicate : {X Y : Type 0} (f : X → Y) (n : ℕ) (x : X) → map f (replicate n x) ≡ replicate n (f x)
@@ -83,25 +83,25 @@ bare_shows vs id types bare =
     record {
       n = sym n;
       vertices = λ v d h.
-        let low : v < length vs = omega arith in
-        subst (ShowsVertex [] (get_or vs v d)) (sym (get_or-map bare_vertex vs v d no_vertex low))
-        (record { label = refl; fields = refl; arcs = (bare v d low).first });
+          let low : v < length vs = omega arith in
+          subst (ShowsVertex [] (get_or vs v d)) (sym (get_or-map bare_vertex vs v d no_vertex low))
+          (record { label = refl; fields = refl; arcs = (bare v d low).first });
       made = refl;
       entries = λ k. refl;
       owners = λ k. tt;
-      names = λ k. tt
+      names = λ k. tt;
     }
 
 -- the fields of a graph without arcs
 pub bare_opened : (a : Inside) → length a.vertices.items ≤ 65535 → IsId a.id → IsTypes a.types → All (IsBare (length a.vertices.items)) a.vertices.items → a.fields ≡ six_zeros → a.slots.items ≡ [] → a.live ≡ 0
-  → Opened a (bare_graph a.id a.types (map bare_vertex a.vertices.items))
+    → Opened a (bare_graph a.id a.types (map bare_vertex a.vertices.items))
 bare_opened a few id types bare fields slots live =
     let vs = a.vertices.items in
     let n : length (map bare_vertex vs) ≡ length vs = length-map vs bare_vertex in
     record {
       graph = record {
         listed = λ k. sum_zero (λ v. occurrences k v.arcs) (map bare_vertex vs)
-          (λ v d h. ap (occurrences k) (bare_arcs vs v d (omega (arith, n))));
+            (λ v d h. ap (occurrences k) (bare_arcs vs v d (omega (arith, n))));
         id = id;
         types = types;
         six = refl;
@@ -109,13 +109,13 @@ bare_opened a few id types bare fields slots live =
         vertices = bare_vertices vs bare;
         arcs = λ k d h. absurd (omega arith);
         few_vertices = omega (arith, n);
-        few_arcs = lit≤ tt
+        few_arcs = lit≤ tt;
       };
       shows = subst (λ ss. Shows vs ss (bare_graph a.id a.types (map bare_vertex vs))) (sym slots) (bare_shows vs a.id a.types bare);
       live = live;
       id = refl;
       types = refl;
-      fields = fields
+      fields = fields;
     }
 
 pub id_ok : {E : Type 0} (r : Result (List ℕ) E) (bs : List ℕ) (n : ℕ) → bs ≡ new_id n → n ≤ 65535 → IfOk r (λ t. t ≡ bs) → IfOk r (λ t. (t ≡ new_id n) × IsId t)

@@ -67,9 +67,9 @@ put_keeps g c can =
     record {
       vertices = omega (arith, put_n g c);
       arcs = λ k live. elim (cases_eq k c.number.0) [
-        inl same ↦ ap (λ i. is_some (arc_at (with_cut_arc g c) i)) same ∙ ap is_some (put_entry_same g c can)
-      | inr ne ↦ ap is_some (put_entry_other g c k ne) ∙ live
-      ]
+        | inl same ↦ ap (λ i. is_some (arc_at (with_cut_arc g c) i)) same ∙ ap is_some (put_entry_same g c can)
+        | inr ne ↦ ap is_some (put_entry_other g c k ne) ∙ live
+      ];
     }
 
 -- how many fields name an arc then
@@ -89,28 +89,29 @@ put_sound g c sound can =
     let owner = sound.vertices c.owner.0 no_vertex can.owner in
     record {
       listed = λ k. elim (cases_eq k c.number.0) [
-        inl same ↦
-          let was : listings k g.vertices ≡ 0 = sound.listed k ∙ ap (λ b. cond b 1 0) (ap (λ i. has_arc g i) same ∙ ap is_some can.hole) in
-          let now : has_arc h k ≡ true = ap (λ i. is_some (arc_at h i)) same ∙ ap is_some (put_entry_same g c can) in
-          put_listings g c k can ∙ (ap (λ b. listings k g.vertices + cond b 1 0) (eq-eqb c.number.0 k (sym same)) ∙ (omega arith ∙ ap (λ b. cond b 1 0) (sym now)))
-      | inr ne ↦
-          put_listings g c k can ∙ (ap (λ b. listings k g.vertices + cond b 1 0) (ne_eqb c.number.0 k (λ e. ne (sym e))) ∙ (omega arith ∙ (sound.listed k ∙ ap (λ o. cond (is_some o) 1 0) (sym (put_entry_other g c k ne)))))
+        | inl same ↦
+            let was : listings k g.vertices ≡ 0 = sound.listed k ∙ ap (λ b. cond b 1 0) (ap (λ i. has_arc g i) same ∙ ap is_some can.hole) in
+            let now : has_arc h k ≡ true = ap (λ i. is_some (arc_at h i)) same ∙ ap is_some (put_entry_same g c can) in
+            put_listings g c k can ∙ (ap (λ b. listings k g.vertices + cond b 1 0) (eq-eqb c.number.0 k (sym same)) ∙ (omega arith ∙ ap (λ b. cond b 1 0) (sym now)))
+        | inr ne ↦
+            put_listings g c k can ∙ (ap (λ b. listings k g.vertices + cond b 1 0) (ne_eqb c.number.0 k (λ e. ne (sym e))) ∙ (omega arith ∙ (sound.listed k ∙ ap (λ o. cond (is_some o) 1 0) (sym (put_entry_other g c k ne)))))
       ];
       id = sound.id;
       types = sound.types;
       six = sound.six;
       values = λ i d l. IsValue-keeps (n_of g) (n_of h) g.entries h.entries (get_or g.fields i d) keeps (sound.values i d l);
       vertices = All-set (IsVertex (n_of h) h.entries) g.vertices c.owner.0 (owner_with g c)
-        (λ i d l. IsVertex-keeps (n_of g) (n_of h) g.entries h.entries (get_or g.vertices i d) keeps (sound.vertices i d l))
-        (record {
-          label = owner.label; six = owner.six;
-          values = λ i d l. IsValue-keeps (n_of g) (n_of h) g.entries h.entries (get_or (vertex_at g c.owner.0).fields i d) keeps (owner.values i d l)
-        });
+          (λ i d l. IsVertex-keeps (n_of g) (n_of h) g.entries h.entries (get_or g.vertices i d) keeps (sound.vertices i d l))
+          (record {
+            label = owner.label;
+            six = owner.six;
+            values = λ i d l. IsValue-keeps (n_of g) (n_of h) g.entries h.entries (get_or (vertex_at g c.owner.0).fields i d) keeps (owner.values i d l);
+          });
       arcs = All-set (λ o. IfSome o (IsArc (n_of h) h.entries)) g.entries c.number.0 (Some (arc_of c))
-        (λ i d l. IsEntry-keeps (n_of g) (n_of h) g.entries h.entries (get_or g.entries i d) keeps (sound.arcs i d l))
-        (IsArc-keeps (n_of g) (n_of h) g.entries h.entries (arc_of c) keeps can.arc);
+          (λ i d l. IsEntry-keeps (n_of g) (n_of h) g.entries h.entries (get_or g.entries i d) keeps (sound.arcs i d l))
+          (IsArc-keeps (n_of g) (n_of h) g.entries h.entries (arc_of c) keeps can.arc);
       few_vertices = omega (arith, put_n g c, sound.few_vertices);
-      few_arcs = omega (arith, put_made g c, sound.few_arcs)
+      few_arcs = omega (arith, put_made g c, sound.few_arcs);
     }
 
 -- one more arc lives

@@ -42,8 +42,8 @@ use Rattle.sgb_graph.specs.Delta.{LeftByLen, LeftByLabel}
 
 -- a label
 pub label_opened : (a b : Inside) (g : GraphOf) (v : ℕ) (t : List ℕ) → Opened a g → v < n_of g → IsText t
-  → b.id ≡ a.id → b.types ≡ a.types → b.fields ≡ a.fields → b.live ≡ a.live → b.slots.items ≡ a.slots.items
-  → b.vertices.items ≡ set a.vertices.items v (record (vertex_in a.vertices.items v) { label = t }) → Opened b (with_label g v t)
+    → b.id ≡ a.id → b.types ≡ a.types → b.fields ≡ a.fields → b.live ≡ a.live → b.slots.items ≡ a.slots.items
+    → b.vertices.items ≡ set a.vertices.items v (record (vertex_in a.vertices.items v) { label = t }) → Opened b (with_label g v t)
 unfolding with_label
 label_opened a b g v t o low text id types fields live slots vertices =
     let h = with_label g v t in
@@ -57,49 +57,53 @@ label_opened a b g v t o low text id types fields live slots vertices =
     let vs = a.vertices.items in
     let ss = a.slots.items in
     let names : (j : ℕ) → names_of h j ≡ names_of g j = λ j.
-      (let s = sum_by-set (λ z. names_in j z.fields) g.vertices v y no_vertex low in omega (arith, s)) in
+    (let s = sum_by-set (λ z. names_in j z.fields) g.vertices v y no_vertex low in omega (arith, s)) in
     let arcs : (w : ℕ) → arcs_of h w ≡ arcs_of g w = λ w.
-      elim (cases_eq w v) [
-        inl same ↦ ap (λ k. (get_or h.vertices k no_vertex).arcs) same ∙ (ap (λ z. z.arcs) (get_or-set_same g.vertices v y no_vertex low) ∙ ap (arcs_of g) (sym same))
+    elim (cases_eq w v) [
+      | inl same ↦ ap (λ k. (get_or h.vertices k no_vertex).arcs) same ∙ (ap (λ z. z.arcs) (get_or-set_same g.vertices v y no_vertex low) ∙ ap (arcs_of g) (sym same))
       | inr ne ↦ ap (λ z. z.arcs) (get_or-set_other g.vertices v w y no_vertex ne)
-      ] in
+    ] in
     let shown : Shows (set vs v new) ss h = record {
       n = omega (arith, length-set vs v new, o.shows.n, n);
       vertices = λ w d l.
-        elim (cases_eq w v) [
-          inl same ↦
-            let z = o.shows.vertices v any_vertex low in
-            let made : ShowsVertex ss new y = record { label = refl; fields = z.fields; arcs = z.arcs } in
-            let one : get_or (set vs v new) w d ≡ new = ap (λ k. get_or (set vs v new) k d) same ∙ get_or-set_same vs v new d (omega (arith, o.shows.n, low)) in
-            let two : vertex_at h w ≡ y = ap (vertex_at h) same ∙ get_or-set_same g.vertices v y no_vertex low in
-            subst (λ r. ShowsVertex ss r (vertex_at h w)) (sym one) (subst (ShowsVertex ss new) (sym two) made)
-        | inr ne ↦
-            subst (λ r. ShowsVertex ss r (vertex_at h w)) (sym (get_or-set_other vs v w new d ne))
-            (subst (ShowsVertex ss (get_or vs w d)) (sym (get_or-set_other g.vertices v w y no_vertex ne)) (o.shows.vertices w d (omega (arith, l, n))))
-        ];
+          elim (cases_eq w v) [
+            | inl same ↦
+                let z = o.shows.vertices v any_vertex low in
+                let made : ShowsVertex ss new y = record { label = refl; fields = z.fields; arcs = z.arcs } in
+                let one : get_or (set vs v new) w d ≡ new = ap (λ k. get_or (set vs v new) k d) same ∙ get_or-set_same vs v new d (omega (arith, o.shows.n, low)) in
+                let two : vertex_at h w ≡ y = ap (vertex_at h) same ∙ get_or-set_same g.vertices v y no_vertex low in
+                subst (λ r. ShowsVertex ss r (vertex_at h w)) (sym one) (subst (ShowsVertex ss new) (sym two) made)
+            | inr ne ↦
+                subst (λ r. ShowsVertex ss r (vertex_at h w)) (sym (get_or-set_other vs v w new d ne))
+                (subst (ShowsVertex ss (get_or vs w d)) (sym (get_or-set_other g.vertices v w y no_vertex ne)) (o.shows.vertices w d (omega (arith, l, n))))
+          ];
       made = o.shows.made;
       entries = o.shows.entries;
       owners = λ k. owned_as k (owner_in (slot_at ss k)) (arcs_of g) (arcs_of h) arcs (o.shows.owners k);
-      names = λ k. subst (λ z. IfSome (names_counted (slot_at ss k)) (λ m. m ≡ z)) (sym (names k)) (o.shows.names k)
+      names = λ k. subst (λ z. IfSome (names_counted (slot_at ss k)) (λ m. m ≡ z)) (sym (names k)) (o.shows.names k);
     } in
     record {
       graph = record {
         listed = λ k.
-          let s = sum_by-set (λ z. occurrences k z.arcs) g.vertices v y no_vertex low in
-          let same : listings k h.vertices ≡ listings k g.vertices = omega (arith, s) in
-          same ∙ sound.listed k;
-        id = sound.id; types = sound.types; six = sound.six;
+            let s = sum_by-set (λ z. occurrences k z.arcs) g.vertices v y no_vertex low in
+            let same : listings k h.vertices ≡ listings k g.vertices = omega (arith, s) in
+            same ∙ sound.listed k;
+        id = sound.id;
+        types = sound.types;
+        six = sound.six;
         values = λ k d l. IsValue-keeps (n_of g) (n_of h) g.entries h.entries (get_or g.fields k d) keeps (sound.values k d l);
         vertices = All-set (IsVertex (n_of h) h.entries) g.vertices v y
-          (λ k d l. IsVertex-keeps (n_of g) (n_of h) g.entries h.entries (get_or g.vertices k d) keeps (sound.vertices k d l))
-          (record { label = text; six = owner.six; values = owner.values });
+            (λ k d l. IsVertex-keeps (n_of g) (n_of h) g.entries h.entries (get_or g.vertices k d) keeps (sound.vertices k d l))
+            (record { label = text; six = owner.six; values = owner.values });
         arcs = λ k d l. IsEntry-keeps (n_of g) (n_of h) g.entries h.entries (get_or g.entries k d) keeps (sound.arcs k d l);
         few_vertices = omega (arith, n, sound.few_vertices);
-        few_arcs = sound.few_arcs
+        few_arcs = sound.few_arcs;
       };
       shows = rw (vertices, slots) shown;
       live = live ∙ o.live;
-      id = id ∙ o.id; types = types ∙ o.types; fields = fields ∙ o.fields
+      id = id ∙ o.id;
+      types = types ∙ o.types;
+      fields = fields ∙ o.fields;
     }
 
 -- a length
@@ -128,8 +132,8 @@ len_of_entry (Some s) None same live = absurd cc
 len_of_entry (Some s) (Some e) same live = ap (λ o. (arc_or no_arc o).len) same
 
 pub len_opened : (a b : Inside) (g : GraphOf) (k : ℕ) (z : ℤ) → Opened a g → has_arc g k ≡ true → FitsSigned w64 z
-  → b.id ≡ a.id → b.types ≡ a.types → b.fields ≡ a.fields → b.live ≡ a.live → b.vertices.items ≡ a.vertices.items
-  → b.slots.items ≡ set a.slots.items k (with_len_in z (slot_at a.slots.items k)) → Opened b (with_len g k z)
+    → b.id ≡ a.id → b.types ≡ a.types → b.fields ≡ a.fields → b.live ≡ a.live → b.vertices.items ≡ a.vertices.items
+    → b.slots.items ≡ set a.slots.items k (with_len_in z (slot_at a.slots.items k)) → Opened b (with_len g k z)
 unfolding with_len
 len_opened a b g k z o there fits id types fields live vertices slots =
     let h = with_len g k z in
@@ -141,10 +145,10 @@ len_opened a b g k z o there fits id types fields live vertices slots =
     let y : ArcOf = record e { len = z } in
     let made : made_of h ≡ made_of g = length-set g.entries k (Some y) in
     let still : (j : ℕ) → has_arc h j ≡ has_arc g j = λ j.
-      elim (cases_eq j k) [
-        inl same ↦ ap (has_arc h) same ∙ (ap is_some (entry_same g.entries k (Some y) low) ∙ (sym there ∙ ap (has_arc g) (sym same)))
+    elim (cases_eq j k) [
+      | inl same ↦ ap (has_arc h) same ∙ (ap is_some (entry_same g.entries k (Some y) low) ∙ (sym there ∙ ap (has_arc g) (sym same)))
       | inr ne ↦ ap is_some (entry_other g.entries k j (Some y) ne)
-      ] in
+    ] in
     let keeps : Keeps (n_of g) g.entries (n_of h) h.entries = record { vertices = omega arith; arcs = λ j l. still j ∙ l } in
     let arc' : IsArc (n_of h) h.entries e = IsArc-keeps (n_of g) (n_of h) g.entries h.entries e keeps arc in
     let one : Option ArcOf → ℕ = λ r. cond (is_some r) 1 0 in
@@ -155,46 +159,51 @@ len_opened a b g k z o there fits id types fields live vertices slots =
     let shown : Shows vs ts h = record {
       n = o.shows.n;
       vertices = λ w d l.
-        let v = o.shows.vertices w d l in
-        record {
-          label = v.label; fields = v.fields;
-          arcs = Leads-agree (next_at ss) (next_at ts) (get_or vs w d).first (arcs_of g w) None (λ j _. slot_unseen next_of ss k j p (len_blind_next z (slot_at ss k))) v.arcs
-        };
+          let v = o.shows.vertices w d l in
+          record {
+            label = v.label;
+            fields = v.fields;
+            arcs = Leads-agree (next_at ss) (next_at ts) (get_or vs w d).first (arcs_of g w) None (λ j _. slot_unseen next_of ss k j p (len_blind_next z (slot_at ss k))) v.arcs;
+          };
       made = length-set ss k p ∙ (o.shows.made ∙ sym made);
       entries = λ j. elim (cases_eq j k) [
-        inl same ↦
-          ap (λ i. entry_of (slot_at ts i)) same
-          ∙ (ap entry_of (slot_same ss k p (omega (arith, o.shows.made)))
-          ∙ (entry_len z (slot_at ss k) (arc_at g k) (o.shows.entries k) there
-          ∙ (sym (entry_same g.entries k (Some y) low) ∙ ap (arc_at h) (sym same))))
-      | inr ne ↦ ap entry_of (slot_other ss k j p ne) ∙ (o.shows.entries j ∙ sym (entry_other g.entries k j (Some y) ne))
+        | inl same ↦
+            ap (λ i. entry_of (slot_at ts i)) same
+            ∙ (ap entry_of (slot_same ss k p (omega (arith, o.shows.made)))
+            ∙ (entry_len z (slot_at ss k) (arc_at g k) (o.shows.entries k) there
+            ∙ (sym (entry_same g.entries k (Some y) low) ∙ ap (arc_at h) (sym same))))
+        | inr ne ↦ ap entry_of (slot_other ss k j p ne) ∙ (o.shows.entries j ∙ sym (entry_other g.entries k j (Some y) ne))
       ];
       owners = λ j. subst (λ r. IfSome r (λ v. occurrences j (arcs_of g v.0) ≡ 1)) (sym (slot_unseen owner_in ss k j p (len_blind_owner z (slot_at ss k)))) (o.shows.owners j);
       names = λ j.
-        let s = sum_by-set (names_in_entry j) g.entries k (Some y) None low in
-        let was : names_in_entry j (get_or g.entries k None) ≡ names_in j e.fields = ap (names_in_entry j) entry in
-        let same : names_of h j ≡ names_of g j = omega (arith, s, was) in
-        subst (λ r. IfSome r (λ m. m ≡ names_of h j)) (sym (slot_unseen names_counted ss k j p (len_blind_names z (slot_at ss k))))
-        (subst (λ n. IfSome (names_counted (slot_at ss j)) (λ m. m ≡ n)) (sym same) (o.shows.names j))
+          let s = sum_by-set (names_in_entry j) g.entries k (Some y) None low in
+          let was : names_in_entry j (get_or g.entries k None) ≡ names_in j e.fields = ap (names_in_entry j) entry in
+          let same : names_of h j ≡ names_of g j = omega (arith, s, was) in
+          subst (λ r. IfSome r (λ m. m ≡ names_of h j)) (sym (slot_unseen names_counted ss k j p (len_blind_names z (slot_at ss k))))
+          (subst (λ n. IfSome (names_counted (slot_at ss j)) (λ m. m ≡ n)) (sym same) (o.shows.names j));
     } in
     record {
       graph = record {
         listed = λ j. sound.listed j ∙ ap (λ b. cond b 1 0) (sym (still j));
-        id = sound.id; types = sound.types; six = sound.six;
+        id = sound.id;
+        types = sound.types;
+        six = sound.six;
         values = λ j d l. IsValue-keeps (n_of g) (n_of h) g.entries h.entries (get_or g.fields j d) keeps (sound.values j d l);
         vertices = λ j d l. IsVertex-keeps (n_of g) (n_of h) g.entries h.entries (get_or g.vertices j d) keeps (sound.vertices j d l);
         arcs = All-set (λ r. IfSome r (IsArc (n_of h) h.entries)) g.entries k (Some y)
-          (λ j d l. IsEntry-keeps (n_of g) (n_of h) g.entries h.entries (get_or g.entries j d) keeps (sound.arcs j d l))
-          (record { tip = arc'.tip; len = fits; two = arc'.two; values = arc'.values });
+            (λ j d l. IsEntry-keeps (n_of g) (n_of h) g.entries h.entries (get_or g.entries j d) keeps (sound.arcs j d l))
+            (record { tip = arc'.tip; len = fits; two = arc'.two; values = arc'.values });
         few_vertices = sound.few_vertices;
-        few_arcs = omega (arith, made, sound.few_arcs)
+        few_arcs = omega (arith, made, sound.few_arcs);
       };
       shows = rw (vertices, slots) shown;
       live =
-        (let s = sum_by-set one g.entries k (Some y) None low in
-         let was : one (get_or g.entries k None) ≡ 1 = ap one entry in
-         omega (arith, live, o.live, s, was));
-      id = id ∙ o.id; types = types ∙ o.types; fields = fields ∙ o.fields
+          (let s = sum_by-set one g.entries k (Some y) None low in
+          let was : one (get_or g.entries k None) ≡ 1 = ap one entry in
+          omega (arith, live, o.live, s, was));
+      id = id ∙ o.id;
+      types = types ∙ o.types;
+      fields = fields ∙ o.fields;
     }
 
 -- what `set_len` leaves, clause by clause
@@ -205,12 +214,12 @@ pub record LenDone (b : Inside) (g : GraphOf) (k : ArcNo) (z old : ℤ) : Type 0
   pub sound : IsGraph (graph_of b)
 
 pub len_done : (a b : Inside) (g : GraphOf) (k : ArcNo) (z z' old : ℤ) (ss ts : Slots) → graph_of a ≡ g → IsArena a → has_arc g k.0 ≡ true → FitsSigned w64 z → z' ≡ z
-  → ss ≡ a.slots.items → old ≡ len_in (slot_at ss k.0) → ts ≡ set ss k.0 (with_len_in z' (slot_at ss k.0))
-  → b.id ≡ a.id → b.types ≡ a.types → b.fields ≡ a.fields → b.live ≡ a.live → b.vertices.items ≡ a.vertices.items → b.slots.items ≡ ts → LenDone b g k z (to_z w64 (of_z w64 old))
+    → ss ≡ a.slots.items → old ≡ len_in (slot_at ss k.0) → ts ≡ set ss k.0 (with_len_in z' (slot_at ss k.0))
+    → b.id ≡ a.id → b.types ≡ a.types → b.fields ≡ a.fields → b.live ≡ a.live → b.vertices.items ≡ a.vertices.items → b.slots.items ≡ ts → LenDone b g k z (to_z w64 (of_z w64 old))
 len_done a b g k z z' old ss ts same arena there fits is ss_is old_is ts_is id types fields live vertices slots =
     let o = opened a g same arena in
     let made : b.slots.items ≡ set a.slots.items k.0 (with_len_in z (slot_at a.slots.items k.0)) =
-        slots ∙ (ts_is ∙ (ap (λ r. set r k.0 (with_len_in z' (slot_at r k.0))) ss_is ∙ ap (λ y. set a.slots.items k.0 (with_len_in y (slot_at a.slots.items k.0))) is)) in
+    slots ∙ (ts_is ∙ (ap (λ r. set r k.0 (with_len_in z' (slot_at r k.0))) ss_is ∙ ap (λ y. set a.slots.items k.0 (with_len_in y (slot_at a.slots.items k.0))) is)) in
     let after = len_opened a b g k.0 z o there fits id types fields live vertices made in
     let arena' = closed_arena b (with_len g k.0 z) after in
     let entry : arc_at g k.0 ≡ Some (entry_at g k.0) = some_entry (arc_at g k.0) there in
@@ -224,9 +233,9 @@ len_done a b g k z z' old ss ts same arena there fits is ss_is old_is ts_is id t
         graph = o.graph;
         accepted = ap (λ t. refusal_unless t BadOperand None) there;
         kept = ap (λ r. to_z w64 (of_z w64 r)) was ∙ to_z-of_z w64 (entry_at g k.0).len arc.len;
-        left = closed b (with_len g k.0 z) after
+        left = closed b (with_len g k.0 z) after;
       };
-      sound = arena'.graph
+      sound = arena'.graph;
     }
 
 pub record LabelDone (b : Inside) (g : GraphOf) (v : VertexNo) (t old : List ℕ) : Type 0 where
@@ -236,15 +245,15 @@ pub record LabelDone (b : Inside) (g : GraphOf) (v : VertexNo) (t old : List ℕ
   pub sound : IsGraph (graph_of b)
 
 pub label_done : (a b : Inside) (g : GraphOf) (v : VertexNo) (t t' old : List ℕ) (x : vertex.Vertex) → graph_of a ≡ g → IsArena a → v.0 < n_of g → IsText t
-  → x ≡ get_or a.vertices.items v.0 x → old ≡ x.label → t' ≡ t
-  → b.id ≡ a.id → b.types ≡ a.types → b.fields ≡ a.fields → b.live ≡ a.live → b.slots.items ≡ a.slots.items
-  → b.vertices.items ≡ set a.vertices.items v.0 (record { label = t'; fields = x.fields; first = x.first }) → LabelDone b g v t old
+    → x ≡ get_or a.vertices.items v.0 x → old ≡ x.label → t' ≡ t
+    → b.id ≡ a.id → b.types ≡ a.types → b.fields ≡ a.fields → b.live ≡ a.live → b.slots.items ≡ a.slots.items
+    → b.vertices.items ≡ set a.vertices.items v.0 (record { label = t'; fields = x.fields; first = x.first }) → LabelDone b g v t old
 label_done a b g v t t' old x same arena low text read old_is is id types fields live slots vertices =
     let o = opened a g same arena in
     let at : x ≡ vertex_in a.vertices.items v.0 = get_or_read a.vertices.items v.0 x (omega (arith, o.shows.n, low)) read any_vertex in
     let made : b.vertices.items ≡ set a.vertices.items v.0 (record (vertex_in a.vertices.items v.0) { label = t }) =
-        vertices ∙ (ap (λ l. set a.vertices.items v.0 (record { label = l; fields = x.fields; first = x.first })) is
-        ∙ ap (λ y. set a.vertices.items v.0 (record y { label = t })) at) in
+    vertices ∙ (ap (λ l. set a.vertices.items v.0 (record { label = l; fields = x.fields; first = x.first })) is
+    ∙ ap (λ y. set a.vertices.items v.0 (record y { label = t })) at) in
     let after = label_opened a b g v.0 t o low text id types fields live slots made in
     let arena' = closed_arena b (with_label g v.0 t) after in
     record {
@@ -255,14 +264,14 @@ label_done a b g v t t' old x same arena low text read old_is is id types fields
         graph = o.graph;
         accepted = ap (λ r. refusal_unless r BadOperand None) (lt-ltb v.0 (n_of g) low);
         kept = old_is ∙ (ap (λ y. y.label) at ∙ (o.shows.vertices v.0 any_vertex low).label);
-        left = closed b (with_label g v.0 t) after
+        left = closed b (with_label g v.0 t) after;
       };
-      sound = arena'.graph
+      sound = arena'.graph;
     }
 
 -- the value that `util` reads
 pub util_vertex : (a : Inside) (g : GraphOf) (p : Place) (v : VertexNo) (f : VertexField) (x : vertex.Vertex) (i : ℕ) (u : Util) → graph_of a ≡ g → IsArena a → has_place g p ≡ true
-  → p ≡ places.Vertex v f → x ≡ get_or a.vertices.items v.0 x → i ≡ vertex_place f → get_or x.fields i u ≡ util_at g p
+    → p ≡ places.Vertex v f → x ≡ get_or a.vertices.items v.0 x → i ≡ vertex_place f → get_or x.fields i u ≡ util_at g p
 unfolding util_at
 util_vertex a g p v f x i u same arena there is read place =
     let o = opened a g same arena in
@@ -276,7 +285,7 @@ util_vertex a g p v f x i u same arena there is read place =
     ∙ (get_or_default (vertex_at g v.0).fields (vertex_place f) u utils.Zero (omega (arith, six, vertex_six f)) ∙ ap (util_at g) (sym is)))
 
 pub util_arc : (a : Inside) (g : GraphOf) (p : Place) (k : ArcNo) (f : ArcField) (ss : Slots) (i : ℕ) (u : Util) → graph_of a ≡ g → IsArena a → has_place g p ≡ true
-  → p ≡ places.Arc k f → ss ≡ a.slots.items → i ≡ arc_place f → u ≡ get_or (fields_in (slot_at ss k.0)) i utils.Zero → u ≡ util_at g p
+    → p ≡ places.Arc k f → ss ≡ a.slots.items → i ≡ arc_place f → u ≡ get_or (fields_in (slot_at ss k.0)) i utils.Zero → u ≡ util_at g p
 unfolding util_at
 util_arc a g p k f ss i u same arena there is slots place here =
     let o = opened a g same arena in
@@ -316,23 +325,23 @@ left_len g h k old l =
     let now : arc_at h k.0 ≡ Some y = ap (λ (q : GraphOf). arc_at q k.0) l.left ∙ entry_same g.entries k.0 (Some y) low in
     let here : record (entry_at h k.0) { len = old } ≡ e = ap (λ r. record (arc_or no_arc r) { len = old }) now ∙ ap (λ z. record e { len = z }) l.kept in
     let entries : set h.entries k.0 (Some (record (entry_at h k.0) { len = old })) ≡ g.entries =
-        ap (λ (q : GraphOf). set q.entries k.0 (Some (record (entry_at h k.0) { len = old }))) l.left
-        ∙ (ap (λ r. set (set g.entries k.0 (Some y)) k.0 (Some r)) here
-        ∙ (set-set g.entries k.0 (Some y) (Some e) ∙ (ap (set g.entries k.0) (sym entry) ∙ set-get_or g.entries k.0 None))) in
+    ap (λ (q : GraphOf). set q.entries k.0 (Some (record (entry_at h k.0) { len = old }))) l.left
+    ∙ (ap (λ r. set (set g.entries k.0 (Some y)) k.0 (Some r)) here
+    ∙ (set-set g.entries k.0 (Some y) (Some e) ∙ (ap (set g.entries k.0) (sym entry) ∙ set-get_or g.entries k.0 None))) in
     record {
       there = ap is_some now;
       fits = subst (FitsSigned w64) (sym l.kept) arc.len;
-      back = same_graph (with_len h k.0 old) g (ap (λ (q : GraphOf). q.id) l.left) (ap (λ (q : GraphOf). q.types) l.left) (ap (λ (q : GraphOf). q.fields) l.left) (ap (λ (q : GraphOf). q.vertices) l.left) entries
+      back = same_graph (with_len h k.0 old) g (ap (λ (q : GraphOf). q.id) l.left) (ap (λ (q : GraphOf). q.types) l.left) (ap (λ (q : GraphOf). q.fields) l.left) (ap (λ (q : GraphOf). q.vertices) l.left) entries;
     }
 
 pub revert_len_after : (a b : Inside) (h : GraphOf) (k : ArcNo) (old z' : ℤ) (ss ts : Slots) (g : GraphOf) → graph_of a ≡ h → IsArena a → LeftByLen g k old h → z' ≡ old
-  → ss ≡ a.slots.items → ts ≡ set ss k.0 (with_len_in z' (slot_at ss k.0))
-  → b.id ≡ a.id → b.types ≡ a.types → b.fields ≡ a.fields → b.live ≡ a.live → b.vertices.items ≡ a.vertices.items → b.slots.items ≡ ts → Opened b g
+    → ss ≡ a.slots.items → ts ≡ set ss k.0 (with_len_in z' (slot_at ss k.0))
+    → b.id ≡ a.id → b.types ≡ a.types → b.fields ≡ a.fields → b.live ≡ a.live → b.vertices.items ≡ a.vertices.items → b.slots.items ≡ ts → Opened b g
 revert_len_after a b h k old z' ss ts g same arena l is ss_is ts_is id types fields live vertices slots =
     let o = opened a h same arena in
     let x = left_len g h k old l in
     let made : b.slots.items ≡ set a.slots.items k.0 (with_len_in old (slot_at a.slots.items k.0)) =
-        slots ∙ (ts_is ∙ (ap (λ r. set r k.0 (with_len_in z' (slot_at r k.0))) ss_is ∙ ap (λ y. set a.slots.items k.0 (with_len_in y (slot_at a.slots.items k.0))) is)) in
+    slots ∙ (ts_is ∙ (ap (λ r. set r k.0 (with_len_in z' (slot_at r k.0))) ss_is ∙ ap (λ y. set a.slots.items k.0 (with_len_in y (slot_at a.slots.items k.0))) is)) in
     subst (Opened b) x.back (len_opened a b h k.0 old o x.there x.fits id types fields live vertices made)
 
 live_slot : (o : Option Slot) → is_some o ≡ is_some (entry_of o)
@@ -361,22 +370,22 @@ left_label g h v old l =
     let now : vertex_at h v.0 ≡ y = ap (λ (q : GraphOf). vertex_at q v.0) l.left ∙ get_or-set_same g.vertices v.0 y no_vertex low in
     let here : record (vertex_at h v.0) { label = old } ≡ x = ap (λ (q : VertexOf). record q { label = old }) now ∙ ap (λ t. record x { label = t }) l.kept in
     let vertices : set h.vertices v.0 (record (vertex_at h v.0) { label = old }) ≡ g.vertices =
-        ap (λ (q : GraphOf). set q.vertices v.0 (record (vertex_at h v.0) { label = old })) l.left
-        ∙ (ap (set (set g.vertices v.0 y) v.0) here ∙ (set-set g.vertices v.0 y x ∙ set-get_or g.vertices v.0 no_vertex)) in
+    ap (λ (q : GraphOf). set q.vertices v.0 (record (vertex_at h v.0) { label = old })) l.left
+    ∙ (ap (set (set g.vertices v.0 y) v.0) here ∙ (set-set g.vertices v.0 y x ∙ set-get_or g.vertices v.0 no_vertex)) in
     record {
       low = omega (arith, n, low);
       text = subst IsText (sym l.kept) (l.graph.vertices v.0 no_vertex low).label;
-      back = same_graph (with_label h v.0 old) g (ap (λ (q : GraphOf). q.id) l.left) (ap (λ (q : GraphOf). q.types) l.left) (ap (λ (q : GraphOf). q.fields) l.left) vertices (ap (λ (q : GraphOf). q.entries) l.left)
+      back = same_graph (with_label h v.0 old) g (ap (λ (q : GraphOf). q.id) l.left) (ap (λ (q : GraphOf). q.types) l.left) (ap (λ (q : GraphOf). q.fields) l.left) vertices (ap (λ (q : GraphOf). q.entries) l.left);
     }
 
 pub revert_label_after : (a b : Inside) (h : GraphOf) (v : VertexNo) (old : List ℕ) (x : vertex.Vertex) (g : GraphOf) → graph_of a ≡ h → IsArena a → LeftByLabel g v old h
-  → x ≡ get_or a.vertices.items v.0 x
-  → b.id ≡ a.id → b.types ≡ a.types → b.fields ≡ a.fields → b.live ≡ a.live → b.slots.items ≡ a.slots.items
-  → b.vertices.items ≡ set a.vertices.items v.0 (record { label = old; fields = x.fields; first = x.first }) → Opened b g
+    → x ≡ get_or a.vertices.items v.0 x
+    → b.id ≡ a.id → b.types ≡ a.types → b.fields ≡ a.fields → b.live ≡ a.live → b.slots.items ≡ a.slots.items
+    → b.vertices.items ≡ set a.vertices.items v.0 (record { label = old; fields = x.fields; first = x.first }) → Opened b g
 revert_label_after a b h v old x g same arena l read id types fields live slots vertices =
     let o = opened a h same arena in
     let y = left_label g h v old l in
     let at : x ≡ vertex_in a.vertices.items v.0 = get_or_read a.vertices.items v.0 x (omega (arith, o.shows.n, y.low)) read any_vertex in
     let made : b.vertices.items ≡ set a.vertices.items v.0 (record (vertex_in a.vertices.items v.0) { label = old }) =
-        vertices ∙ ap (λ (q : vertex.Vertex). set a.vertices.items v.0 (record q { label = old })) at in
+    vertices ∙ ap (λ (q : vertex.Vertex). set a.vertices.items v.0 (record q { label = old })) at in
     subst (Opened b) y.back (label_opened a b h v.0 old o y.low y.text id types fields live slots made)

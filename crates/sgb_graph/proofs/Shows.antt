@@ -54,7 +54,7 @@ linked_first vs ss g v d shows sound h =
     let same = numbers_are vs ss g v d shows sound h in
     record {
       ends = subst (λ ks. Leads (next_at ss) (get_or vs v d).first ks None) (sym same) (shows.vertices v d h).arcs;
-      within = subst (λ ks. All (λ k. k < length ss) ks) (sym same) (λ i e l. omega (arith, (arcs_live g v sound i e l).made, shows.made))
+      within = subst (λ ks. All (λ k. k < length ss) ks) (sym same) (λ i e l. omega (arith, (arcs_live g v sound i e l).made, shows.made));
     }
 
 -- fields that show a sound graph are an arena whose view is that graph
@@ -62,20 +62,20 @@ pub closed_vertices : (vs : List Vertex) (ss : Slots) (g : GraphOf) → Shows vs
 closed_vertices vs ss g shows sound =
     same_lists (map (vertex_of ss) vs) g.vertices (length-map vs (vertex_of ss) ∙ shows.n)
     (λ v d h.
-      let low : v < length vs = omega (arith, length-map vs (vertex_of ss)) in
-      let low' : v < n_of g = omega (arith, shows.n) in
-      let x = shows.vertices v any_vertex low' in
-      get_or-map (vertex_of ss) vs v any_vertex d low
-      ∙ (same_vertex (vertex_of ss (get_or vs v any_vertex)) (vertex_at g v) x.label x.fields (numbers_are vs ss g v any_vertex (but_of vs ss g shows) sound low')
-      ∙ get_or_default g.vertices v no_vertex d low'))
+    let low : v < length vs = omega (arith, length-map vs (vertex_of ss)) in
+    let low' : v < n_of g = omega (arith, shows.n) in
+    let x = shows.vertices v any_vertex low' in
+    get_or-map (vertex_of ss) vs v any_vertex d low
+    ∙ (same_vertex (vertex_of ss (get_or vs v any_vertex)) (vertex_at g v) x.label x.fields (numbers_are vs ss g v any_vertex (but_of vs ss g shows) sound low')
+    ∙ get_or_default g.vertices v no_vertex d low'))
 
 pub closed_entries : (vs : List Vertex) (ss : Slots) (g : GraphOf) → Shows vs ss g → map entry_of ss ≡ g.entries
 closed_entries vs ss g shows =
     same_lists (map entry_of ss) g.entries (length-map ss entry_of ∙ shows.made)
     (λ k d h.
-      let low : k < length ss = omega (arith, length-map ss entry_of) in
-      get_or-map entry_of ss k None d low
-      ∙ (shows.entries k ∙ get_or_default g.entries k None d (omega (arith, shows.made))))
+    let low : k < length ss = omega (arith, length-map ss entry_of) in
+    get_or-map entry_of ss k None d low
+    ∙ (shows.entries k ∙ get_or_default g.entries k None d (omega (arith, shows.made))))
 
 pub closed : (a : Inside) (g : GraphOf) → Opened a g → graph_of a ≡ g
 closed a g o =
@@ -89,7 +89,7 @@ closed_arena a g o =
     record {
       graph = subst IsGraph same o.graph;
       shows = subst (Shows a.vertices.items a.slots.items) same o.shows;
-      live = subst (λ h. a.live ≡ m_of h) same o.live
+      live = subst (λ h. a.live ≡ m_of h) same o.live;
     }
 
 -- the slot of a live arc shows the arc and its owner
@@ -103,9 +103,9 @@ shows_arc vs ss g k s shows sound is =
     let entry : arc_at g k ≡ Some (record { tip = s.tip; len = s.len; fields = s.fields }) = sym (shows.entries k) ∙ ap entry_of is in
     let live : has_arc g k ≡ true = ap is_some entry in
     let once : occurrences k (arcs_of g s.owner.0) ≡ 1 =
-        subst (λ o. IfSome (owner_in o) (λ v. occurrences k (arcs_of g v.0) ≡ 1)) is (shows.owners k) in
+    subst (λ o. IfSome (owner_in o) (λ v. occurrences k (arcs_of g v.0) ≡ 1)) is (shows.owners k) in
     let arc : IsArc (n_of g) g.entries (record { tip = s.tip; len = s.len; fields = s.fields }) =
-        subst (λ o. IfSome o (IsArc (n_of g) g.entries)) entry (sound.arcs k None (made_of_live g k live)) in
+    subst (λ o. IfSome o (IsArc (n_of g) g.entries)) entry (sound.arcs k None (made_of_live g k live)) in
     record { entry = entry; owner = owner_is g k s.owner.0 sound (omega arith); len = arc.len }
 
 -- a read of the slots
@@ -114,7 +114,7 @@ read_slot ss k o h is = sym (get_or_read ss k o h is None)
 
 -- what `arc` answers at a live arc
 pub view_of_slot : (a : Inside) (g : GraphOf) (k : ℕ) (s : Slot) (o : Option Slot) → graph_of a ≡ g → IsArena a → k < made_of g → o ≡ Some s → o ≡ get_or a.slots.items k o
-  → Some (record { owner = s.owner; tip = s.tip; len = to_z w64 (of_z w64 s.len) }) ≡ arc_view g k
+    → Some (record { owner = s.owner; tip = s.tip; len = to_z w64 (of_z w64 s.len) }) ≡ arc_view g k
 view_of_slot a g k s o same arena h is read =
     let x = opened a g same arena in
     let slot : slot_at a.slots.items k ≡ Some s = read_slot a.slots.items k o (omega (arith, x.shows.made)) read ∙ is in

@@ -34,14 +34,15 @@ gaining_but vs ss g u x =
     record {
       n = x.n;
       vertices = λ v d h.
-        let y = x.vertices v d h in
-        record {
-          label = y.label; fields = y.fields;
-          arcs = Leads-agree (next_at ss) (next_at (slots_gaining ss u)) (get_or vs v d).first (arcs_of g v) None (λ j _. gaining_unseen next_of more_blind_next ss u j) y.arcs
-        };
+          let y = x.vertices v d h in
+          record {
+            label = y.label;
+            fields = y.fields;
+            arcs = Leads-agree (next_at ss) (next_at (slots_gaining ss u)) (get_or vs v d).first (arcs_of g v) None (λ j _. gaining_unseen next_of more_blind_next ss u j) y.arcs;
+          };
       made = length-gaining ss u ∙ x.made;
       entries = λ k. gaining_unseen entry_of more_blind_entry ss u k ∙ x.entries k;
-      owners = λ k. subst (λ o. IfSome o (λ v. occurrences k (arcs_of g v.0) ≡ 1)) (sym (gaining_unseen owner_in more_blind_owner ss u k)) (x.owners k)
+      owners = λ k. subst (λ o. IfSome o (λ v. occurrences k (arcs_of g v.0) ≡ 1)) (sym (gaining_unseen owner_in more_blind_owner ss u k)) (x.owners k);
     }
 
 pub losing_but : (vs : List Vertex) (ss : Slots) (g : GraphOf) (u : Util) → ShowsBut vs ss g → ShowsBut vs (slots_losing ss u) g
@@ -49,14 +50,15 @@ losing_but vs ss g u x =
     record {
       n = x.n;
       vertices = λ v d h.
-        let y = x.vertices v d h in
-        record {
-          label = y.label; fields = y.fields;
-          arcs = Leads-agree (next_at ss) (next_at (slots_losing ss u)) (get_or vs v d).first (arcs_of g v) None (λ j _. losing_unseen next_of less_blind_next ss u j) y.arcs
-        };
+          let y = x.vertices v d h in
+          record {
+            label = y.label;
+            fields = y.fields;
+            arcs = Leads-agree (next_at ss) (next_at (slots_losing ss u)) (get_or vs v d).first (arcs_of g v) None (λ j _. losing_unseen next_of less_blind_next ss u j) y.arcs;
+          };
       made = length-losing ss u ∙ x.made;
       entries = λ k. losing_unseen entry_of less_blind_entry ss u k ∙ x.entries k;
-      owners = λ k. subst (λ o. IfSome o (λ v. occurrences k (arcs_of g v.0) ≡ 1)) (sym (losing_unseen owner_in less_blind_owner ss u k)) (x.owners k)
+      owners = λ k. subst (λ o. IfSome o (λ v. occurrences k (arcs_of g v.0) ≡ 1)) (sym (losing_unseen owner_in less_blind_owner ss u k)) (x.owners k);
     }
 
 -- where a number stands in a list: first, or behind another
@@ -82,7 +84,7 @@ before_cases ks (suc i) before is h =
       place_is = refl;
       before_is = is ∙ ap (option_map arc_no) (get_within ks i (omega arith));
       at = refl;
-      within = omega arith
+      within = omega arith;
     })
 
 pub next_of_live : (link : Option ArcNo) (o : Option Slot) → is_some (entry_of o) ≡ true → next_of (with_next link o) ≡ link
@@ -116,16 +118,16 @@ module _ (vs : List Vertex) (ts : Slots) (g : GraphOf) (c : CutArc) (x : ShowsBu
 
   once : (v j : ℕ) → occurrences j (arcs_of g v) ≤ 1
   once v j = elim (cases_lt 0 (occurrences j (arcs_of g v))) [
-      inl o ↦ omega (arith, (listed_live g j v sound o).once)
+    | inl o ↦ omega (arith, (listed_live g j v sound o).once)
     | inr o ↦ omega arith
-    ]
+  ]
 
   -- the arc stands first in its owner's list
   front_next : (link : Option ArcNo) (j : ℕ) → j ≢ c.number.0 → next_at (put_slots ts c None link) j ≡ next_at ts j
   front_next link j ne = ap next_of (slot_other ts c.number.0 j (Some (put_slot c link)) ne)
 
   front_owner : (d : Vertex) → c.place ≡ 0
-    → ShowsVertex (put_slots ts c None (link_after vs ts c.owner.0 None)) (get_or (vertices_relinked vs c.owner.0 None (Some c.number)) c.owner.0 d) (owner_with g c)
+      → ShowsVertex (put_slots ts c None (link_after vs ts c.owner.0 None)) (get_or (vertices_relinked vs c.owner.0 None (Some c.number)) c.owner.0 d) (owner_with g c)
   front_owner d first =
       let y = x.vertices c.owner.0 any_vertex can.owner in
       let link = (vertex_in vs c.owner.0).first in
@@ -136,12 +138,12 @@ module _ (vs : List Vertex) (ts : Slots) (g : GraphOf) (c : CutArc) (x : ShowsBu
         label = y.label;
         fields = y.fields;
         arcs = subst (λ n. Leads (next_at qs) (Some c.number) (insert (arcs_of g c.owner.0) n c.number.0) None) (sym first)
-          (Leads-first (next_at ts) (next_at qs) link (arcs_of g c.owner.0) c.number.0 (ap next_of (put_same None link))
-            (λ j o. front_next link j (not_fresh c.owner.0 j o)) y.arcs)
+            (Leads-first (next_at ts) (next_at qs) link (arcs_of g c.owner.0) c.number.0 (ap next_of (put_same None link))
+            (λ j o. front_next link j (not_fresh c.owner.0 j o)) y.arcs);
       })
 
   front_others : (v : ℕ) (d : Vertex) → v < n_of g → v ≢ c.owner.0
-    → ShowsVertex (put_slots ts c None (link_after vs ts c.owner.0 None)) (get_or (vertices_relinked vs c.owner.0 None (Some c.number)) v d) (vertex_at g v)
+      → ShowsVertex (put_slots ts c None (link_after vs ts c.owner.0 None)) (get_or (vertices_relinked vs c.owner.0 None (Some c.number)) v d) (vertex_at g v)
   front_others v d h ne =
       let y = x.vertices v d h in
       let link = (vertex_in vs c.owner.0).first in
@@ -151,7 +153,7 @@ module _ (vs : List Vertex) (ts : Slots) (g : GraphOf) (c : CutArc) (x : ShowsBu
       (record {
         label = y.label;
         fields = y.fields;
-        arcs = Leads-agree (next_at ts) (next_at qs) (get_or vs v d).first (arcs_of g v) None (λ j o. front_next link j (not_fresh v j o)) y.arcs
+        arcs = Leads-agree (next_at ts) (next_at qs) (get_or vs v d).first (arcs_of g v) None (λ j o. front_next link j (not_fresh v j o)) y.arcs;
       })
 
   -- the arc stands behind another
@@ -169,7 +171,7 @@ module _ (vs : List Vertex) (ts : Slots) (g : GraphOf) (c : CutArc) (x : ShowsBu
       ∙ next_of_live (Some c.number) (slot_at ts p) live)
 
   behind_owner : (d : Vertex) (i p : ℕ) → c.place ≡ suc i → get_or (arcs_of g c.owner.0) i 0 ≡ p → i < length (arcs_of g c.owner.0)
-    → ShowsVertex (put_slots ts c (Some (arc_no p)) (next_at ts p)) (get_or vs c.owner.0 d) (owner_with g c)
+      → ShowsVertex (put_slots ts c (Some (arc_no p)) (next_at ts p)) (get_or vs c.owner.0 d) (owner_with g c)
   behind_owner d i p place at within =
       let y = x.vertices c.owner.0 d can.owner in
       let qs = put_slots ts c (Some (arc_no p)) (next_at ts p) in
@@ -178,12 +180,12 @@ module _ (vs : List Vertex) (ts : Slots) (g : GraphOf) (c : CutArc) (x : ShowsBu
         label = y.label;
         fields = y.fields;
         arcs = subst (λ n. Leads (next_at qs) (get_or vs c.owner.0 d).first (insert (arcs_of g c.owner.0) n c.number.0) None) (sym place)
-          (Leads-behind (next_at ts) (next_at qs) (get_or vs c.owner.0 d).first (arcs_of g c.owner.0) i c.number.0 p within at (once c.owner.0) (fresh c.owner.0)
-            (behind_link p (next_at ts p) o) (ap next_of (put_same (Some (arc_no p)) (next_at ts p))) (behind_next p (next_at ts p)) y.arcs)
+            (Leads-behind (next_at ts) (next_at qs) (get_or vs c.owner.0 d).first (arcs_of g c.owner.0) i c.number.0 p within at (once c.owner.0) (fresh c.owner.0)
+            (behind_link p (next_at ts p) o) (ap next_of (put_same (Some (arc_no p)) (next_at ts p))) (behind_next p (next_at ts p)) y.arcs);
       }
 
   behind_others : (v : ℕ) (d : Vertex) (i p : ℕ) → v < n_of g → v ≢ c.owner.0 → get_or (arcs_of g c.owner.0) i 0 ≡ p → i < length (arcs_of g c.owner.0)
-    → ShowsVertex (put_slots ts c (Some (arc_no p)) (next_at ts p)) (get_or vs v d) (vertex_at g v)
+      → ShowsVertex (put_slots ts c (Some (arc_no p)) (next_at ts p)) (get_or vs v d) (vertex_at g v)
   behind_others v d i p h ne at within =
       let y = x.vertices v d h in
       let qs = put_slots ts c (Some (arc_no p)) (next_at ts p) in
@@ -192,55 +194,55 @@ module _ (vs : List Vertex) (ts : Slots) (g : GraphOf) (c : CutArc) (x : ShowsBu
         label = y.label;
         fields = y.fields;
         arcs = Leads-agree (next_at ts) (next_at qs) (get_or vs v d).first (arcs_of g v) None
-          (λ j here. behind_next p (next_at ts p) j (not_fresh v j here)
+            (λ j here. behind_next p (next_at ts p) j (not_fresh v j here)
             (λ e. ne (one_owner g p v c.owner.0 sound (subst (λ q. 0 < occurrences q (arcs_of g v)) e here) o)))
-          y.arcs
+            y.arcs;
       }
 
   -- both
   pub put_vertices_shown : (before : Option ArcNo) (v : ℕ) (d : Vertex) → before ≡ number_before (arcs_of g c.owner.0) c.place → v < n_of (with_cut_arc g c)
-    → ShowsVertex (put_slots ts c before (link_after vs ts c.owner.0 before)) (get_or (vertices_relinked vs c.owner.0 before (Some c.number)) v d) (vertex_at (with_cut_arc g c) v)
+      → ShowsVertex (put_slots ts c before (link_after vs ts c.owner.0 before)) (get_or (vertices_relinked vs c.owner.0 before (Some c.number)) v d) (vertex_at (with_cut_arc g c) v)
   put_vertices_shown before v d is h =
       let low : v < n_of g = omega (arith, h, put_n g c) in
       let P : Option ArcNo → ℕ → VertexOf → Type 0 =
-          λ b w z. ShowsVertex (put_slots ts c b (link_after vs ts c.owner.0 b)) (get_or (vertices_relinked vs c.owner.0 b (Some c.number)) w d) z in
+      λ b w z. ShowsVertex (put_slots ts c b (link_after vs ts c.owner.0 b)) (get_or (vertices_relinked vs c.owner.0 b (Some c.number)) w d) z in
       elim (cases_eq v c.owner.0) [
-        inl same ↦
-          let here : vertex_at (with_cut_arc g c) v ≡ owner_with g c = ap (vertex_at (with_cut_arc g c)) same ∙ put_vertex_same g c can in
-          let at_owner : P before c.owner.0 (owner_with g c) =
+        | inl same ↦
+            let here : vertex_at (with_cut_arc g c) v ≡ owner_with g c = ap (vertex_at (with_cut_arc g c)) same ∙ put_vertex_same g c can in
+            let at_owner : P before c.owner.0 (owner_with g c) =
             elim (before_cases (arcs_of g c.owner.0) c.place before is can.place) [
-              inl f ↦ subst (λ b. P b c.owner.0 (owner_with g c)) (sym f.0) (front_owner d f.1)
-            | inr b ↦ subst (λ q. P q c.owner.0 (owner_with g c)) (sym b.before_is) (behind_owner d b.i b.p b.place_is b.at b.within)
+              | inl f ↦ subst (λ b. P b c.owner.0 (owner_with g c)) (sym f.0) (front_owner d f.1)
+              | inr b ↦ subst (λ q. P q c.owner.0 (owner_with g c)) (sym b.before_is) (behind_owner d b.i b.p b.place_is b.at b.within)
             ] in
-          subst (P before v) (sym here) (subst (λ w. P before w (owner_with g c)) (sym same) at_owner)
-      | inr ne ↦
-          subst (P before v) (sym (put_vertex_other g c v ne))
-          (elim (before_cases (arcs_of g c.owner.0) c.place before is can.place) [
-            inl f ↦ subst (λ b. P b v (vertex_at g v)) (sym f.0) (front_others v d low ne)
-          | inr b ↦ subst (λ q. P q v (vertex_at g v)) (sym b.before_is) (behind_others v d b.i b.p low ne b.at b.within)
-          ])
+            subst (P before v) (sym here) (subst (λ w. P before w (owner_with g c)) (sym same) at_owner)
+        | inr ne ↦
+            subst (P before v) (sym (put_vertex_other g c v ne))
+            (elim (before_cases (arcs_of g c.owner.0) c.place before is can.place) [
+              | inl f ↦ subst (λ b. P b v (vertex_at g v)) (sym f.0) (front_others v d low ne)
+              | inr b ↦ subst (λ q. P q v (vertex_at g v)) (sym b.before_is) (behind_others v d b.i b.p low ne b.at b.within)
+            ])
       ]
 
   pub put_entries_shown : (before link : Option ArcNo) (k : ℕ) → entry_of (slot_at (put_slots ts c before link) k) ≡ arc_at (with_cut_arc g c) k
   put_entries_shown before link k =
       elim (cases_eq k c.number.0) [
-        inl same ↦
-          ap (λ i. entry_of (slot_at (put_slots ts c before link) i)) same
-          ∙ (ap entry_of (put_same before link) ∙ (sym (put_entry_same g c can) ∙ ap (arc_at (with_cut_arc g c)) (sym same)))
-      | inr ne ↦ put_other entry_of next_blind_entry before link k ne ∙ (x.entries k ∙ sym (put_entry_other g c k ne))
+        | inl same ↦
+            ap (λ i. entry_of (slot_at (put_slots ts c before link) i)) same
+            ∙ (ap entry_of (put_same before link) ∙ (sym (put_entry_same g c can) ∙ ap (arc_at (with_cut_arc g c)) (sym same)))
+        | inr ne ↦ put_other entry_of next_blind_entry before link k ne ∙ (x.entries k ∙ sym (put_entry_other g c k ne))
       ]
 
   -- how often a number stands in the lists then
   put_occurs : (k v : ℕ) → k ≢ c.number.0 → occurrences k (arcs_of (with_cut_arc g c) v) ≡ occurrences k (arcs_of g v)
   put_occurs k v ne =
       elim (cases_eq v c.owner.0) [
-        inl same ↦
-          ap (λ w. occurrences k (arcs_of (with_cut_arc g c) w)) same
-          ∙ (ap (λ z. occurrences k z.arcs) (put_vertex_same g c can)
-          ∙ (put_occurrences g c k
-          ∙ (ap (λ b. occurrences k (arcs_of g c.owner.0) + cond b 1 0) (ne_eqb c.number.0 k (λ e. ne (sym e)))
-          ∙ (omega arith ∙ ap (λ w. occurrences k (arcs_of g w)) (sym same)))))
-      | inr other ↦ ap (λ z. occurrences k z.arcs) (put_vertex_other g c v other)
+        | inl same ↦
+            ap (λ w. occurrences k (arcs_of (with_cut_arc g c) w)) same
+            ∙ (ap (λ z. occurrences k z.arcs) (put_vertex_same g c can)
+            ∙ (put_occurrences g c k
+            ∙ (ap (λ b. occurrences k (arcs_of g c.owner.0) + cond b 1 0) (ne_eqb c.number.0 k (λ e. ne (sym e)))
+            ∙ (omega arith ∙ ap (λ w. occurrences k (arcs_of g w)) (sym same)))))
+        | inr other ↦ ap (λ z. occurrences k z.arcs) (put_vertex_other g c v other)
       ]
 
   put_occurs_new : occurrences c.number.0 (arcs_of (with_cut_arc g c) c.owner.0) ≡ 1
@@ -258,11 +260,11 @@ module _ (vs : List Vertex) (ts : Slots) (g : GraphOf) (c : CutArc) (x : ShowsBu
   put_owners_shown before link k =
       let P : ℕ → Option VertexNo → Type 0 = λ i o. IfSome o (λ v. occurrences i (arcs_of (with_cut_arc g c) v.0) ≡ 1) in
       elim (cases_eq k c.number.0) [
-        inl same ↦
-          subst (λ i. P i (owner_in (slot_at (put_slots ts c before link) i))) (sym same)
-          (subst (λ o. P c.number.0 (owner_in o)) (sym (put_same before link)) put_occurs_new)
-      | inr ne ↦
-          subst (P k) (sym (put_other owner_in next_blind_owner before link k ne)) (owned k (owner_in (slot_at ts k)) ne (x.owners k))
+        | inl same ↦
+            subst (λ i. P i (owner_in (slot_at (put_slots ts c before link) i))) (sym same)
+            (subst (λ o. P c.number.0 (owner_in o)) (sym (put_same before link)) put_occurs_new)
+        | inr ne ↦
+            subst (P k) (sym (put_other owner_in next_blind_owner before link k ne)) (owned k (owner_in (slot_at ts k)) ne (x.owners k))
       ]
 
 -- counts of names after the arc's fields gained theirs
@@ -278,7 +280,7 @@ length-vertices_relinked vs v (Some p) link = refl
 
 -- the fields show the graph with the arc
 pub put_shows : (vs : List Vertex) (ss : Slots) (g : GraphOf) (c : CutArc) (before : Option ArcNo) → Shows vs ss g → IsGraph g → CanPutBack g c → before ≡ number_before (arcs_of g c.owner.0) c.place
-  → Shows (vertices_relinked vs c.owner.0 before (Some c.number)) (put_slots (slots_gaining_both ss c.fields) c before (link_after vs (slots_gaining_both ss c.fields) c.owner.0 before)) (with_cut_arc g c)
+    → Shows (vertices_relinked vs c.owner.0 before (Some c.number)) (put_slots (slots_gaining_both ss c.fields) c before (link_after vs (slots_gaining_both ss c.fields) c.owner.0 before)) (with_cut_arc g c)
 put_shows vs ss g c before shows sound can is =
     let us = c.fields in
     let ts = slots_gaining_both ss us in
@@ -293,13 +295,13 @@ put_shows vs ss g c before shows sound can is =
       entries = put_entries_shown vs ts g c x sound can before link;
       owners = put_owners_shown vs ts g c x sound can before link;
       names = λ k. elim (cases_eq k c.number.0) [
-        inl same ↦
-          subst (λ i. IfSome (names_counted (slot_at qs i)) (λ m. m ≡ names_of (with_cut_arc g c) i)) (sym same)
-          (subst (λ o. IfSome (names_counted o) (λ m. m ≡ names_of (with_cut_arc g c) c.number.0)) (sym (put_same vs ts g c x sound can before link)) (sym none))
-      | inr ne ↦
-          subst (λ o. IfSome o (λ m. m ≡ names_of (with_cut_arc g c) k)) (sym (put_other vs ts g c x sound can names_counted next_blind_names before link k ne))
-          (subst (λ z. IfSome (names_counted (slot_at ts k)) (λ m. m ≡ z)) (sym (put_names g c k can)) (gained ss us k (names_of g k) can.arc.two (shows.names k)))
-      ]
+        | inl same ↦
+            subst (λ i. IfSome (names_counted (slot_at qs i)) (λ m. m ≡ names_of (with_cut_arc g c) i)) (sym same)
+            (subst (λ o. IfSome (names_counted o) (λ m. m ≡ names_of (with_cut_arc g c) c.number.0)) (sym (put_same vs ts g c x sound can before link)) (sym none))
+        | inr ne ↦
+            subst (λ o. IfSome o (λ m. m ≡ names_of (with_cut_arc g c) k)) (sym (put_other vs ts g c x sound can names_counted next_blind_names before link k ne))
+            (subst (λ z. IfSome (names_counted (slot_at ts k)) (λ m. m ≡ z)) (sym (put_names g c k can)) (gained ss us k (names_of g k) can.arc.two (shows.names k)))
+      ];
     }
 
 -- the counts have room
@@ -317,9 +319,9 @@ counted_room ss g (utils.Text t) f high made v known below = tt
 
 pub one_at_most : (k : ℕ) (u : Util) → one_name k u ≤ 1
 one_at_most k u = elim (cases_Bool (is_name k u)) [
-    inl e ↦ rw e (omega arith)
+  | inl e ↦ rw e (omega arith)
   | inr e ↦ rw e (omega arith)
-  ]
+]
 
 pub first_room : (vs : List Vertex) (ss : Slots) (g : GraphOf) (u : Util) → Shows vs ss g → IsGraph g → IsValue (n_of g) g.entries u → IsCounted ss 0 (2 ^ 32 - 1) u
 first_room vs ss g u shows sound v =
@@ -335,16 +337,16 @@ second_room vs ss g a u shows sound v =
 pub before_within : (g : GraphOf) (v place : ℕ) (before : Option ArcNo) → IsGraph g → before ≡ number_before (arcs_of g v) place → place ≤ length (arcs_of g v) → (p : ArcNo) → before ≡ Some p → p.0 < made_of g
 before_within g v place before sound is h p e =
     elim (before_cases (arcs_of g v) place before is h) [
-      inl f ↦ absurd (let none = f.0 in cc)
-    | inr b ↦
-        let same : b.p ≡ p.0 = let here = b.before_is in cc in
-        let o : 0 < occurrences b.p (arcs_of g v) = subst (λ j. 0 < occurrences j (arcs_of g v)) b.at (occurs_at (arcs_of g v) b.i 0 b.within) in
-        omega (arith, same, (listed_live g b.p v sound o).made)
+      | inl f ↦ absurd (let none = f.0 in cc)
+      | inr b ↦
+          let same : b.p ≡ p.0 = let here = b.before_is in cc in
+          let o : 0 < occurrences b.p (arcs_of g v) = subst (λ j. 0 < occurrences j (arcs_of g v)) b.at (occurs_at (arcs_of g v) b.i 0 b.within) in
+          omega (arith, same, (listed_live g b.p v sound o).made)
     ]
 
 -- the owner's links, once the names are counted
 pub put_linked : (vs : List Vertex) (ss ts : Slots) (g : GraphOf) (c : CutArc) (d : Vertex) → Shows vs ss g → IsGraph g → CanPutBack g c → ts ≡ slots_gaining_both ss c.fields
-  → IsLinked ts (get_or vs c.owner.0 d).first × (numbers ts (get_or vs c.owner.0 d).first ≡ arcs_of g c.owner.0)
+    → IsLinked ts (get_or vs c.owner.0 d).first × (numbers ts (get_or vs c.owner.0 d).first ≡ arcs_of g c.owner.0)
 put_linked vs ss ts g c d shows sound can is =
     let us = slots_gaining_both ss c.fields in
     let x : ShowsBut vs us g = gaining_but vs (slots_gaining ss (value_at c.fields 0)) g (value_at c.fields 1) (gaining_but vs ss g (value_at c.fields 0) (but_of vs ss g shows)) in
@@ -353,9 +355,9 @@ put_linked vs ss ts g c d shows sound can is =
 
 -- what the steps of `put_back` leave
 pub put_back_done : (vs ws : List Vertex) (ss ts rs : Slots) (g : GraphOf) (c : CutArc) (d : Vertex) (before link : Option ArcNo) → Shows vs ss g → IsGraph g → CanPutBack g c
-  → ts ≡ slots_gaining_both ss c.fields → before ≡ number_before (numbers ts (get_or vs c.owner.0 d).first) c.place → link ≡ link_after vs ts c.owner.0 before
-  → ws ≡ vertices_relinked vs c.owner.0 before (Some c.number) → rs ≡ slots_relinked ts before (Some c.number)
-  → Shows ws (set rs c.number.0 (Some (record { owner = c.owner; tip = c.tip; next = link; names = 0; len = to_z w64 (of_z w64 c.len); fields = c.fields }))) (with_cut_arc g c)
+    → ts ≡ slots_gaining_both ss c.fields → before ≡ number_before (numbers ts (get_or vs c.owner.0 d).first) c.place → link ≡ link_after vs ts c.owner.0 before
+    → ws ≡ vertices_relinked vs c.owner.0 before (Some c.number) → rs ≡ slots_relinked ts before (Some c.number)
+    → Shows ws (set rs c.number.0 (Some (record { owner = c.owner; tip = c.tip; next = link; names = 0; len = to_z w64 (of_z w64 c.len); fields = c.fields }))) (with_cut_arc g c)
 put_back_done vs ws ss ts rs g c d before link shows sound can ts_is before_is link_is ws_is rs_is =
     let us = slots_gaining_both ss c.fields in
     let is : before ≡ number_before (arcs_of g c.owner.0) c.place = before_is ∙ ap (λ ks. number_before ks c.place) (put_linked vs ss ts g c d shows sound can ts_is).1 in

@@ -21,11 +21,11 @@ slot_other ss k j o ne = get_or-set_other ss k j o None ne
 pub slot_unseen : {Y : Type 0} (f : Option Slot → Y) (ss : Slots) (k j : ℕ) (o : Option Slot) → f o ≡ f (slot_at ss k) → f (slot_at (set ss k o) j) ≡ f (slot_at ss j)
 slot_unseen f ss k j o same =
     elim (cases_lt k (length ss)) [
-      inl h ↦ elim (cases_eq j k) [
-          inl e ↦ ap (λ i. f (slot_at (set ss k o) i)) e ∙ (ap f (slot_same ss k o h) ∙ (same ∙ ap (λ i. f (slot_at ss i)) (sym e)))
+      | inl h ↦ elim (cases_eq j k) [
+        | inl e ↦ ap (λ i. f (slot_at (set ss k o) i)) e ∙ (ap f (slot_same ss k o h) ∙ (same ∙ ap (λ i. f (slot_at ss i)) (sym e)))
         | inr ne ↦ ap f (slot_other ss k j o ne)
-        ]
-    | inr h ↦ ap (λ l. f (slot_at l j)) (set_past ss k o h)
+      ]
+      | inr h ↦ ap (λ l. f (slot_at l j)) (set_past ss k o h)
     ]
 
 -- a link replaced is seen by nothing but the link
@@ -126,21 +126,21 @@ counted_more ss (Vertex v) k n known = known_same _ n (n + 0) (omega arith) know
 counted_more ss (Text t) k n known = known_same _ n (n + 0) (omega arith) known
 counted_more ss (Arc a) k n known =
     elim (cases_eq a.0 k) [
-      inl same ↦ elim (cases_lt a.0 (length ss)) [
-          inl h ↦
+      | inl same ↦ elim (cases_lt a.0 (length ss)) [
+        | inl h ↦
             let at : slot_at (slots_gaining ss (Arc a)) k ≡ named_more (slot_at ss k) =
-                ap (slot_at (slots_gaining ss (Arc a))) (sym same) ∙ (slot_same ss a.0 (named_more (slot_at ss a.0)) h ∙ ap (λ i. named_more (slot_at ss i)) same) in
+            ap (slot_at (slots_gaining ss (Arc a))) (sym same) ∙ (slot_same ss a.0 (named_more (slot_at ss a.0)) h ∙ ap (λ i. named_more (slot_at ss i)) same) in
             subst (λ o. IfSome (names_counted o) (λ m. m ≡ n + one_name k (Arc a))) (sym at)
             (known_same _ (n + 1) (n + one_name k (Arc a)) (ap (λ b. n + cond b 1 0) (sym (eq-eqb a.0 k same))) (more_known (slot_at ss k) n known))
         | inr h ↦
             let at : slot_at (slots_gaining ss (Arc a)) k ≡ None =
-                ap (λ l. slot_at l k) (set_past ss a.0 (named_more (slot_at ss a.0)) h) ∙ get_or_past ss k None (omega arith) in
+            ap (λ l. slot_at l k) (set_past ss a.0 (named_more (slot_at ss a.0)) h) ∙ get_or_past ss k None (omega arith) in
             subst (λ o. IfSome (names_counted o) (λ m. m ≡ n + one_name k (Arc a))) (sym at) tt
-        ]
-    | inr other ↦
-        let ne : k ≢ a.0 = λ e. other (sym e) in
-        subst (λ o. IfSome (names_counted o) (λ m. m ≡ n + one_name k (Arc a))) (sym (slot_other ss a.0 k (named_more (slot_at ss a.0)) ne))
-        (known_same _ n (n + one_name k (Arc a)) (sym (ap (λ b. n + cond b 1 0) (ne_eqb a.0 k other) ∙ omega arith)) known)
+      ]
+      | inr other ↦
+          let ne : k ≢ a.0 = λ e. other (sym e) in
+          subst (λ o. IfSome (names_counted o) (λ m. m ≡ n + one_name k (Arc a))) (sym (slot_other ss a.0 k (named_more (slot_at ss a.0)) ne))
+          (known_same _ n (n + one_name k (Arc a)) (sym (ap (λ b. n + cond b 1 0) (ne_eqb a.0 k other) ∙ omega arith)) known)
     ]
 
 -- and shrinks likewise
@@ -151,19 +151,19 @@ counted_less ss (Vertex v) k n known = known_same _ (n + 0) n (omega arith) know
 counted_less ss (Text t) k n known = known_same _ (n + 0) n (omega arith) known
 counted_less ss (Arc a) k n known =
     elim (cases_eq a.0 k) [
-      inl same ↦ elim (cases_lt a.0 (length ss)) [
-          inl h ↦
+      | inl same ↦ elim (cases_lt a.0 (length ss)) [
+        | inl h ↦
             let at : slot_at (slots_losing ss (Arc a)) k ≡ named_less (slot_at ss k) =
-                ap (slot_at (slots_losing ss (Arc a))) (sym same) ∙ (slot_same ss a.0 (named_less (slot_at ss a.0)) h ∙ ap (λ i. named_less (slot_at ss i)) same) in
+            ap (slot_at (slots_losing ss (Arc a))) (sym same) ∙ (slot_same ss a.0 (named_less (slot_at ss a.0)) h ∙ ap (λ i. named_less (slot_at ss i)) same) in
             subst (λ o. IfSome (names_counted o) (λ m. m ≡ n)) (sym at)
             (less_known (slot_at ss k) n (known_same _ (n + one_name k (Arc a)) (n + 1) (ap (λ b. n + cond b 1 0) (eq-eqb a.0 k same)) known))
         | inr h ↦
             let at : slot_at (slots_losing ss (Arc a)) k ≡ None =
-                ap (λ l. slot_at l k) (set_past ss a.0 (named_less (slot_at ss a.0)) h) ∙ get_or_past ss k None (omega arith) in
+            ap (λ l. slot_at l k) (set_past ss a.0 (named_less (slot_at ss a.0)) h) ∙ get_or_past ss k None (omega arith) in
             subst (λ o. IfSome (names_counted o) (λ m. m ≡ n)) (sym at) tt
-        ]
-    | inr other ↦
-        let ne : k ≢ a.0 = λ e. other (sym e) in
-        subst (λ o. IfSome (names_counted o) (λ m. m ≡ n)) (sym (slot_other ss a.0 k (named_less (slot_at ss a.0)) ne))
-        (known_same _ (n + one_name k (Arc a)) n (ap (λ b. n + cond b 1 0) (ne_eqb a.0 k other) ∙ omega arith) known)
+      ]
+      | inr other ↦
+          let ne : k ≢ a.0 = λ e. other (sym e) in
+          subst (λ o. IfSome (names_counted o) (λ m. m ≡ n)) (sym (slot_other ss a.0 k (named_less (slot_at ss a.0)) ne))
+          (known_same _ (n + one_name k (Arc a)) n (ap (λ b. n + cond b 1 0) (ne_eqb a.0 k other) ∙ omega arith) known)
     ]

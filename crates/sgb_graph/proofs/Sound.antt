@@ -48,7 +48,7 @@ IsArc-keeps n m es fs e k x =
       tip = IsTip-keeps n m e.tip k.vertices x.tip;
       len = x.len;
       two = x.two;
-      values = λ i d h. IsValue-keeps n m es fs (get_or e.fields i d) k (x.values i d h)
+      values = λ i d h. IsValue-keeps n m es fs (get_or e.fields i d) k (x.values i d h);
     }
 
 pub IsEntry-keeps : (n m : ℕ) (es fs : Entries) (o : Option ArcOf) → Keeps n es m fs → IfSome o (IsArc n es) → IfSome o (IsArc m fs)
@@ -60,8 +60,8 @@ pub All-set : {X : Type 0} (P : X → Type 0) (xs : List X) (i : ℕ) (y : X) �
 All-set {X} P xs i y all new j d h =
     let size : length (set xs i y) ≡ length xs = length-set xs i y in
     elim (cases_eq j i) [
-      inl same ↦ subst P (sym (ap (λ k. get_or (set xs i y) k d) same ∙ get_or-set_same xs i y d (omega arith))) new
-    | inr ne ↦ subst P (sym (get_or-set_other xs i j y d ne)) (all j d (omega arith))
+      | inl same ↦ subst P (sym (ap (λ k. get_or (set xs i y) k d) same ∙ get_or-set_same xs i y d (omega arith))) new
+      | inr ne ↦ subst P (sym (get_or-set_other xs i j y d ne)) (all j d (omega arith))
     ]
 
 -- at an entry that is set
@@ -85,8 +85,8 @@ value_unnamed n es k (Int z) hole v = refl
 value_unnamed n es k (Vertex w) hole v = refl
 value_unnamed n es k (Arc a) hole v =
     elim (cases_Bool (a.0 == k)) [
-      inl e ↦ absurd (let is : get_or es a.0 None ≡ None = ap (λ i. get_or es i None) (eqb-true a.0 k e) ∙ hole in let live : is_some (get_or es a.0 None) ≡ true = v in let none : is_some (get_or es a.0 None) ≡ false = ap is_some is in cc)
-    | inr e ↦ e
+      | inl e ↦ absurd (let is : get_or es a.0 None ≡ None = ap (λ i. get_or es i None) (eqb-true a.0 k e) ∙ hole in let live : is_some (get_or es a.0 None) ≡ true = v in let none : is_some (get_or es a.0 None) ≡ false = ap is_some is in cc)
+      | inr e ↦ e
     ]
 value_unnamed n es k (Text t) hole v = refl
 
@@ -114,7 +114,7 @@ pub few_names : (g : GraphOf) (k : ℕ) → IsGraph g → names_of g k ≤ 23932
 few_names g k sound =
     let own = count_by-le-length (is_name k) g.fields in
     let vertices : sum_by (λ v. names_in k v.fields) g.vertices ≤ length g.vertices * 6 =
-        sum_by-le (λ v. names_in k v.fields) 6 g.vertices (λ i d h. omega (arith, count_by-le-length (is_name k) (get_or g.vertices i d).fields, (sound.vertices i d h).six)) in
+    sum_by-le (λ v. names_in k v.fields) 6 g.vertices (λ i d h. omega (arith, count_by-le-length (is_name k) (get_or g.vertices i d).fields, (sound.vertices i d h).six)) in
     let arcs : sum_by (names_in_entry k) g.entries ≤ length g.entries * 2 =
-        sum_by-le (names_in_entry k) 2 g.entries (λ i d h. few_in_entry (n_of g) g.entries k (get_or g.entries i d) (sound.arcs i d h)) in
+    sum_by-le (names_in_entry k) 2 g.entries (λ i d h. few_in_entry (n_of g) g.entries k (get_or g.entries i d) (sound.arcs i d h)) in
     omega (arith, sound.six, sound.few_vertices, sound.few_arcs)

@@ -29,13 +29,13 @@ pub found_in : (k : ℕ) (ks : List ℕ) → 0 < occurrences k ks → FoundIn k 
 found_in k [] h = absurd (omega arith)
 found_in k (j ∷ ks) h =
     elim (cases_Bool (j == k)) [
-      inl e ↦
-        let here : position_or_len (λ i. i == k) (j ∷ ks) ≡ 0 = ap (λ b. cond (not b) (1 + position_or_len (λ i. i == k) ks) 0) e in
-        record { within = omega (arith, here); at = ap (λ n. get_or (j ∷ ks) n 0) here ∙ eqb-true j k e }
-    | inr e ↦
-        let there : position_or_len (λ i. i == k) (j ∷ ks) ≡ 1 + position_or_len (λ i. i == k) ks = ap (λ b. cond (not b) (1 + position_or_len (λ i. i == k) ks) 0) e in
-        let rest = found_in k ks (omega (arith, occurs_no k j ks (eqb-false j k e))) in
-        record { within = omega (arith, there, rest.within); at = at_next k j ks (position_or_len (λ i. i == k) (j ∷ ks)) (position_or_len (λ i. i == k) ks) there rest.at }
+      | inl e ↦
+          let here : position_or_len (λ i. i == k) (j ∷ ks) ≡ 0 = ap (λ b. cond (not b) (1 + position_or_len (λ i. i == k) ks) 0) e in
+          record { within = omega (arith, here); at = ap (λ n. get_or (j ∷ ks) n 0) here ∙ eqb-true j k e }
+      | inr e ↦
+          let there : position_or_len (λ i. i == k) (j ∷ ks) ≡ 1 + position_or_len (λ i. i == k) ks = ap (λ b. cond (not b) (1 + position_or_len (λ i. i == k) ks) 0) e in
+          let rest = found_in k ks (omega (arith, occurs_no k j ks (eqb-false j k e))) in
+          record { within = omega (arith, there, rest.within); at = at_next k j ks (position_or_len (λ i. i == k) (j ∷ ks)) (position_or_len (λ i. i == k) ks) there rest.at }
     ]
 
 -- a live arc has its owner and its place there
@@ -63,7 +63,7 @@ found g k v sound h =
       within = f.within;
       at = f.at;
       once = subst (λ w. occurrences k (arcs_of g w) ≡ 1) is it.once;
-      entry = some_entry (arc_at g k) it.live
+      entry = some_entry (arc_at g k) it.live;
     }
 
 -- a live arc is found
@@ -155,36 +155,36 @@ take_sound g k sound can f =
     let es : sum_by (names_in_entry k) g.entries ≡ 0 = omega (arith, can.unnamed) in
     let same_n : n_of g ≡ n_of h = sym (take_n g k) in
     let vertex : (v : VertexOf) → names_in k v.fields ≡ 0 → IsVertex n g.entries v → IsVertex (n_of h) h.entries v = λ v none x.
-      subst (λ m. IsVertex m h.entries v) same_n (record { label = x.label; six = x.six; values = values_without n g.entries k v.fields none x.values }) in
+    subst (λ m. IsVertex m h.entries v) same_n (record { label = x.label; six = x.six; values = values_without n g.entries k v.fields none x.values }) in
     record {
       listed = λ j. elim (cases_eq j k) [
-        inl same ↦
-          let was : listings j g.vertices ≡ 1 = sound.listed j ∙ ap (λ b. cond b 1 0) (ap (λ i. has_arc g i) same ∙ can.live) in
-          let one : listings j h.vertices + cond (k == j) 1 0 ≡ listings j g.vertices = take_listings g k j f in
-          let hit : (let m : ℕ = cond (k == j) 1 0 in m) ≡ 1 = ap (λ b. cond b 1 0) (eq-eqb k j (sym same)) in
-          let now : has_arc h j ≡ false = ap (λ i. is_some (arc_at h i)) same ∙ ap is_some (take_entry_same g k f) in
-          let none : listings j h.vertices ≡ 0 = omega (arith, was, one, hit) in
-          none ∙ ap (λ b. cond b 1 0) (sym now)
-      | inr ne ↦
-          let one : listings j h.vertices + cond (k == j) 1 0 ≡ listings j g.vertices = take_listings g k j f in
-          let miss : (let m : ℕ = cond (k == j) 1 0 in m) ≡ 0 = ap (λ b. cond b 1 0) (ne_eqb k j (λ e. ne (sym e))) in
-          let same : listings j h.vertices ≡ listings j g.vertices = omega (arith, one, miss) in
-          same ∙ (sound.listed j ∙ ap (λ o. cond (is_some o) 1 0) (sym (take_entry_other g k j ne)))
+        | inl same ↦
+            let was : listings j g.vertices ≡ 1 = sound.listed j ∙ ap (λ b. cond b 1 0) (ap (λ i. has_arc g i) same ∙ can.live) in
+            let one : listings j h.vertices + cond (k == j) 1 0 ≡ listings j g.vertices = take_listings g k j f in
+            let hit : (let m : ℕ = cond (k == j) 1 0 in m) ≡ 1 = ap (λ b. cond b 1 0) (eq-eqb k j (sym same)) in
+            let now : has_arc h j ≡ false = ap (λ i. is_some (arc_at h i)) same ∙ ap is_some (take_entry_same g k f) in
+            let none : listings j h.vertices ≡ 0 = omega (arith, was, one, hit) in
+            none ∙ ap (λ b. cond b 1 0) (sym now)
+        | inr ne ↦
+            let one : listings j h.vertices + cond (k == j) 1 0 ≡ listings j g.vertices = take_listings g k j f in
+            let miss : (let m : ℕ = cond (k == j) 1 0 in m) ≡ 0 = ap (λ b. cond b 1 0) (ne_eqb k j (λ e. ne (sym e))) in
+            let same : listings j h.vertices ≡ listings j g.vertices = omega (arith, one, miss) in
+            same ∙ (sound.listed j ∙ ap (λ o. cond (is_some o) 1 0) (sym (take_entry_other g k j ne)))
       ];
       id = sound.id;
       types = sound.types;
       six = sound.six;
       values = subst (λ m. All (IsValue m h.entries) g.fields) same_n (values_without n g.entries k g.fields own sound.values);
       vertices = All-set (IsVertex (n_of h) h.entries) g.vertices (owner_of g k) (owner_without g k)
-        (λ i d l. vertex (get_or g.vertices i d) (zero_of_sum (λ v. names_in k v.fields) g.vertices i d vs l) (sound.vertices i d l))
-        (let x = vertex (vertex_at g (owner_of g k)) (zero_of_sum (λ v. names_in k v.fields) g.vertices (owner_of g k) no_vertex vs f.owner) (sound.vertices (owner_of g k) no_vertex f.owner) in
-         record { label = x.label; six = x.six; values = x.values });
+          (λ i d l. vertex (get_or g.vertices i d) (zero_of_sum (λ v. names_in k v.fields) g.vertices i d vs l) (sound.vertices i d l))
+          (let x = vertex (vertex_at g (owner_of g k)) (zero_of_sum (λ v. names_in k v.fields) g.vertices (owner_of g k) no_vertex vs f.owner) (sound.vertices (owner_of g k) no_vertex f.owner) in
+          record { label = x.label; six = x.six; values = x.values });
       arcs = All-set (λ o. IfSome o (IsArc (n_of h) h.entries)) g.entries k None
-        (λ i d l. subst (λ m. IfSome (get_or g.entries i d) (IsArc m h.entries)) same_n
+          (λ i d l. subst (λ m. IfSome (get_or g.entries i d) (IsArc m h.entries)) same_n
           (entry_without n g.entries k (get_or g.entries i d) (zero_of_sum (names_in_entry k) g.entries i d es l) (sound.arcs i d l)))
-        tt;
+          tt;
       few_vertices = omega (arith, take_n g k, sound.few_vertices);
-      few_arcs = omega (arith, take_made g k, sound.few_arcs)
+      few_arcs = omega (arith, take_made g k, sound.few_arcs);
     }
 
 -- one arc less lives

@@ -65,25 +65,27 @@ util_requires a g p u w us vs ss k =
       fields = k.fields ∙ k.opened.fields;
       sound = k.opened.graph;
       shows = rw (k.vertices, k.slots) k.opened.shows;
-      can = record { place = k.place; value = k.value }
+      can = record { place = k.place; value = k.value };
     }
 
 pub util_after : (a b : Inside) (g : GraphOf) (p : Place) (u w old : Util) (us us' : List Util) (vs ws : List vertex.Vertex) (ss ts : Slots) → UtilCan a g p u w us vs ss
-  → Exchanges us vs ss p w old us' ws ts → b.fields ≡ us' → b.vertices.items ≡ ws → b.slots.items ≡ ts → b.live ≡ a.live → b.id ≡ a.id → b.types ≡ a.types
-  → Opened b (with_util g p w) × (old ≡ util_at g p)
+    → Exchanges us vs ss p w old us' ws ts → b.fields ≡ us' → b.vertices.items ≡ ws → b.slots.items ≡ ts → b.live ≡ a.live → b.id ≡ a.id → b.types ≡ a.types
+    → Opened b (with_util g p w) × (old ≡ util_at g p)
 util_after a b g p u w old us us' vs ws ss ts k e fields vertices slots live id types =
     let o = k.opened in
     let can : CanExchange g p w = record { place = k.place; value = k.value } in
     let x = e g (k.fields ∙ o.fields) (rw (k.vertices, k.slots) o.shows) o.graph can in
-    let y = util_facts g p w o.graph can in
-    (record {
-      graph = y.sound;
-      shows = rw (vertices, slots) x.shows;
-      live = live ∙ (o.live ∙ sym y.m);
-      id = id ∙ (o.id ∙ sym y.id);
-      types = types ∙ (o.types ∙ sym y.types);
-      fields = fields ∙ x.fields
-    }, x.kept)
+    let y = util_facts g p w o.graph can in (
+      record {
+        graph = y.sound;
+        shows = rw (vertices, slots) x.shows;
+        live = live ∙ (o.live ∙ sym y.m);
+        id = id ∙ (o.id ∙ sym y.id);
+        types = types ∙ (o.types ∙ sym y.types);
+        fields = fields ∙ x.fields;
+      },
+      x.kept,
+    )
 
 pub record UtilDone (b : Inside) (g : GraphOf) (p : Place) (u old : Util) : Type 0 where
   pub arena : IsArena b
@@ -92,7 +94,7 @@ pub record UtilDone (b : Inside) (g : GraphOf) (p : Place) (u old : Util) : Type
   pub sound : IsGraph (graph_of b)
 
 pub util_done : (a b : Inside) (g : GraphOf) (p : Place) (u w old : Util) (us us' : List Util) (vs ws : List vertex.Vertex) (ss ts : Slots) → UtilCan a g p u w us vs ss → can_name g u ≡ true → w ≡ stored u → IsStorable w
-  → Exchanges us vs ss p w old us' ws ts → b.fields ≡ us' → b.vertices.items ≡ ws → b.slots.items ≡ ts → b.live ≡ a.live → b.id ≡ a.id → b.types ≡ a.types → UtilDone b g p u old
+    → Exchanges us vs ss p w old us' ws ts → b.fields ≡ us' → b.vertices.items ≡ ws → b.slots.items ≡ ts → b.live ≡ a.live → b.id ≡ a.id → b.types ≡ a.types → UtilDone b g p u old
 util_done a b g p u w old us us' vs ws ss ts k named is storable e fields vertices slots live id types =
     let both = util_after a b g p u w old us us' vs ws ss ts k e fields vertices slots live id types in
     let after : Opened b (with_util g p (stored u)) = subst (λ z. Opened b (with_util g p z)) is both.0 in
@@ -106,9 +108,9 @@ util_done a b g p u w old us us' vs ws ss ts k named is storable e fields vertic
         accepted = ap (λ t. refusal_unless t BadOperand None) (and_from (has_place g p) (can_name g u) k.place named);
         fits = subst IsStorable is storable;
         kept = both.1;
-        left = closed b (with_util g p (stored u)) after
+        left = closed b (with_util g p (stored u)) after;
       };
-      sound = arena'.graph
+      sound = arena'.graph;
     }
 
 -- putting the old value back
@@ -123,12 +125,12 @@ with_util-with_util g (places.Vertex v f) u sound there =
     let y : VertexOf = record x { fields = set x.fields i u } in
     let old = get_or x.fields i Zero in
     let back : (z : VertexOf) → z ≡ y → record z { fields = set z.fields i old } ≡ x = λ z e.
-      ap (λ (q : VertexOf). record q { fields = set q.fields i old }) e
-      ∙ ap (λ us. record x { fields = us }) (set-set x.fields i u old ∙ set-get_or x.fields i Zero) in
+    ap (λ (q : VertexOf). record q { fields = set q.fields i old }) e
+    ∙ ap (λ us. record x { fields = us }) (set-set x.fields i u old ∙ set-get_or x.fields i Zero) in
     let here : get_or (set g.vertices v.0 y) v.0 no_vertex ≡ y = get_or-set_same g.vertices v.0 y no_vertex low in
     ap (λ vs. record g { vertices = vs })
     (ap (set (set g.vertices v.0 y) v.0) (back (get_or (set g.vertices v.0 y) v.0 no_vertex) here)
-     ∙ (set-set g.vertices v.0 y x ∙ set-get_or g.vertices v.0 no_vertex))
+    ∙ (set-set g.vertices v.0 y x ∙ set-get_or g.vertices v.0 no_vertex))
 with_util-with_util g (places.Arc k f) u sound there =
     let i = arc_place f in
     let e = entry_at g k.0 in
@@ -138,11 +140,11 @@ with_util-with_util g (places.Arc k f) u sound there =
     let old = get_or e.fields i Zero in
     let here : entry_at h k.0 ≡ y = ap (arc_or no_arc) (entry_same g.entries k.0 (Some y) low) in
     let back : record (entry_at h k.0) { fields = set (entry_at h k.0).fields i old } ≡ e =
-      ap (λ (q : ArcOf). record q { fields = set q.fields i old }) here
-      ∙ ap (λ us. record e { fields = us }) (set-set e.fields i u old ∙ set-get_or e.fields i Zero) in
+    ap (λ (q : ArcOf). record q { fields = set q.fields i old }) here
+    ∙ ap (λ us. record e { fields = us }) (set-set e.fields i u old ∙ set-get_or e.fields i Zero) in
     ap (λ es. record g { entries = es })
     (ap (λ q. set (set g.entries k.0 (Some y)) k.0 (Some q)) back
-     ∙ (set-set g.entries k.0 (Some y) (Some e) ∙ (ap (set g.entries k.0) (sym (some_entry (arc_at g k.0) there)) ∙ set-get_or g.entries k.0 None)))
+    ∙ (set-set g.entries k.0 (Some y) (Some e) ∙ (ap (set g.entries k.0) (sym (some_entry (arc_at g k.0) there)) ∙ set-get_or g.entries k.0 None)))
 
 -- undoing a set field
 unless_ok : (b : Bool) → refusal_unless b BadOperand None ≡ None → b ≡ true
@@ -176,12 +178,12 @@ left_util g h p old l =
       left = l.left;
       place = subst (λ k. has_place k p ≡ true) (sym l.left) (place_there g p w l.graph can);
       sound = subst (λ k. IsValue (n_of k) k.entries old) (sym l.left)
-        (IsValue-keeps (n_of g) (n_of (with_util g p w)) g.entries (with_util g p w).entries old y.keeps (subst (IsValue (n_of g) g.entries) (sym l.kept) y.value));
-      back = ap (λ k. with_util k p old) l.left ∙ (ap (with_util (with_util g p w) p) l.kept ∙ with_util-with_util g p w l.graph both.0)
+          (IsValue-keeps (n_of g) (n_of (with_util g p w)) g.entries (with_util g p w).entries old y.keeps (subst (IsValue (n_of g) g.entries) (sym l.kept) y.value));
+      back = ap (λ k. with_util k p old) l.left ∙ (ap (with_util (with_util g p w) p) l.kept ∙ with_util-with_util g p w l.graph both.0);
     }
 
 pub revert_util_requires : (a : Inside) (h : GraphOf) (p : Place) (old : Util) (us : List Util) (vs : List vertex.Vertex) (ss : Slots) (g : GraphOf) → graph_of a ≡ h → IsArena a → LeftByUtil g p old h
-  → us ≡ a.fields → vs ≡ a.vertices.items → ss ≡ a.slots.items → UtilCan a h p old old us vs ss
+    → us ≡ a.fields → vs ≡ a.vertices.items → ss ≡ a.slots.items → UtilCan a h p old old us vs ss
 revert_util_requires a h p old us vs ss g same arena l fields vertices slots =
     let x = left_util g h p old l in
     record { opened = opened a h same arena; place = x.place; value = x.sound; fields = fields; vertices = vertices; slots = slots }

@@ -40,7 +40,7 @@ graph_of a = record {
   types = a.types;
   fields = a.fields;
   vertices = map (vertex_of a.slots.items) a.vertices.items;
-  entries = map entry_of a.slots.items
+  entries = map entry_of a.slots.items;
 }
 
 -- the numbers from this link on come to an end, and name slots

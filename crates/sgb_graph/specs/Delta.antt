@@ -22,7 +22,7 @@ cut_arc g k =
       place = place_of g k;
       tip = e.tip;
       len = e.len;
-      fields = e.fields
+      fields = e.fields;
     }
 
 -- for each edit: it met the graph g, was accepted, kept the delta and left the graph h

@@ -1,5 +1,5 @@
 -- Honest graphs: each value is one that its letter allows.
-use Rattle.std.specs.Prelude.{◌+◌, ℕ, List, [], ◌∷◌, Option, Some, None, Bool, true, false, ◌&&◌, ◌||◌, ◌==◌, pos, take, drop}
+use Rattle.std.specs.Prelude.{◌+◌, ℕ, List, [], ◌∷◌, Option, Some, None, Bool, true, false, ◌&&◌, ◌||◌, ◌==◌, pos, take, drop, zip}
 use Rattle.std.specs.List.{list_all}
 use Rattle.std.specs.Ordering.{int_eq}
 use Rattle.sgb_graph.specs.declared.field.Util.{Util}
@@ -16,9 +16,7 @@ is_allowed letter (Text t) = letter == 83
 
 -- each value is allowed by the letter at its place
 abbrev pub are_allowed : List ℕ → List Util → Bool
-are_allowed letters [] = true
-are_allowed [] (u ∷ us) = false
-are_allowed (l ∷ letters) (u ∷ us) = is_allowed l u && are_allowed letters us
+are_allowed letters us = list_all (λ p. is_allowed p.1 p.0) (zip us letters)
 
 abbrev pub vertex_letters : List ℕ → List ℕ
 vertex_letters types = take 6 types

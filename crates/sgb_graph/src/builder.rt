@@ -1,9 +1,8 @@
 //! Graphs that are built by a run of insertions.
 ghost use Rattle.std.specs.Prelude.{◌≡◌, ◌≤◌, ◌<◌, ◌⊎◌, ◌∷◌, [], length, All, IfErr, OnOk, OnErr};
 
-use std::alloc::Global;
-
 use crate::{Graph, Refusal, Text, Types, Util, VertexNo};
+use std::alloc::Global;
 
 /// A graph under construction, and whether an insertion makes an arc or an edge.
 #[derive(Drop)]

@@ -4,6 +4,7 @@ mod arcs;
 mod cut;
 mod exchange;
 mod grow;
+mod honest;
 mod insert;
 mod link;
 mod new;
@@ -11,12 +12,11 @@ mod read;
 mod revert;
 mod set;
 
+use crate::text::Label;
+use crate::{ArcNo, Text, Tip, Types, Util, VertexNo};
 pub use arcs::Arcs;
 pub use read::ArcView;
 use std::marker::Model;
-
-use crate::text::Label;
-use crate::{ArcNo, Text, Tip, Types, Util, VertexNo};
 
 /// The most vertices that a graph has.
 pub const MOST_VERTICES: u32 = 65_535;

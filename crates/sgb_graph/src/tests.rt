@@ -1,8 +1,7 @@
+use super::*;
 use std::alloc::Global;
 use std::mem::size_of;
 use std::test::Fail;
-
-use super::*;
 
 // The numbers in a vertex's list.
 fn listed(alloc: Global, graph: &Graph, vertex: u32) -> Result<Vec<u32>, Fail> {
@@ -39,7 +38,10 @@ fn new_graph(rt: HostRuntime) -> Result<(), Fail> {
     assert_eq!(rt; graph.m(), 0);
     assert_eq!(rt; graph.made(), 0);
     assert_eq!(rt; graph.id(), b"gb_new_graph(4)".as_slice());
-    assert_eq!(rt; graph.types().letters().as_slice(), b"ZZZZZZZZZZZZZZ".as_slice());
+    assert_eq!(rt;
+        graph.types().letters().as_slice(),
+        b"ZZZZZZZZZZZZZZ".as_slice()
+    );
     let large = Graph::new(rt.alloc(), 65_536).err();
     assert_eq!(rt; large, Some(Refusal::TooLarge));
     let largest = Graph::new(rt.alloc(), 65_535)?;
@@ -117,7 +119,10 @@ fn cut_and_reverted(rt: HostRuntime) -> Result<(), Fail> {
         assert_eq!(rt; graph.m(), 2);
         graph.revert(delta);
         assert_eq!(rt; listed(alloc, &graph, 0)?.as_slice(), [2, 1, 0].as_slice());
-        assert_eq!(rt; arc_at(&graph, number), view(0, number + 1, i64::from(number) + 1));
+        assert_eq!(rt;
+            arc_at(&graph, number),
+            view(0, number + 1, i64::from(number) + 1)
+        );
     }
     let _delta = graph.cut(ArcNo(1))?;
     assert_eq!(rt; listed(alloc, &graph, 0)?.as_slice(), [2, 0].as_slice());

@@ -3,10 +3,9 @@ ghost use Rattle.std.specs.Prelude.{◌≡◌, IfOk, IfErr, ◌⊎◌, []};
 ghost use Rattle.std.specs.List.{list_all};
 ghost use Rattle.sgb_graph.specs.Text.{IsText, is_text_byte};
 
+use crate::Refusal;
 use std::alloc::{AllocError, Global};
 use std::marker::Model;
-
-use crate::Refusal;
 
 /// At most 4,095 printable ASCII bytes, none of them `"` or `\`.
 #[derive(Debug, Drop)]

@@ -46,7 +46,9 @@ impl Types {
         ensures value { result ≡ replicate 14 90 }
         ensures types { IsTypes result }
     {
-        Types { letters: [b'Z'; 14] }
+        Types {
+            letters: [b'Z'; 14],
+        }
     }
 
     /// The letters.

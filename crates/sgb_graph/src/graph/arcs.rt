@@ -2,10 +2,9 @@
 ghost use Rattle.std.specs.Prelude.{◌≡◌, ◌<◌, length};
 ghost use Rattle.sgb_graph.specs.Arena.{next_at};
 
-use std::marker::Model;
-
 use super::Slot;
 use crate::ArcNo;
+use std::marker::Model;
 
 /// The numbers of a vertex's arcs, the newest first.
 #[derive(Drop)]

@@ -4,11 +4,10 @@ ghost use Rattle.sgb_graph.specs.declared.field.Util.TheVariants as utils;
 ghost use Rattle.sgb_graph.specs.Arena.{slot_at};
 ghost use Rattle.sgb_graph.specs.Exchange.{IsPlaceIn, value_in, fields_in, with_field, fields_with, vertices_with, slots_with, Exchanges, CanBeExchanged};
 
-use std::mem;
-
 use super::link::{gain_name, lose_name};
 use super::{Slot, Vertex};
 use crate::{ArcNo, Place, Util};
+use std::mem;
 
 // Puts the value into the field, and gives the one that was there. No count of names is touched.
 fn replace_value(

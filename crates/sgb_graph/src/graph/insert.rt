@@ -15,7 +15,12 @@ impl Graph {
     ///
     /// Answers its number, and what `revert` needs. Refused `BadOperand` where there is no such vertex, and
     /// `TooLarge` where 1,000,000 numbers were given out.
-    pub fn new_arc(&mut self, from: VertexNo, to: VertexNo, len: i64) -> Result<(ArcNo, GraphDelta), Refusal>
+    pub fn new_arc(
+        &mut self,
+        from: VertexNo,
+        to: VertexNo,
+        len: i64,
+    ) -> Result<(ArcNo, GraphDelta), Refusal>
         ensures accepted { OnOk result (refusal_of_arc self.old from.0 to.0 ≡ None) }
         ensures number { IfOk result (λ p. p.0 ≡ arc_no (made_of self.old)) }
         ensures delta { IfOk result (λ p. p.1 ≡ GraphDelta.NewArc p.0) }
@@ -45,7 +50,12 @@ impl Graph {
     ///
     /// Answers the first number, and what `revert` needs. Refused `BadOperand` where there is no such vertex, and
     /// `TooLarge` where more than 999,998 numbers were given out.
-    pub fn new_edge(&mut self, from: VertexNo, to: VertexNo, len: i64) -> Result<(ArcNo, GraphDelta), Refusal>
+    pub fn new_edge(
+        &mut self,
+        from: VertexNo,
+        to: VertexNo,
+        len: i64,
+    ) -> Result<(ArcNo, GraphDelta), Refusal>
         ensures accepted { OnOk result (refusal_of_edge self.old from.0 to.0 ≡ None) }
         ensures number { IfOk result (λ p. p.0 ≡ arc_no (made_of self.old)) }
         ensures delta { IfOk result (λ p. p.1 ≡ GraphDelta.NewEdge p.0) }

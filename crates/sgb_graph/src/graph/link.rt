@@ -5,10 +5,9 @@ ghost use Rattle.std.specs.Option.{ForSome};
 ghost use Rattle.sgb_graph.specs.Arena.{IsLinked, numbers, next_at, slot_at, owner_in};
 ghost use Rattle.sgb_graph.specs.Link.{number_before, link_after, vertices_relinked, slots_relinked, slots_gaining, slots_losing, slots_gaining_both, slots_losing_both, value_at, IsCounted, PutsBack, CanBePutBack, TakesOut, CanBeTakenOut};
 
-use std::mem;
-
 use super::{Arcs, Slot, Vertex};
 use crate::{ArcNo, CutArc, Util, VertexNo};
+use std::mem;
 
 // The arc that stands before this place of a list.
 fn number_before(slots: &[Option<Slot>], first: Option<ArcNo>, place: u32) -> Option<ArcNo>

@@ -8,10 +8,9 @@ ghost use Rattle.sgb_graph.specs.New.{new_graph, new_id, bare_graph, six_zeros};
 ghost use Rattle.sgb_graph.specs.Arena.{IsBare, bare_vertex};
 ghost use Rattle.sgb_graph.specs.Blank.{blank};
 
-use std::alloc::{AllocError, Global};
-
 use super::{Graph, MOST_VERTICES, Vertex};
 use crate::{Label, Refusal, Text, Types, Util};
+use std::alloc::{AllocError, Global};
 
 impl Graph {
     /// A graph of `n` vertices with empty labels, without arcs, with the id `gb_new_graph(n)` and all letters `Z`.

@@ -74,7 +74,13 @@ impl Graph {
         ensures back { (g : GraphOf) → LeftByUtil g place value self.old → self.new ≡ g }
         ensures sound { IsGraph self.new }
     {
-        exchange(&mut self.fields, &mut self.vertices, &mut self.slots, place, value);
+        exchange(
+            &mut self.fields,
+            &mut self.vertices,
+            &mut self.slots,
+            place,
+            value,
+        );
     }
 
     fn revert_label(&mut self, vertex: VertexNo, label: Label)

@@ -8,11 +8,10 @@ ghost use Rattle.sgb_graph.specs.Delta.{LeftBy};
 ghost use Rattle.sgb_graph.specs.Arena.{slot_at};
 ghost use Rattle.sgb_graph.specs.Set.{len_in, with_len_in, IsStorable};
 
-use std::mem;
-
 use super::exchange::exchange;
 use super::{Graph, Slot};
 use crate::{ArcNo, GraphDelta, Label, Place, Refusal, Text, Types, Util, VertexNo};
+use std::mem;
 
 impl Graph {
     /// Gives an arc another length. Answers what `revert` needs, and takes no memory. Refused `BadOperand` where no
@@ -49,7 +48,13 @@ impl Graph {
             return Err(Refusal::BadOperand);
         }
         let value = stored(value);
-        let old = exchange(&mut self.fields, &mut self.vertices, &mut self.slots, place, value);
+        let old = exchange(
+            &mut self.fields,
+            &mut self.vertices,
+            &mut self.slots,
+            place,
+            value,
+        );
         Ok(GraphDelta::SetUtil(place, old))
     }
 

@@ -17,14 +17,14 @@ invariant_of-self c =
       opened = opened a g c.self.view_is c.self.invariant;
       can = can_cut_is g k tested;
       vertices = c.deref_mut.ensures.value;
-      slots = c.deref_mut-2.ensures.value
+      slots = c.deref_mut-2.ensures.value;
     } in
     let b : Inside = record { id = a.id; types = a.types; fields = a.fields; vertices = with_items a.vertices c.take_out-arc.new.vertices; slots = with_items a.slots c.take_out-arc.new.slots; live = a.live - 1 } in
     let own : SameOwn a b = record { id = refl; types = refl; fields = refl } in
     (cut_left a b g k c.take_out-arc.result _ _ _ _ x (cut_accepted g k tested) c.take_out-arc.ensures
-      (with_items_is a.vertices c.take_out-arc.new.vertices (c.take_out-arc.auto.vertices ∙ c.deref_mut.ensures.len))
-      (with_items_is a.slots c.take_out-arc.new.slots (c.take_out-arc.auto.slots ∙ c.deref_mut-2.ensures.len))
-      refl own).arena
+    (with_items_is a.vertices c.take_out-arc.new.vertices (c.take_out-arc.auto.vertices ∙ c.deref_mut.ensures.len))
+    (with_items_is a.slots c.take_out-arc.new.slots (c.take_out-arc.auto.slots ∙ c.deref_mut-2.ensures.len))
+    refl own).arena
 
 pub returns-clause-graph : goal.returns-clause-graph
 returns-clause-graph c =
@@ -36,14 +36,14 @@ returns-clause-graph c =
       opened = opened a g c.self.view_is c.self.invariant;
       can = can_cut_is g k tested;
       vertices = c.deref_mut.ensures.value;
-      slots = c.deref_mut-2.ensures.value
+      slots = c.deref_mut-2.ensures.value;
     } in
     let b : Inside = record { id = a.id; types = a.types; fields = a.fields; vertices = with_items a.vertices c.take_out-arc.new.vertices; slots = with_items a.slots c.take_out-arc.new.slots; live = a.live - 1 } in
     let own : SameOwn a b = record { id = refl; types = refl; fields = refl } in
     (cut_left a b g k c.take_out-arc.result _ _ _ _ x (cut_accepted g k tested) c.take_out-arc.ensures
-      (with_items_is a.vertices c.take_out-arc.new.vertices (c.take_out-arc.auto.vertices ∙ c.deref_mut.ensures.len))
-      (with_items_is a.slots c.take_out-arc.new.slots (c.take_out-arc.auto.slots ∙ c.deref_mut-2.ensures.len))
-      refl own).graph
+    (with_items_is a.vertices c.take_out-arc.new.vertices (c.take_out-arc.auto.vertices ∙ c.deref_mut.ensures.len))
+    (with_items_is a.slots c.take_out-arc.new.slots (c.take_out-arc.auto.slots ∙ c.deref_mut-2.ensures.len))
+    refl own).graph
 
 pub returns-clause-left : goal.returns-clause-left
 returns-clause-left c =
@@ -55,14 +55,14 @@ returns-clause-left c =
       opened = opened a g c.self.view_is c.self.invariant;
       can = can_cut_is g k tested;
       vertices = c.deref_mut.ensures.value;
-      slots = c.deref_mut-2.ensures.value
+      slots = c.deref_mut-2.ensures.value;
     } in
     let b : Inside = record { id = a.id; types = a.types; fields = a.fields; vertices = with_items a.vertices c.take_out-arc.new.vertices; slots = with_items a.slots c.take_out-arc.new.slots; live = a.live - 1 } in
     let own : SameOwn a b = record { id = refl; types = refl; fields = refl } in
     (cut_left a b g k c.take_out-arc.result _ _ _ _ x (cut_accepted g k tested) c.take_out-arc.ensures
-      (with_items_is a.vertices c.take_out-arc.new.vertices (c.take_out-arc.auto.vertices ∙ c.deref_mut.ensures.len))
-      (with_items_is a.slots c.take_out-arc.new.slots (c.take_out-arc.auto.slots ∙ c.deref_mut-2.ensures.len))
-      refl own).left
+    (with_items_is a.vertices c.take_out-arc.new.vertices (c.take_out-arc.auto.vertices ∙ c.deref_mut.ensures.len))
+    (with_items_is a.slots c.take_out-arc.new.slots (c.take_out-arc.auto.slots ∙ c.deref_mut-2.ensures.len))
+    refl own).left
 
 pub returns-clause-sound : goal.returns-clause-sound
 returns-clause-sound c =
@@ -74,11 +74,11 @@ returns-clause-sound c =
       opened = opened a g c.self.view_is c.self.invariant;
       can = can_cut_is g k tested;
       vertices = c.deref_mut.ensures.value;
-      slots = c.deref_mut-2.ensures.value
+      slots = c.deref_mut-2.ensures.value;
     } in
     let b : Inside = record { id = a.id; types = a.types; fields = a.fields; vertices = with_items a.vertices c.take_out-arc.new.vertices; slots = with_items a.slots c.take_out-arc.new.slots; live = a.live - 1 } in
     let own : SameOwn a b = record { id = refl; types = refl; fields = refl } in
     (cut_left a b g k c.take_out-arc.result _ _ _ _ x (cut_accepted g k tested) c.take_out-arc.ensures
-      (with_items_is a.vertices c.take_out-arc.new.vertices (c.take_out-arc.auto.vertices ∙ c.deref_mut.ensures.len))
-      (with_items_is a.slots c.take_out-arc.new.slots (c.take_out-arc.auto.slots ∙ c.deref_mut-2.ensures.len))
-      refl own).sound
+    (with_items_is a.vertices c.take_out-arc.new.vertices (c.take_out-arc.auto.vertices ∙ c.deref_mut.ensures.len))
+    (with_items_is a.slots c.take_out-arc.new.slots (c.take_out-arc.auto.slots ∙ c.deref_mut-2.ensures.len))
+    refl own).sound

@@ -11,10 +11,13 @@ pub put_back-requires : goal.put_back-requires
 put_back-requires c =
     let k : NewArcCan c.self.inside c.args.self.now c.args.from c.args.to c.args.len c.new_arc_at-arc.result c.deref_mut.result.now c.deref_mut-2.result.now = record {
       opened = opened c.self.inside c.args.self.now c.self.view_is c.self.invariant;
-      from = omega arith; to = omega arith; few = omega arith; fits = c.ranges.len;
+      from = omega arith;
+      to = omega arith;
+      few = omega arith;
+      fits = c.ranges.len;
       cut = new_cut_is c.args.from c.args.to c.args.len c.ranges.len c.new_arc_at-arc.ensures c.made-2.ensures.value;
       vertices = c.deref_mut.ensures.value;
-      slots = c.deref_mut-2.ensures.value ∙ c.in_ok-push.ensures.items
+      slots = c.deref_mut-2.ensures.value ∙ c.in_ok-push.ensures.items;
     } in
     new_arc_requires _ _ _ _ _ _ _ _ k
 
@@ -22,66 +25,78 @@ pub invariant_of-self-2 : goal.invariant_of-self-2
 invariant_of-self-2 c =
     let k : NewArcCan c.self.inside c.args.self.now c.args.from c.args.to c.args.len c.new_arc_at-arc.result c.deref_mut.result.now c.deref_mut-2.result.now = record {
       opened = opened c.self.inside c.args.self.now c.self.view_is c.self.invariant;
-      from = omega arith; to = omega arith; few = omega arith; fits = c.ranges.len;
+      from = omega arith;
+      to = omega arith;
+      few = omega arith;
+      fits = c.ranges.len;
       cut = new_cut_is c.args.from c.args.to c.args.len c.ranges.len c.new_arc_at-arc.ensures c.made-2.ensures.value;
       vertices = c.deref_mut.ensures.value;
-      slots = c.deref_mut-2.ensures.value ∙ c.in_ok-push.ensures.items
+      slots = c.deref_mut-2.ensures.value ∙ c.in_ok-push.ensures.items;
     } in
     let a = c.self.inside in
     let b : Inside = record { id = a.id; types = a.types; fields = a.fields; vertices = with_items a.vertices c.put_back.new.vertices; slots = with_items c.push.new.self c.put_back.new.slots; live = a.live + 1 } in
     let own : SameOwn a b = record { id = refl; types = refl; fields = refl } in
     (new_arc_done a b c.args.self.now c.args.from c.args.to c.args.len _ _ _ _ _ _ k c.put_back.ensures
-      (with_items_is c.self.inside.vertices c.put_back.new.vertices (c.put_back.auto.vertices ∙ c.deref_mut.ensures.len))
-      (with_items_is c.push.new.self c.put_back.new.slots (c.put_back.auto.slots ∙ c.deref_mut-2.ensures.len))
-      refl own (ap arc_no c.made-2.ensures.value)).arena
+    (with_items_is c.self.inside.vertices c.put_back.new.vertices (c.put_back.auto.vertices ∙ c.deref_mut.ensures.len))
+    (with_items_is c.push.new.self c.put_back.new.slots (c.put_back.auto.slots ∙ c.deref_mut-2.ensures.len))
+    refl own (ap arc_no c.made-2.ensures.value)).arena
 
 pub returns-clause-graph : goal.returns-clause-graph
 returns-clause-graph c =
     let k : NewArcCan c.self.inside c.args.self.now c.args.from c.args.to c.args.len c.new_arc_at-arc.result c.deref_mut.result.now c.deref_mut-2.result.now = record {
       opened = opened c.self.inside c.args.self.now c.self.view_is c.self.invariant;
-      from = omega arith; to = omega arith; few = omega arith; fits = c.ranges.len;
+      from = omega arith;
+      to = omega arith;
+      few = omega arith;
+      fits = c.ranges.len;
       cut = new_cut_is c.args.from c.args.to c.args.len c.ranges.len c.new_arc_at-arc.ensures c.made-2.ensures.value;
       vertices = c.deref_mut.ensures.value;
-      slots = c.deref_mut-2.ensures.value ∙ c.in_ok-push.ensures.items
+      slots = c.deref_mut-2.ensures.value ∙ c.in_ok-push.ensures.items;
     } in
     let a = c.self.inside in
     let b : Inside = record { id = a.id; types = a.types; fields = a.fields; vertices = with_items a.vertices c.put_back.new.vertices; slots = with_items c.push.new.self c.put_back.new.slots; live = a.live + 1 } in
     let own : SameOwn a b = record { id = refl; types = refl; fields = refl } in
     (new_arc_done a b c.args.self.now c.args.from c.args.to c.args.len _ _ _ _ _ _ k c.put_back.ensures
-      (with_items_is c.self.inside.vertices c.put_back.new.vertices (c.put_back.auto.vertices ∙ c.deref_mut.ensures.len))
-      (with_items_is c.push.new.self c.put_back.new.slots (c.put_back.auto.slots ∙ c.deref_mut-2.ensures.len))
-      refl own (ap arc_no c.made-2.ensures.value)).graph
+    (with_items_is c.self.inside.vertices c.put_back.new.vertices (c.put_back.auto.vertices ∙ c.deref_mut.ensures.len))
+    (with_items_is c.push.new.self c.put_back.new.slots (c.put_back.auto.slots ∙ c.deref_mut-2.ensures.len))
+    refl own (ap arc_no c.made-2.ensures.value)).graph
 
 pub returns-clause-left : goal.returns-clause-left
 returns-clause-left c =
     let k : NewArcCan c.self.inside c.args.self.now c.args.from c.args.to c.args.len c.new_arc_at-arc.result c.deref_mut.result.now c.deref_mut-2.result.now = record {
       opened = opened c.self.inside c.args.self.now c.self.view_is c.self.invariant;
-      from = omega arith; to = omega arith; few = omega arith; fits = c.ranges.len;
+      from = omega arith;
+      to = omega arith;
+      few = omega arith;
+      fits = c.ranges.len;
       cut = new_cut_is c.args.from c.args.to c.args.len c.ranges.len c.new_arc_at-arc.ensures c.made-2.ensures.value;
       vertices = c.deref_mut.ensures.value;
-      slots = c.deref_mut-2.ensures.value ∙ c.in_ok-push.ensures.items
+      slots = c.deref_mut-2.ensures.value ∙ c.in_ok-push.ensures.items;
     } in
     let a = c.self.inside in
     let b : Inside = record { id = a.id; types = a.types; fields = a.fields; vertices = with_items a.vertices c.put_back.new.vertices; slots = with_items c.push.new.self c.put_back.new.slots; live = a.live + 1 } in
     let own : SameOwn a b = record { id = refl; types = refl; fields = refl } in
     (new_arc_done a b c.args.self.now c.args.from c.args.to c.args.len _ _ _ _ _ _ k c.put_back.ensures
-      (with_items_is c.self.inside.vertices c.put_back.new.vertices (c.put_back.auto.vertices ∙ c.deref_mut.ensures.len))
-      (with_items_is c.push.new.self c.put_back.new.slots (c.put_back.auto.slots ∙ c.deref_mut-2.ensures.len))
-      refl own (ap arc_no c.made-2.ensures.value)).left
+    (with_items_is c.self.inside.vertices c.put_back.new.vertices (c.put_back.auto.vertices ∙ c.deref_mut.ensures.len))
+    (with_items_is c.push.new.self c.put_back.new.slots (c.put_back.auto.slots ∙ c.deref_mut-2.ensures.len))
+    refl own (ap arc_no c.made-2.ensures.value)).left
 
 pub returns-clause-sound : goal.returns-clause-sound
 returns-clause-sound c =
     let k : NewArcCan c.self.inside c.args.self.now c.args.from c.args.to c.args.len c.new_arc_at-arc.result c.deref_mut.result.now c.deref_mut-2.result.now = record {
       opened = opened c.self.inside c.args.self.now c.self.view_is c.self.invariant;
-      from = omega arith; to = omega arith; few = omega arith; fits = c.ranges.len;
+      from = omega arith;
+      to = omega arith;
+      few = omega arith;
+      fits = c.ranges.len;
       cut = new_cut_is c.args.from c.args.to c.args.len c.ranges.len c.new_arc_at-arc.ensures c.made-2.ensures.value;
       vertices = c.deref_mut.ensures.value;
-      slots = c.deref_mut-2.ensures.value ∙ c.in_ok-push.ensures.items
+      slots = c.deref_mut-2.ensures.value ∙ c.in_ok-push.ensures.items;
     } in
     let a = c.self.inside in
     let b : Inside = record { id = a.id; types = a.types; fields = a.fields; vertices = with_items a.vertices c.put_back.new.vertices; slots = with_items c.push.new.self c.put_back.new.slots; live = a.live + 1 } in
     let own : SameOwn a b = record { id = refl; types = refl; fields = refl } in
     (new_arc_done a b c.args.self.now c.args.from c.args.to c.args.len _ _ _ _ _ _ k c.put_back.ensures
-      (with_items_is c.self.inside.vertices c.put_back.new.vertices (c.put_back.auto.vertices ∙ c.deref_mut.ensures.len))
-      (with_items_is c.push.new.self c.put_back.new.slots (c.put_back.auto.slots ∙ c.deref_mut-2.ensures.len))
-      refl own (ap arc_no c.made-2.ensures.value)).sound
+    (with_items_is c.self.inside.vertices c.put_back.new.vertices (c.put_back.auto.vertices ∙ c.deref_mut.ensures.len))
+    (with_items_is c.push.new.self c.put_back.new.slots (c.put_back.auto.slots ∙ c.deref_mut-2.ensures.len))
+    refl own (ap arc_no c.made-2.ensures.value)).sound

@@ -12,11 +12,14 @@ put_both-requires c =
     let g = c.args.self.now in
     let k : NewEdgeCan c.self.inside g c.args.from c.args.to c.args.len c.new_arc_at-second.result c.new_arc_at-first.result c.deref_mut.result.now c.deref_mut-2.result.now = record {
       opened = opened c.self.inside g c.self.view_is c.self.invariant;
-      from = omega arith; to = omega arith; few = omega arith; fits = c.ranges.len;
+      from = omega arith;
+      to = omega arith;
+      few = omega arith;
+      fits = c.ranges.len;
       second = new_cut_at c.args.len _ _ _ _ _ _ _ c.ranges.len c.new_arc_at-second.ensures (ap (λ m. m + 1) c.made-2.ensures.value) c.max.ensures c.min.ensures;
       first = new_cut_at c.args.len _ _ _ _ _ _ _ c.ranges.len c.new_arc_at-first.ensures c.made-2.ensures.value c.min.ensures c.max.ensures;
       vertices = c.deref_mut.ensures.value;
-      slots = c.deref_mut-2.ensures.value ∙ c.in_ok-push_two_holes.ensures.ok
+      slots = c.deref_mut-2.ensures.value ∙ c.in_ok-push_two_holes.ensures.ok;
     } in
     new_edge_requires _ _ _ _ _ _ _ _ _ k
 
@@ -25,73 +28,85 @@ invariant_of-self-2 c =
     let g = c.args.self.now in
     let k : NewEdgeCan c.self.inside g c.args.from c.args.to c.args.len c.new_arc_at-second.result c.new_arc_at-first.result c.deref_mut.result.now c.deref_mut-2.result.now = record {
       opened = opened c.self.inside g c.self.view_is c.self.invariant;
-      from = omega arith; to = omega arith; few = omega arith; fits = c.ranges.len;
+      from = omega arith;
+      to = omega arith;
+      few = omega arith;
+      fits = c.ranges.len;
       second = new_cut_at c.args.len _ _ _ _ _ _ _ c.ranges.len c.new_arc_at-second.ensures (ap (λ m. m + 1) c.made-2.ensures.value) c.max.ensures c.min.ensures;
       first = new_cut_at c.args.len _ _ _ _ _ _ _ c.ranges.len c.new_arc_at-first.ensures c.made-2.ensures.value c.min.ensures c.max.ensures;
       vertices = c.deref_mut.ensures.value;
-      slots = c.deref_mut-2.ensures.value ∙ c.in_ok-push_two_holes.ensures.ok
+      slots = c.deref_mut-2.ensures.value ∙ c.in_ok-push_two_holes.ensures.ok;
     } in
     let a = c.self.inside in
     let b : Inside = record { id = a.id; types = a.types; fields = a.fields; vertices = with_items a.vertices c.put_both.new.vertices; slots = with_items c.push_two_holes.new.slots c.put_both.new.slots; live = a.live + 2 } in
     let own : SameOwn a b = record { id = refl; types = refl; fields = refl } in
     (new_edge_done a b g c.args.from c.args.to c.args.len _ _ _ _ _ _ _ k c.put_both.ensures
-      (with_items_is a.vertices c.put_both.new.vertices (c.put_both.auto.vertices ∙ c.deref_mut.ensures.len))
-      (with_items_is c.push_two_holes.new.slots c.put_both.new.slots (c.put_both.auto.slots ∙ c.deref_mut-2.ensures.len))
-      refl own (ap arc_no c.made-2.ensures.value)).arena
+    (with_items_is a.vertices c.put_both.new.vertices (c.put_both.auto.vertices ∙ c.deref_mut.ensures.len))
+    (with_items_is c.push_two_holes.new.slots c.put_both.new.slots (c.put_both.auto.slots ∙ c.deref_mut-2.ensures.len))
+    refl own (ap arc_no c.made-2.ensures.value)).arena
 
 pub returns-clause-graph : goal.returns-clause-graph
 returns-clause-graph c =
     let g = c.args.self.now in
     let k : NewEdgeCan c.self.inside g c.args.from c.args.to c.args.len c.new_arc_at-second.result c.new_arc_at-first.result c.deref_mut.result.now c.deref_mut-2.result.now = record {
       opened = opened c.self.inside g c.self.view_is c.self.invariant;
-      from = omega arith; to = omega arith; few = omega arith; fits = c.ranges.len;
+      from = omega arith;
+      to = omega arith;
+      few = omega arith;
+      fits = c.ranges.len;
       second = new_cut_at c.args.len _ _ _ _ _ _ _ c.ranges.len c.new_arc_at-second.ensures (ap (λ m. m + 1) c.made-2.ensures.value) c.max.ensures c.min.ensures;
       first = new_cut_at c.args.len _ _ _ _ _ _ _ c.ranges.len c.new_arc_at-first.ensures c.made-2.ensures.value c.min.ensures c.max.ensures;
       vertices = c.deref_mut.ensures.value;
-      slots = c.deref_mut-2.ensures.value ∙ c.in_ok-push_two_holes.ensures.ok
+      slots = c.deref_mut-2.ensures.value ∙ c.in_ok-push_two_holes.ensures.ok;
     } in
     let a = c.self.inside in
     let b : Inside = record { id = a.id; types = a.types; fields = a.fields; vertices = with_items a.vertices c.put_both.new.vertices; slots = with_items c.push_two_holes.new.slots c.put_both.new.slots; live = a.live + 2 } in
     let own : SameOwn a b = record { id = refl; types = refl; fields = refl } in
     (new_edge_done a b g c.args.from c.args.to c.args.len _ _ _ _ _ _ _ k c.put_both.ensures
-      (with_items_is a.vertices c.put_both.new.vertices (c.put_both.auto.vertices ∙ c.deref_mut.ensures.len))
-      (with_items_is c.push_two_holes.new.slots c.put_both.new.slots (c.put_both.auto.slots ∙ c.deref_mut-2.ensures.len))
-      refl own (ap arc_no c.made-2.ensures.value)).graph
+    (with_items_is a.vertices c.put_both.new.vertices (c.put_both.auto.vertices ∙ c.deref_mut.ensures.len))
+    (with_items_is c.push_two_holes.new.slots c.put_both.new.slots (c.put_both.auto.slots ∙ c.deref_mut-2.ensures.len))
+    refl own (ap arc_no c.made-2.ensures.value)).graph
 
 pub returns-clause-left : goal.returns-clause-left
 returns-clause-left c =
     let g = c.args.self.now in
     let k : NewEdgeCan c.self.inside g c.args.from c.args.to c.args.len c.new_arc_at-second.result c.new_arc_at-first.result c.deref_mut.result.now c.deref_mut-2.result.now = record {
       opened = opened c.self.inside g c.self.view_is c.self.invariant;
-      from = omega arith; to = omega arith; few = omega arith; fits = c.ranges.len;
+      from = omega arith;
+      to = omega arith;
+      few = omega arith;
+      fits = c.ranges.len;
       second = new_cut_at c.args.len _ _ _ _ _ _ _ c.ranges.len c.new_arc_at-second.ensures (ap (λ m. m + 1) c.made-2.ensures.value) c.max.ensures c.min.ensures;
       first = new_cut_at c.args.len _ _ _ _ _ _ _ c.ranges.len c.new_arc_at-first.ensures c.made-2.ensures.value c.min.ensures c.max.ensures;
       vertices = c.deref_mut.ensures.value;
-      slots = c.deref_mut-2.ensures.value ∙ c.in_ok-push_two_holes.ensures.ok
+      slots = c.deref_mut-2.ensures.value ∙ c.in_ok-push_two_holes.ensures.ok;
     } in
     let a = c.self.inside in
     let b : Inside = record { id = a.id; types = a.types; fields = a.fields; vertices = with_items a.vertices c.put_both.new.vertices; slots = with_items c.push_two_holes.new.slots c.put_both.new.slots; live = a.live + 2 } in
     let own : SameOwn a b = record { id = refl; types = refl; fields = refl } in
     (new_edge_done a b g c.args.from c.args.to c.args.len _ _ _ _ _ _ _ k c.put_both.ensures
-      (with_items_is a.vertices c.put_both.new.vertices (c.put_both.auto.vertices ∙ c.deref_mut.ensures.len))
-      (with_items_is c.push_two_holes.new.slots c.put_both.new.slots (c.put_both.auto.slots ∙ c.deref_mut-2.ensures.len))
-      refl own (ap arc_no c.made-2.ensures.value)).left
+    (with_items_is a.vertices c.put_both.new.vertices (c.put_both.auto.vertices ∙ c.deref_mut.ensures.len))
+    (with_items_is c.push_two_holes.new.slots c.put_both.new.slots (c.put_both.auto.slots ∙ c.deref_mut-2.ensures.len))
+    refl own (ap arc_no c.made-2.ensures.value)).left
 
 pub returns-clause-sound : goal.returns-clause-sound
 returns-clause-sound c =
     let g = c.args.self.now in
     let k : NewEdgeCan c.self.inside g c.args.from c.args.to c.args.len c.new_arc_at-second.result c.new_arc_at-first.result c.deref_mut.result.now c.deref_mut-2.result.now = record {
       opened = opened c.self.inside g c.self.view_is c.self.invariant;
-      from = omega arith; to = omega arith; few = omega arith; fits = c.ranges.len;
+      from = omega arith;
+      to = omega arith;
+      few = omega arith;
+      fits = c.ranges.len;
       second = new_cut_at c.args.len _ _ _ _ _ _ _ c.ranges.len c.new_arc_at-second.ensures (ap (λ m. m + 1) c.made-2.ensures.value) c.max.ensures c.min.ensures;
       first = new_cut_at c.args.len _ _ _ _ _ _ _ c.ranges.len c.new_arc_at-first.ensures c.made-2.ensures.value c.min.ensures c.max.ensures;
       vertices = c.deref_mut.ensures.value;
-      slots = c.deref_mut-2.ensures.value ∙ c.in_ok-push_two_holes.ensures.ok
+      slots = c.deref_mut-2.ensures.value ∙ c.in_ok-push_two_holes.ensures.ok;
     } in
     let a = c.self.inside in
     let b : Inside = record { id = a.id; types = a.types; fields = a.fields; vertices = with_items a.vertices c.put_both.new.vertices; slots = with_items c.push_two_holes.new.slots c.put_both.new.slots; live = a.live + 2 } in
     let own : SameOwn a b = record { id = refl; types = refl; fields = refl } in
     (new_edge_done a b g c.args.from c.args.to c.args.len _ _ _ _ _ _ _ k c.put_both.ensures
-      (with_items_is a.vertices c.put_both.new.vertices (c.put_both.auto.vertices ∙ c.deref_mut.ensures.len))
-      (with_items_is c.push_two_holes.new.slots c.put_both.new.slots (c.put_both.auto.slots ∙ c.deref_mut-2.ensures.len))
-      refl own (ap arc_no c.made-2.ensures.value)).sound
+    (with_items_is a.vertices c.put_both.new.vertices (c.put_both.auto.vertices ∙ c.deref_mut.ensures.len))
+    (with_items_is c.push_two_holes.new.slots c.put_both.new.slots (c.put_both.auto.slots ∙ c.deref_mut-2.ensures.len))
+    refl own (ap arc_no c.made-2.ensures.value)).sound

@@ -18,7 +18,7 @@ take_out-requires c =
     let x : RevertCan a h c.deref_mut.result.now c.deref_mut-2.result.now = record {
       opened = opened a h c.self.view_is c.self.invariant;
       vertices = c.deref_mut.ensures.value;
-      slots = c.deref_mut-2.ensures.value
+      slots = c.deref_mut-2.ensures.value;
     } in
     revert_requires a h c.args.number.0 _ _ x (revert_arc_can c.requires.0 h c.args.number c.requires.1)
 
@@ -29,7 +29,7 @@ overflow_sub-self c =
     let x : RevertCan a h c.deref_mut.result.now c.deref_mut-2.result.now = record {
       opened = opened a h c.self.view_is c.self.invariant;
       vertices = c.deref_mut.ensures.value;
-      slots = c.deref_mut-2.ensures.value
+      slots = c.deref_mut-2.ensures.value;
     } in
     omega (arith, x.opened.live, take_m h c.args.number.0 (found_live h c.args.number.0 x.opened.graph (revert_arc_can c.requires.0 h c.args.number c.requires.1).live))
 
@@ -40,15 +40,15 @@ invariant_of-self c =
     let x : RevertCan a h c.deref_mut.result.now c.deref_mut-2.result.now = record {
       opened = opened a h c.self.view_is c.self.invariant;
       vertices = c.deref_mut.ensures.value;
-      slots = c.deref_mut-2.ensures.value
+      slots = c.deref_mut-2.ensures.value;
     } in
     let b : Inside = record { id = a.id; types = a.types; fields = a.fields; vertices = with_items a.vertices c.take_out.new.vertices; slots = c.truncate.new.self; live = a.live - 1 } in
     let own : SameOwn a b = record { id = refl; types = refl; fields = refl } in
     let after : (g : GraphOf) → LeftByArc g c.args.number h → Opened b g = λ g l.
-        revert_arc_after a b h c.args.number c.take_out.result _ _ _ _ g x l c.take_out.ensures
-          (with_items_is a.vertices c.take_out.new.vertices (c.take_out.auto.vertices ∙ c.deref_mut.ensures.len))
-          (c.truncate.ensures.items ∙ ap (take c.args.number.0) (with_items_is a.slots c.take_out.new.slots (c.take_out.auto.slots ∙ c.deref_mut-2.ensures.len)))
-          refl own in
+    revert_arc_after a b h c.args.number c.take_out.result _ _ _ _ g x l c.take_out.ensures
+    (with_items_is a.vertices c.take_out.new.vertices (c.take_out.auto.vertices ∙ c.deref_mut.ensures.len))
+    (c.truncate.ensures.items ∙ ap (take c.args.number.0) (with_items_is a.slots c.take_out.new.slots (c.take_out.auto.slots ∙ c.deref_mut-2.ensures.len)))
+    refl own in
     closed_arena b c.requires.0 (after c.requires.0 c.requires.1)
 
 pub returns-clause-back : goal.returns-clause-back
@@ -58,15 +58,15 @@ returns-clause-back c =
     let x : RevertCan a h c.deref_mut.result.now c.deref_mut-2.result.now = record {
       opened = opened a h c.self.view_is c.self.invariant;
       vertices = c.deref_mut.ensures.value;
-      slots = c.deref_mut-2.ensures.value
+      slots = c.deref_mut-2.ensures.value;
     } in
     let b : Inside = record { id = a.id; types = a.types; fields = a.fields; vertices = with_items a.vertices c.take_out.new.vertices; slots = c.truncate.new.self; live = a.live - 1 } in
     let own : SameOwn a b = record { id = refl; types = refl; fields = refl } in
     let after : (g : GraphOf) → LeftByArc g c.args.number h → Opened b g = λ g l.
-        revert_arc_after a b h c.args.number c.take_out.result _ _ _ _ g x l c.take_out.ensures
-          (with_items_is a.vertices c.take_out.new.vertices (c.take_out.auto.vertices ∙ c.deref_mut.ensures.len))
-          (c.truncate.ensures.items ∙ ap (take c.args.number.0) (with_items_is a.slots c.take_out.new.slots (c.take_out.auto.slots ∙ c.deref_mut-2.ensures.len)))
-          refl own in
+    revert_arc_after a b h c.args.number c.take_out.result _ _ _ _ g x l c.take_out.ensures
+    (with_items_is a.vertices c.take_out.new.vertices (c.take_out.auto.vertices ∙ c.deref_mut.ensures.len))
+    (c.truncate.ensures.items ∙ ap (take c.args.number.0) (with_items_is a.slots c.take_out.new.slots (c.take_out.auto.slots ∙ c.deref_mut-2.ensures.len)))
+    refl own in
     λ g l. closed b g (after g l)
 
 pub returns-clause-sound : goal.returns-clause-sound
@@ -76,13 +76,13 @@ returns-clause-sound c =
     let x : RevertCan a h c.deref_mut.result.now c.deref_mut-2.result.now = record {
       opened = opened a h c.self.view_is c.self.invariant;
       vertices = c.deref_mut.ensures.value;
-      slots = c.deref_mut-2.ensures.value
+      slots = c.deref_mut-2.ensures.value;
     } in
     let b : Inside = record { id = a.id; types = a.types; fields = a.fields; vertices = with_items a.vertices c.take_out.new.vertices; slots = c.truncate.new.self; live = a.live - 1 } in
     let own : SameOwn a b = record { id = refl; types = refl; fields = refl } in
     let after : (g : GraphOf) → LeftByArc g c.args.number h → Opened b g = λ g l.
-        revert_arc_after a b h c.args.number c.take_out.result _ _ _ _ g x l c.take_out.ensures
-          (with_items_is a.vertices c.take_out.new.vertices (c.take_out.auto.vertices ∙ c.deref_mut.ensures.len))
-          (c.truncate.ensures.items ∙ ap (take c.args.number.0) (with_items_is a.slots c.take_out.new.slots (c.take_out.auto.slots ∙ c.deref_mut-2.ensures.len)))
-          refl own in
+    revert_arc_after a b h c.args.number c.take_out.result _ _ _ _ g x l c.take_out.ensures
+    (with_items_is a.vertices c.take_out.new.vertices (c.take_out.auto.vertices ∙ c.deref_mut.ensures.len))
+    (c.truncate.ensures.items ∙ ap (take c.args.number.0) (with_items_is a.slots c.take_out.new.slots (c.take_out.auto.slots ∙ c.deref_mut-2.ensures.len)))
+    refl own in
     (closed_arena b c.requires.0 (after c.requires.0 c.requires.1)).graph

@@ -17,7 +17,7 @@ put_back-requires c =
     let x : RevertCan a h c.deref_mut.result.now c.deref_mut-2.result.now = record {
       opened = opened a h c.self.view_is c.self.invariant;
       vertices = c.deref_mut.ensures.value;
-      slots = c.deref_mut-2.ensures.value
+      slots = c.deref_mut-2.ensures.value;
     } in
     revert_cut_requires a h c.args.arc _ _ c.requires.0 x c.requires.1
 
@@ -28,15 +28,15 @@ invariant_of-self c =
     let x : RevertCan a h c.deref_mut.result.now c.deref_mut-2.result.now = record {
       opened = opened a h c.self.view_is c.self.invariant;
       vertices = c.deref_mut.ensures.value;
-      slots = c.deref_mut-2.ensures.value
+      slots = c.deref_mut-2.ensures.value;
     } in
     let b : Inside = record { id = a.id; types = a.types; fields = a.fields; vertices = with_items a.vertices c.put_back.new.vertices; slots = with_items a.slots c.put_back.new.slots; live = a.live + 1 } in
     let own : SameOwn a b = record { id = refl; types = refl; fields = refl } in
     let after : (g : GraphOf) → LeftByCut g c.args.arc h → Opened b g = λ g l.
-        revert_cut_after a b h c.args.arc _ _ _ _ g x l c.put_back.ensures
-          (with_items_is a.vertices c.put_back.new.vertices (c.put_back.auto.vertices ∙ c.deref_mut.ensures.len))
-          (with_items_is a.slots c.put_back.new.slots (c.put_back.auto.slots ∙ c.deref_mut-2.ensures.len))
-          refl own in
+    revert_cut_after a b h c.args.arc _ _ _ _ g x l c.put_back.ensures
+    (with_items_is a.vertices c.put_back.new.vertices (c.put_back.auto.vertices ∙ c.deref_mut.ensures.len))
+    (with_items_is a.slots c.put_back.new.slots (c.put_back.auto.slots ∙ c.deref_mut-2.ensures.len))
+    refl own in
     closed_arena b c.requires.0 (after c.requires.0 c.requires.1)
 
 pub returns-clause-back : goal.returns-clause-back
@@ -46,15 +46,15 @@ returns-clause-back c =
     let x : RevertCan a h c.deref_mut.result.now c.deref_mut-2.result.now = record {
       opened = opened a h c.self.view_is c.self.invariant;
       vertices = c.deref_mut.ensures.value;
-      slots = c.deref_mut-2.ensures.value
+      slots = c.deref_mut-2.ensures.value;
     } in
     let b : Inside = record { id = a.id; types = a.types; fields = a.fields; vertices = with_items a.vertices c.put_back.new.vertices; slots = with_items a.slots c.put_back.new.slots; live = a.live + 1 } in
     let own : SameOwn a b = record { id = refl; types = refl; fields = refl } in
     let after : (g : GraphOf) → LeftByCut g c.args.arc h → Opened b g = λ g l.
-        revert_cut_after a b h c.args.arc _ _ _ _ g x l c.put_back.ensures
-          (with_items_is a.vertices c.put_back.new.vertices (c.put_back.auto.vertices ∙ c.deref_mut.ensures.len))
-          (with_items_is a.slots c.put_back.new.slots (c.put_back.auto.slots ∙ c.deref_mut-2.ensures.len))
-          refl own in
+    revert_cut_after a b h c.args.arc _ _ _ _ g x l c.put_back.ensures
+    (with_items_is a.vertices c.put_back.new.vertices (c.put_back.auto.vertices ∙ c.deref_mut.ensures.len))
+    (with_items_is a.slots c.put_back.new.slots (c.put_back.auto.slots ∙ c.deref_mut-2.ensures.len))
+    refl own in
     λ g l. closed b g (after g l)
 
 pub returns-clause-sound : goal.returns-clause-sound
@@ -64,13 +64,13 @@ returns-clause-sound c =
     let x : RevertCan a h c.deref_mut.result.now c.deref_mut-2.result.now = record {
       opened = opened a h c.self.view_is c.self.invariant;
       vertices = c.deref_mut.ensures.value;
-      slots = c.deref_mut-2.ensures.value
+      slots = c.deref_mut-2.ensures.value;
     } in
     let b : Inside = record { id = a.id; types = a.types; fields = a.fields; vertices = with_items a.vertices c.put_back.new.vertices; slots = with_items a.slots c.put_back.new.slots; live = a.live + 1 } in
     let own : SameOwn a b = record { id = refl; types = refl; fields = refl } in
     let after : (g : GraphOf) → LeftByCut g c.args.arc h → Opened b g = λ g l.
-        revert_cut_after a b h c.args.arc _ _ _ _ g x l c.put_back.ensures
-          (with_items_is a.vertices c.put_back.new.vertices (c.put_back.auto.vertices ∙ c.deref_mut.ensures.len))
-          (with_items_is a.slots c.put_back.new.slots (c.put_back.auto.slots ∙ c.deref_mut-2.ensures.len))
-          refl own in
+    revert_cut_after a b h c.args.arc _ _ _ _ g x l c.put_back.ensures
+    (with_items_is a.vertices c.put_back.new.vertices (c.put_back.auto.vertices ∙ c.deref_mut.ensures.len))
+    (with_items_is a.slots c.put_back.new.slots (c.put_back.auto.slots ∙ c.deref_mut-2.ensures.len))
+    refl own in
     (closed_arena b c.requires.0 (after c.requires.0 c.requires.1)).graph

@@ -17,7 +17,7 @@ take_out_both-requires c =
     let x : RevertCan a h c.deref_mut.result.now c.deref_mut-2.result.now = record {
       opened = opened a h c.self.view_is c.self.invariant;
       vertices = c.deref_mut.ensures.value;
-      slots = c.deref_mut-2.ensures.value
+      slots = c.deref_mut-2.ensures.value;
     } in
     revert_edge_requires a h c.args.number _ _ c.requires.0 x c.requires.1
 
@@ -28,7 +28,7 @@ overflow_sub-self c =
     let x : RevertCan a h c.deref_mut.result.now c.deref_mut-2.result.now = record {
       opened = opened a h c.self.view_is c.self.invariant;
       vertices = c.deref_mut.ensures.value;
-      slots = c.deref_mut-2.ensures.value
+      slots = c.deref_mut-2.ensures.value;
     } in
     omega (arith, x.opened.live, revert_edge_live c.requires.0 h c.args.number x.opened.graph c.requires.1)
 
@@ -39,15 +39,15 @@ invariant_of-self c =
     let x : RevertCan a h c.deref_mut.result.now c.deref_mut-2.result.now = record {
       opened = opened a h c.self.view_is c.self.invariant;
       vertices = c.deref_mut.ensures.value;
-      slots = c.deref_mut-2.ensures.value
+      slots = c.deref_mut-2.ensures.value;
     } in
     let b : Inside = record { id = a.id; types = a.types; fields = a.fields; vertices = with_items a.vertices c.take_out_both.new.vertices; slots = c.truncate.new.self; live = a.live - 2 } in
     let own : SameOwn a b = record { id = refl; types = refl; fields = refl } in
     let after : (g : GraphOf) → LeftByEdge g c.args.number h → Opened b g = λ g l.
-        revert_edge_after a b h c.args.number _ _ _ _ g x l c.take_out_both.ensures
-          (with_items_is a.vertices c.take_out_both.new.vertices (c.take_out_both.auto.vertices ∙ c.deref_mut.ensures.len))
-          (c.truncate.ensures.items ∙ ap (take c.args.number.0) (with_items_is a.slots c.take_out_both.new.slots (c.take_out_both.auto.slots ∙ c.deref_mut-2.ensures.len)))
-          refl own in
+    revert_edge_after a b h c.args.number _ _ _ _ g x l c.take_out_both.ensures
+    (with_items_is a.vertices c.take_out_both.new.vertices (c.take_out_both.auto.vertices ∙ c.deref_mut.ensures.len))
+    (c.truncate.ensures.items ∙ ap (take c.args.number.0) (with_items_is a.slots c.take_out_both.new.slots (c.take_out_both.auto.slots ∙ c.deref_mut-2.ensures.len)))
+    refl own in
     closed_arena b c.requires.0 (after c.requires.0 c.requires.1)
 
 pub returns-clause-back : goal.returns-clause-back
@@ -57,15 +57,15 @@ returns-clause-back c =
     let x : RevertCan a h c.deref_mut.result.now c.deref_mut-2.result.now = record {
       opened = opened a h c.self.view_is c.self.invariant;
       vertices = c.deref_mut.ensures.value;
-      slots = c.deref_mut-2.ensures.value
+      slots = c.deref_mut-2.ensures.value;
     } in
     let b : Inside = record { id = a.id; types = a.types; fields = a.fields; vertices = with_items a.vertices c.take_out_both.new.vertices; slots = c.truncate.new.self; live = a.live - 2 } in
     let own : SameOwn a b = record { id = refl; types = refl; fields = refl } in
     let after : (g : GraphOf) → LeftByEdge g c.args.number h → Opened b g = λ g l.
-        revert_edge_after a b h c.args.number _ _ _ _ g x l c.take_out_both.ensures
-          (with_items_is a.vertices c.take_out_both.new.vertices (c.take_out_both.auto.vertices ∙ c.deref_mut.ensures.len))
-          (c.truncate.ensures.items ∙ ap (take c.args.number.0) (with_items_is a.slots c.take_out_both.new.slots (c.take_out_both.auto.slots ∙ c.deref_mut-2.ensures.len)))
-          refl own in
+    revert_edge_after a b h c.args.number _ _ _ _ g x l c.take_out_both.ensures
+    (with_items_is a.vertices c.take_out_both.new.vertices (c.take_out_both.auto.vertices ∙ c.deref_mut.ensures.len))
+    (c.truncate.ensures.items ∙ ap (take c.args.number.0) (with_items_is a.slots c.take_out_both.new.slots (c.take_out_both.auto.slots ∙ c.deref_mut-2.ensures.len)))
+    refl own in
     λ g l. closed b g (after g l)
 
 pub returns-clause-sound : goal.returns-clause-sound
@@ -75,13 +75,13 @@ returns-clause-sound c =
     let x : RevertCan a h c.deref_mut.result.now c.deref_mut-2.result.now = record {
       opened = opened a h c.self.view_is c.self.invariant;
       vertices = c.deref_mut.ensures.value;
-      slots = c.deref_mut-2.ensures.value
+      slots = c.deref_mut-2.ensures.value;
     } in
     let b : Inside = record { id = a.id; types = a.types; fields = a.fields; vertices = with_items a.vertices c.take_out_both.new.vertices; slots = c.truncate.new.self; live = a.live - 2 } in
     let own : SameOwn a b = record { id = refl; types = refl; fields = refl } in
     let after : (g : GraphOf) → LeftByEdge g c.args.number h → Opened b g = λ g l.
-        revert_edge_after a b h c.args.number _ _ _ _ g x l c.take_out_both.ensures
-          (with_items_is a.vertices c.take_out_both.new.vertices (c.take_out_both.auto.vertices ∙ c.deref_mut.ensures.len))
-          (c.truncate.ensures.items ∙ ap (take c.args.number.0) (with_items_is a.slots c.take_out_both.new.slots (c.take_out_both.auto.slots ∙ c.deref_mut-2.ensures.len)))
-          refl own in
+    revert_edge_after a b h c.args.number _ _ _ _ g x l c.take_out_both.ensures
+    (with_items_is a.vertices c.take_out_both.new.vertices (c.take_out_both.auto.vertices ∙ c.deref_mut.ensures.len))
+    (c.truncate.ensures.items ∙ ap (take c.args.number.0) (with_items_is a.slots c.take_out_both.new.slots (c.take_out_both.auto.slots ∙ c.deref_mut-2.ensures.len)))
+    refl own in
     (closed_arena b c.requires.0 (after c.requires.0 c.requires.1)).graph

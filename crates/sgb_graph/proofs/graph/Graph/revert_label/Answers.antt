@@ -19,7 +19,7 @@ invariant_of-self c =
     let h = c.args.self.now in
     let b : Inside = record { id = a.id; types = a.types; fields = a.fields; vertices = with_item a.vertices c.args.vertex.0 (record { label = c.args.label; fields = c.index_mut.result.now.fields; first = c.index_mut.result.now.first }); slots = a.slots; live = a.live } in
     let after : (g : GraphOf) → LeftByLabel g c.args.vertex c.args.label h → Opened b g = λ g l.
-        revert_label_after a b h c.args.vertex c.args.label c.index_mut.result.now g c.self.view_is c.self.invariant l c.index_mut.ensures.value refl refl refl refl refl refl in
+    revert_label_after a b h c.args.vertex c.args.label c.index_mut.result.now g c.self.view_is c.self.invariant l c.index_mut.ensures.value refl refl refl refl refl refl in
     closed_arena b c.requires.0 (after c.requires.0 c.requires.1)
 
 pub returns-clause-back : goal.returns-clause-back
@@ -28,7 +28,7 @@ returns-clause-back c =
     let h = c.args.self.now in
     let b : Inside = record { id = a.id; types = a.types; fields = a.fields; vertices = with_item a.vertices c.args.vertex.0 (record { label = c.args.label; fields = c.index_mut.result.now.fields; first = c.index_mut.result.now.first }); slots = a.slots; live = a.live } in
     let after : (g : GraphOf) → LeftByLabel g c.args.vertex c.args.label h → Opened b g = λ g l.
-        revert_label_after a b h c.args.vertex c.args.label c.index_mut.result.now g c.self.view_is c.self.invariant l c.index_mut.ensures.value refl refl refl refl refl refl in
+    revert_label_after a b h c.args.vertex c.args.label c.index_mut.result.now g c.self.view_is c.self.invariant l c.index_mut.ensures.value refl refl refl refl refl refl in
     λ g l. closed b g (after g l)
 
 pub returns-clause-sound : goal.returns-clause-sound
@@ -37,5 +37,5 @@ returns-clause-sound c =
     let h = c.args.self.now in
     let b : Inside = record { id = a.id; types = a.types; fields = a.fields; vertices = with_item a.vertices c.args.vertex.0 (record { label = c.args.label; fields = c.index_mut.result.now.fields; first = c.index_mut.result.now.first }); slots = a.slots; live = a.live } in
     let after : (g : GraphOf) → LeftByLabel g c.args.vertex c.args.label h → Opened b g = λ g l.
-        revert_label_after a b h c.args.vertex c.args.label c.index_mut.result.now g c.self.view_is c.self.invariant l c.index_mut.ensures.value refl refl refl refl refl refl in
+    revert_label_after a b h c.args.vertex c.args.label c.index_mut.result.now g c.self.view_is c.self.invariant l c.index_mut.ensures.value refl refl refl refl refl refl in
     (closed_arena b c.requires.0 (after c.requires.0 c.requires.1)).graph

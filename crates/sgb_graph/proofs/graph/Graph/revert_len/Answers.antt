@@ -20,9 +20,9 @@ invariant_of-self c =
     let h = c.args.self.now in
     let b : Inside = record { id = a.id; types = a.types; fields = a.fields; vertices = a.vertices; slots = with_items a.slots c.replace_len.new.slots; live = a.live } in
     let after : (g : GraphOf) → LeftByLen g c.args.number c.args.len h → Opened b g = λ g l.
-        revert_len_after a b h c.args.number c.args.len _ _ _ g c.self.view_is c.self.invariant l (to_z-of_z w64 c.args.len c.ranges.len)
-          c.deref_mut.ensures.value c.replace_len.ensures.slots refl refl refl refl refl
-          (with_items_is a.slots c.replace_len.new.slots (c.replace_len.auto.slots ∙ c.deref_mut.ensures.len)) in
+    revert_len_after a b h c.args.number c.args.len _ _ _ g c.self.view_is c.self.invariant l (to_z-of_z w64 c.args.len c.ranges.len)
+    c.deref_mut.ensures.value c.replace_len.ensures.slots refl refl refl refl refl
+    (with_items_is a.slots c.replace_len.new.slots (c.replace_len.auto.slots ∙ c.deref_mut.ensures.len)) in
     closed_arena b c.requires.0 (after c.requires.0 c.requires.1)
 
 pub returns-clause-back : goal.returns-clause-back
@@ -31,9 +31,9 @@ returns-clause-back c =
     let h = c.args.self.now in
     let b : Inside = record { id = a.id; types = a.types; fields = a.fields; vertices = a.vertices; slots = with_items a.slots c.replace_len.new.slots; live = a.live } in
     let after : (g : GraphOf) → LeftByLen g c.args.number c.args.len h → Opened b g = λ g l.
-        revert_len_after a b h c.args.number c.args.len _ _ _ g c.self.view_is c.self.invariant l (to_z-of_z w64 c.args.len c.ranges.len)
-          c.deref_mut.ensures.value c.replace_len.ensures.slots refl refl refl refl refl
-          (with_items_is a.slots c.replace_len.new.slots (c.replace_len.auto.slots ∙ c.deref_mut.ensures.len)) in
+    revert_len_after a b h c.args.number c.args.len _ _ _ g c.self.view_is c.self.invariant l (to_z-of_z w64 c.args.len c.ranges.len)
+    c.deref_mut.ensures.value c.replace_len.ensures.slots refl refl refl refl refl
+    (with_items_is a.slots c.replace_len.new.slots (c.replace_len.auto.slots ∙ c.deref_mut.ensures.len)) in
     λ g l. closed b g (after g l)
 
 pub returns-clause-sound : goal.returns-clause-sound
@@ -42,7 +42,7 @@ returns-clause-sound c =
     let h = c.args.self.now in
     let b : Inside = record { id = a.id; types = a.types; fields = a.fields; vertices = a.vertices; slots = with_items a.slots c.replace_len.new.slots; live = a.live } in
     let after : (g : GraphOf) → LeftByLen g c.args.number c.args.len h → Opened b g = λ g l.
-        revert_len_after a b h c.args.number c.args.len _ _ _ g c.self.view_is c.self.invariant l (to_z-of_z w64 c.args.len c.ranges.len)
-          c.deref_mut.ensures.value c.replace_len.ensures.slots refl refl refl refl refl
-          (with_items_is a.slots c.replace_len.new.slots (c.replace_len.auto.slots ∙ c.deref_mut.ensures.len)) in
+    revert_len_after a b h c.args.number c.args.len _ _ _ g c.self.view_is c.self.invariant l (to_z-of_z w64 c.args.len c.ranges.len)
+    c.deref_mut.ensures.value c.replace_len.ensures.slots refl refl refl refl refl
+    (with_items_is a.slots c.replace_len.new.slots (c.replace_len.auto.slots ∙ c.deref_mut.ensures.len)) in
     (closed_arena b c.requires.0 (after c.requires.0 c.requires.1)).graph

@@ -20,11 +20,11 @@ invariant_of-self c =
     let h = c.args.self.now in
     let b : Inside = record { id = a.id; types = a.types; fields = c.exchange.new.fields; vertices = with_items a.vertices c.exchange.new.vertices; slots = with_items a.slots c.exchange.new.slots; live = a.live } in
     let after : (g : GraphOf) → LeftByUtil g c.args.place c.args.value h → Opened b g = λ g l.
-        subst (Opened b) (left_util g h c.args.place c.args.value l).back
-        (util_after a b h c.args.place c.args.value c.args.value c.exchange.result _ _ _ _ _ _
-          (revert_util_requires a h c.args.place c.args.value _ _ _ g c.self.view_is c.self.invariant l refl c.deref_mut.ensures.value c.deref_mut-2.ensures.value) c.exchange.ensures refl
-          (with_items_is a.vertices c.exchange.new.vertices (c.exchange.auto.vertices ∙ c.deref_mut.ensures.len))
-          (with_items_is a.slots c.exchange.new.slots (c.exchange.auto.slots ∙ c.deref_mut-2.ensures.len)) refl refl refl).0 in
+    subst (Opened b) (left_util g h c.args.place c.args.value l).back
+    (util_after a b h c.args.place c.args.value c.args.value c.exchange.result _ _ _ _ _ _
+    (revert_util_requires a h c.args.place c.args.value _ _ _ g c.self.view_is c.self.invariant l refl c.deref_mut.ensures.value c.deref_mut-2.ensures.value) c.exchange.ensures refl
+    (with_items_is a.vertices c.exchange.new.vertices (c.exchange.auto.vertices ∙ c.deref_mut.ensures.len))
+    (with_items_is a.slots c.exchange.new.slots (c.exchange.auto.slots ∙ c.deref_mut-2.ensures.len)) refl refl refl).0 in
     closed_arena b c.requires.0 (after c.requires.0 c.requires.1)
 
 pub returns-clause-back : goal.returns-clause-back
@@ -33,11 +33,11 @@ returns-clause-back c =
     let h = c.args.self.now in
     let b : Inside = record { id = a.id; types = a.types; fields = c.exchange.new.fields; vertices = with_items a.vertices c.exchange.new.vertices; slots = with_items a.slots c.exchange.new.slots; live = a.live } in
     let after : (g : GraphOf) → LeftByUtil g c.args.place c.args.value h → Opened b g = λ g l.
-        subst (Opened b) (left_util g h c.args.place c.args.value l).back
-        (util_after a b h c.args.place c.args.value c.args.value c.exchange.result _ _ _ _ _ _
-          (revert_util_requires a h c.args.place c.args.value _ _ _ g c.self.view_is c.self.invariant l refl c.deref_mut.ensures.value c.deref_mut-2.ensures.value) c.exchange.ensures refl
-          (with_items_is a.vertices c.exchange.new.vertices (c.exchange.auto.vertices ∙ c.deref_mut.ensures.len))
-          (with_items_is a.slots c.exchange.new.slots (c.exchange.auto.slots ∙ c.deref_mut-2.ensures.len)) refl refl refl).0 in
+    subst (Opened b) (left_util g h c.args.place c.args.value l).back
+    (util_after a b h c.args.place c.args.value c.args.value c.exchange.result _ _ _ _ _ _
+    (revert_util_requires a h c.args.place c.args.value _ _ _ g c.self.view_is c.self.invariant l refl c.deref_mut.ensures.value c.deref_mut-2.ensures.value) c.exchange.ensures refl
+    (with_items_is a.vertices c.exchange.new.vertices (c.exchange.auto.vertices ∙ c.deref_mut.ensures.len))
+    (with_items_is a.slots c.exchange.new.slots (c.exchange.auto.slots ∙ c.deref_mut-2.ensures.len)) refl refl refl).0 in
     λ g l. closed b g (after g l)
 
 pub returns-clause-sound : goal.returns-clause-sound
@@ -46,9 +46,9 @@ returns-clause-sound c =
     let h = c.args.self.now in
     let b : Inside = record { id = a.id; types = a.types; fields = c.exchange.new.fields; vertices = with_items a.vertices c.exchange.new.vertices; slots = with_items a.slots c.exchange.new.slots; live = a.live } in
     let after : (g : GraphOf) → LeftByUtil g c.args.place c.args.value h → Opened b g = λ g l.
-        subst (Opened b) (left_util g h c.args.place c.args.value l).back
-        (util_after a b h c.args.place c.args.value c.args.value c.exchange.result _ _ _ _ _ _
-          (revert_util_requires a h c.args.place c.args.value _ _ _ g c.self.view_is c.self.invariant l refl c.deref_mut.ensures.value c.deref_mut-2.ensures.value) c.exchange.ensures refl
-          (with_items_is a.vertices c.exchange.new.vertices (c.exchange.auto.vertices ∙ c.deref_mut.ensures.len))
-          (with_items_is a.slots c.exchange.new.slots (c.exchange.auto.slots ∙ c.deref_mut-2.ensures.len)) refl refl refl).0 in
+    subst (Opened b) (left_util g h c.args.place c.args.value l).back
+    (util_after a b h c.args.place c.args.value c.args.value c.exchange.result _ _ _ _ _ _
+    (revert_util_requires a h c.args.place c.args.value _ _ _ g c.self.view_is c.self.invariant l refl c.deref_mut.ensures.value c.deref_mut-2.ensures.value) c.exchange.ensures refl
+    (with_items_is a.vertices c.exchange.new.vertices (c.exchange.auto.vertices ∙ c.deref_mut.ensures.len))
+    (with_items_is a.slots c.exchange.new.slots (c.exchange.auto.slots ∙ c.deref_mut-2.ensures.len)) refl refl refl).0 in
     (closed_arena b c.requires.0 (after c.requires.0 c.requires.1)).graph

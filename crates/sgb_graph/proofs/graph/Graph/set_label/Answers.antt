@@ -13,7 +13,7 @@ invariant_of-self c =
     let x = c.index_mut.result.now in
     let b : Inside = record { id = a.id; types = a.types; fields = a.fields; vertices = with_item a.vertices c.args.vertex.0 (record { label = c.replace-old.new.dest; fields = x.fields; first = x.first }); slots = a.slots; live = a.live } in
     (label_done a b g c.args.vertex c.args.text c.replace-old.new.dest c.replace-old.result x c.self.view_is c.self.invariant low c.new-label.ensures.text
-      c.index_mut.ensures.value c.replace-old.ensures.value (c.replace-old.ensures.after ∙ c.new-label.ensures.value) refl refl refl refl refl refl).arena
+    c.index_mut.ensures.value c.replace-old.ensures.value (c.replace-old.ensures.after ∙ c.new-label.ensures.value) refl refl refl refl refl refl).arena
 
 pub returns-clause-graph : goal.returns-clause-graph
 returns-clause-graph c =
@@ -23,7 +23,7 @@ returns-clause-graph c =
     let x = c.index_mut.result.now in
     let b : Inside = record { id = a.id; types = a.types; fields = a.fields; vertices = with_item a.vertices c.args.vertex.0 (record { label = c.replace-old.new.dest; fields = x.fields; first = x.first }); slots = a.slots; live = a.live } in
     (label_done a b g c.args.vertex c.args.text c.replace-old.new.dest c.replace-old.result x c.self.view_is c.self.invariant low c.new-label.ensures.text
-      c.index_mut.ensures.value c.replace-old.ensures.value (c.replace-old.ensures.after ∙ c.new-label.ensures.value) refl refl refl refl refl refl).graph
+    c.index_mut.ensures.value c.replace-old.ensures.value (c.replace-old.ensures.after ∙ c.new-label.ensures.value) refl refl refl refl refl refl).graph
 
 pub returns-clause-left : goal.returns-clause-left
 returns-clause-left c =
@@ -33,7 +33,7 @@ returns-clause-left c =
     let x = c.index_mut.result.now in
     let b : Inside = record { id = a.id; types = a.types; fields = a.fields; vertices = with_item a.vertices c.args.vertex.0 (record { label = c.replace-old.new.dest; fields = x.fields; first = x.first }); slots = a.slots; live = a.live } in
     (label_done a b g c.args.vertex c.args.text c.replace-old.new.dest c.replace-old.result x c.self.view_is c.self.invariant low c.new-label.ensures.text
-      c.index_mut.ensures.value c.replace-old.ensures.value (c.replace-old.ensures.after ∙ c.new-label.ensures.value) refl refl refl refl refl refl).left
+    c.index_mut.ensures.value c.replace-old.ensures.value (c.replace-old.ensures.after ∙ c.new-label.ensures.value) refl refl refl refl refl refl).left
 
 pub returns-clause-sound : goal.returns-clause-sound
 returns-clause-sound c =
@@ -43,4 +43,4 @@ returns-clause-sound c =
     let x = c.index_mut.result.now in
     let b : Inside = record { id = a.id; types = a.types; fields = a.fields; vertices = with_item a.vertices c.args.vertex.0 (record { label = c.replace-old.new.dest; fields = x.fields; first = x.first }); slots = a.slots; live = a.live } in
     (label_done a b g c.args.vertex c.args.text c.replace-old.new.dest c.replace-old.result x c.self.view_is c.self.invariant low c.new-label.ensures.text
-      c.index_mut.ensures.value c.replace-old.ensures.value (c.replace-old.ensures.after ∙ c.new-label.ensures.value) refl refl refl refl refl refl).sound
+    c.index_mut.ensures.value c.replace-old.ensures.value (c.replace-old.ensures.after ∙ c.new-label.ensures.value) refl refl refl refl refl refl).sound

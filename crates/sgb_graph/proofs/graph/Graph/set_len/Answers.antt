@@ -15,8 +15,8 @@ invariant_of-self c =
     let there : has_arc g c.args.number.0 ≡ true = sym c.has_arc.ensures.value ∙ c.if-not-has_arc.false in
     let b : Inside = record { id = a.id; types = a.types; fields = a.fields; vertices = a.vertices; slots = with_items a.slots c.replace_len-old.new.slots; live = a.live } in
     (len_done a b g c.args.number c.args.len _ c.replace_len-old.result c.deref_mut.result.now _ c.self.view_is c.self.invariant there c.ranges.len (to_z-of_z w64 c.args.len c.ranges.len)
-      c.deref_mut.ensures.value c.replace_len-old.ensures.old c.replace_len-old.ensures.slots refl refl refl refl refl
-      (with_items_is a.slots c.replace_len-old.new.slots (c.replace_len-old.auto.slots ∙ c.deref_mut.ensures.len))).arena
+    c.deref_mut.ensures.value c.replace_len-old.ensures.old c.replace_len-old.ensures.slots refl refl refl refl refl
+    (with_items_is a.slots c.replace_len-old.new.slots (c.replace_len-old.auto.slots ∙ c.deref_mut.ensures.len))).arena
 
 pub returns-clause-graph : goal.returns-clause-graph
 returns-clause-graph c =
@@ -25,8 +25,8 @@ returns-clause-graph c =
     let there : has_arc g c.args.number.0 ≡ true = sym c.has_arc.ensures.value ∙ c.if-not-has_arc.false in
     let b : Inside = record { id = a.id; types = a.types; fields = a.fields; vertices = a.vertices; slots = with_items a.slots c.replace_len-old.new.slots; live = a.live } in
     (len_done a b g c.args.number c.args.len _ c.replace_len-old.result c.deref_mut.result.now _ c.self.view_is c.self.invariant there c.ranges.len (to_z-of_z w64 c.args.len c.ranges.len)
-      c.deref_mut.ensures.value c.replace_len-old.ensures.old c.replace_len-old.ensures.slots refl refl refl refl refl
-      (with_items_is a.slots c.replace_len-old.new.slots (c.replace_len-old.auto.slots ∙ c.deref_mut.ensures.len))).graph
+    c.deref_mut.ensures.value c.replace_len-old.ensures.old c.replace_len-old.ensures.slots refl refl refl refl refl
+    (with_items_is a.slots c.replace_len-old.new.slots (c.replace_len-old.auto.slots ∙ c.deref_mut.ensures.len))).graph
 
 pub returns-clause-left : goal.returns-clause-left
 returns-clause-left c =
@@ -35,8 +35,8 @@ returns-clause-left c =
     let there : has_arc g c.args.number.0 ≡ true = sym c.has_arc.ensures.value ∙ c.if-not-has_arc.false in
     let b : Inside = record { id = a.id; types = a.types; fields = a.fields; vertices = a.vertices; slots = with_items a.slots c.replace_len-old.new.slots; live = a.live } in
     (len_done a b g c.args.number c.args.len _ c.replace_len-old.result c.deref_mut.result.now _ c.self.view_is c.self.invariant there c.ranges.len (to_z-of_z w64 c.args.len c.ranges.len)
-      c.deref_mut.ensures.value c.replace_len-old.ensures.old c.replace_len-old.ensures.slots refl refl refl refl refl
-      (with_items_is a.slots c.replace_len-old.new.slots (c.replace_len-old.auto.slots ∙ c.deref_mut.ensures.len))).left
+    c.deref_mut.ensures.value c.replace_len-old.ensures.old c.replace_len-old.ensures.slots refl refl refl refl refl
+    (with_items_is a.slots c.replace_len-old.new.slots (c.replace_len-old.auto.slots ∙ c.deref_mut.ensures.len))).left
 
 pub returns-clause-sound : goal.returns-clause-sound
 returns-clause-sound c =
@@ -45,5 +45,5 @@ returns-clause-sound c =
     let there : has_arc g c.args.number.0 ≡ true = sym c.has_arc.ensures.value ∙ c.if-not-has_arc.false in
     let b : Inside = record { id = a.id; types = a.types; fields = a.fields; vertices = a.vertices; slots = with_items a.slots c.replace_len-old.new.slots; live = a.live } in
     (len_done a b g c.args.number c.args.len _ c.replace_len-old.result c.deref_mut.result.now _ c.self.view_is c.self.invariant there c.ranges.len (to_z-of_z w64 c.args.len c.ranges.len)
-      c.deref_mut.ensures.value c.replace_len-old.ensures.old c.replace_len-old.ensures.slots refl refl refl refl refl
-      (with_items_is a.slots c.replace_len-old.new.slots (c.replace_len-old.auto.slots ∙ c.deref_mut.ensures.len))).sound
+    c.deref_mut.ensures.value c.replace_len-old.ensures.old c.replace_len-old.ensures.slots refl refl refl refl refl
+    (with_items_is a.slots c.replace_len-old.new.slots (c.replace_len-old.auto.slots ∙ c.deref_mut.ensures.len))).sound

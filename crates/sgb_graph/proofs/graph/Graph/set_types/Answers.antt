@@ -9,5 +9,5 @@ returns-clause-left c =
       types = c.args.types;
       graph = subst IsGraph c.self.view_is c.self.invariant.graph;
       kept = c.replace-old.ensures.value ∙ ap (λ (g : GraphOf). g.types) c.self.view_is;
-      left = ap (λ t. record (graph_of c.self.inside) { types = t }) c.replace-old.ensures.after ∙ ap (λ (g : GraphOf). record g { types = c.args.types }) c.self.view_is
+      left = ap (λ t. record (graph_of c.self.inside) { types = t }) c.replace-old.ensures.after ∙ ap (λ (g : GraphOf). record g { types = c.args.types }) c.self.view_is;
     }

@@ -19,7 +19,7 @@ exchange-old-requires c =
       value = value_sound g c.args.value c.stored-value.result named c.stored-value.ensures.value c.stored-value.ensures.storable;
       fields = refl;
       vertices = c.deref_mut.ensures.value;
-      slots = c.deref_mut-2.ensures.value
+      slots = c.deref_mut-2.ensures.value;
     } in
     util_requires _ _ _ _ _ _ _ _ k
 
@@ -35,12 +35,12 @@ invariant_of-self c =
       value = value_sound g c.args.value c.stored-value.result named c.stored-value.ensures.value c.stored-value.ensures.storable;
       fields = refl;
       vertices = c.deref_mut.ensures.value;
-      slots = c.deref_mut-2.ensures.value
+      slots = c.deref_mut-2.ensures.value;
     } in
     let b : Inside = record { id = a.id; types = a.types; fields = c.exchange-old.new.fields; vertices = with_items a.vertices c.exchange-old.new.vertices; slots = with_items a.slots c.exchange-old.new.slots; live = a.live } in
     (util_done a b g c.args.place c.args.value c.stored-value.result c.exchange-old.result _ _ _ _ _ _ k named c.stored-value.ensures.value c.stored-value.ensures.storable c.exchange-old.ensures refl
-      (with_items_is a.vertices c.exchange-old.new.vertices (c.exchange-old.auto.vertices ∙ c.deref_mut.ensures.len))
-      (with_items_is a.slots c.exchange-old.new.slots (c.exchange-old.auto.slots ∙ c.deref_mut-2.ensures.len)) refl refl refl).arena
+    (with_items_is a.vertices c.exchange-old.new.vertices (c.exchange-old.auto.vertices ∙ c.deref_mut.ensures.len))
+    (with_items_is a.slots c.exchange-old.new.slots (c.exchange-old.auto.slots ∙ c.deref_mut-2.ensures.len)) refl refl refl).arena
 
 pub returns-clause-graph : goal.returns-clause-graph
 returns-clause-graph c =
@@ -54,12 +54,12 @@ returns-clause-graph c =
       value = value_sound g c.args.value c.stored-value.result named c.stored-value.ensures.value c.stored-value.ensures.storable;
       fields = refl;
       vertices = c.deref_mut.ensures.value;
-      slots = c.deref_mut-2.ensures.value
+      slots = c.deref_mut-2.ensures.value;
     } in
     let b : Inside = record { id = a.id; types = a.types; fields = c.exchange-old.new.fields; vertices = with_items a.vertices c.exchange-old.new.vertices; slots = with_items a.slots c.exchange-old.new.slots; live = a.live } in
     (util_done a b g c.args.place c.args.value c.stored-value.result c.exchange-old.result _ _ _ _ _ _ k named c.stored-value.ensures.value c.stored-value.ensures.storable c.exchange-old.ensures refl
-      (with_items_is a.vertices c.exchange-old.new.vertices (c.exchange-old.auto.vertices ∙ c.deref_mut.ensures.len))
-      (with_items_is a.slots c.exchange-old.new.slots (c.exchange-old.auto.slots ∙ c.deref_mut-2.ensures.len)) refl refl refl).graph
+    (with_items_is a.vertices c.exchange-old.new.vertices (c.exchange-old.auto.vertices ∙ c.deref_mut.ensures.len))
+    (with_items_is a.slots c.exchange-old.new.slots (c.exchange-old.auto.slots ∙ c.deref_mut-2.ensures.len)) refl refl refl).graph
 
 pub returns-clause-left : goal.returns-clause-left
 returns-clause-left c =
@@ -73,12 +73,12 @@ returns-clause-left c =
       value = value_sound g c.args.value c.stored-value.result named c.stored-value.ensures.value c.stored-value.ensures.storable;
       fields = refl;
       vertices = c.deref_mut.ensures.value;
-      slots = c.deref_mut-2.ensures.value
+      slots = c.deref_mut-2.ensures.value;
     } in
     let b : Inside = record { id = a.id; types = a.types; fields = c.exchange-old.new.fields; vertices = with_items a.vertices c.exchange-old.new.vertices; slots = with_items a.slots c.exchange-old.new.slots; live = a.live } in
     (util_done a b g c.args.place c.args.value c.stored-value.result c.exchange-old.result _ _ _ _ _ _ k named c.stored-value.ensures.value c.stored-value.ensures.storable c.exchange-old.ensures refl
-      (with_items_is a.vertices c.exchange-old.new.vertices (c.exchange-old.auto.vertices ∙ c.deref_mut.ensures.len))
-      (with_items_is a.slots c.exchange-old.new.slots (c.exchange-old.auto.slots ∙ c.deref_mut-2.ensures.len)) refl refl refl).left
+    (with_items_is a.vertices c.exchange-old.new.vertices (c.exchange-old.auto.vertices ∙ c.deref_mut.ensures.len))
+    (with_items_is a.slots c.exchange-old.new.slots (c.exchange-old.auto.slots ∙ c.deref_mut-2.ensures.len)) refl refl refl).left
 
 pub returns-clause-sound : goal.returns-clause-sound
 returns-clause-sound c =
@@ -92,9 +92,9 @@ returns-clause-sound c =
       value = value_sound g c.args.value c.stored-value.result named c.stored-value.ensures.value c.stored-value.ensures.storable;
       fields = refl;
       vertices = c.deref_mut.ensures.value;
-      slots = c.deref_mut-2.ensures.value
+      slots = c.deref_mut-2.ensures.value;
     } in
     let b : Inside = record { id = a.id; types = a.types; fields = c.exchange-old.new.fields; vertices = with_items a.vertices c.exchange-old.new.vertices; slots = with_items a.slots c.exchange-old.new.slots; live = a.live } in
     (util_done a b g c.args.place c.args.value c.stored-value.result c.exchange-old.result _ _ _ _ _ _ k named c.stored-value.ensures.value c.stored-value.ensures.storable c.exchange-old.ensures refl
-      (with_items_is a.vertices c.exchange-old.new.vertices (c.exchange-old.auto.vertices ∙ c.deref_mut.ensures.len))
-      (with_items_is a.slots c.exchange-old.new.slots (c.exchange-old.auto.slots ∙ c.deref_mut-2.ensures.len)) refl refl refl).sound
+    (with_items_is a.vertices c.exchange-old.new.vertices (c.exchange-old.auto.vertices ∙ c.deref_mut.ensures.len))
+    (with_items_is a.slots c.exchange-old.new.slots (c.exchange-old.auto.slots ∙ c.deref_mut-2.ensures.len)) refl refl refl).sound

@@ -14,7 +14,7 @@ put_back-requires-2 c =
       graph = with_cut_arc r.graph c.args.one;
       sound = put_sound r.graph c.args.one r.sound r.can;
       shows = c.put_back.ensures r.graph r.shows r.sound r.can;
-      can = r.next
+      can = r.next;
     }
 
 pub returns : goal.returns

@@ -11,6 +11,7 @@ pub loop-other-init : goal.loop-other-init
 loop-other-init c =
     let ss = c.args.slots.now in
     let same : c.into_iter-other-iterator.result ≡ numbers ss c.args.first =
-        c.into_iter-other-iterator.ensures.into_iter_gives ∙ c.new-other-items.ensures in
-    (begins _ (numbers ss c.args.first) _ same,
-     omega (arith, ap length same, length-chain (next_at ss) (length ss) c.args.first))
+    c.into_iter-other-iterator.ensures.into_iter_gives ∙ c.new-other-items.ensures in (
+      begins _ (numbers ss c.args.first) _ same,
+      omega (arith, ap length same, length-chain (next_at ss) (length ss) c.args.first),
+    )

@@ -26,7 +26,7 @@ replace_link-next-requires-clause-before c = λ p e.
     let r = c.requires in
     let same = (put_linked c.args.vertices.now c.args.slots.now c.gain_names.new.slots r.graph c.args.cut c.index-vertices-owner.result r.shows r.sound r.can c.gain_names.ensures).1 in
     let is : c.number_before-before.result ≡ number_before (arcs_of r.graph c.args.cut.owner.0) c.args.cut.place =
-        c.number_before-before.ensures ∙ ap (λ ks. number_before ks c.args.cut.place) same in
+    c.number_before-before.ensures ∙ ap (λ ks. number_before ks c.args.cut.place) same in
     let low : p.0 < made_of r.graph = before_within r.graph c.args.cut.owner.0 c.args.cut.place _ r.sound is r.can.place p e in
     omega (arith, low, r.shows.made, ap length c.gain_names.ensures, length-gaining c.args.slots.now (value_at c.args.cut.fields 0), length-gaining (slots_gaining c.args.slots.now (value_at c.args.cut.fields 0)) (value_at c.args.cut.fields 1))
 

@@ -17,16 +17,16 @@ replace_link-requires-clause-before c =
 pub lose_names-requires-clause-first : goal.lose_names-requires-clause-first
 lose_names-requires-clause-first c =
     (lose_room_at c.args.vertices.now c.args.slots.now c.remove_slot-slot.new.slots c.replace_link.new.slots c.requires.graph c.args.number c.owner_at-owner.result c.index-vertices-owner.result c.number_before-before.result c.remove_slot-slot.result
-      c.requires.shows c.requires.sound c.owner_at-owner.ensures c.remove_slot-slot.ensures.slot c.remove_slot-slot.ensures.slots c.replace_link.ensures.slots).first
+    c.requires.shows c.requires.sound c.owner_at-owner.ensures c.remove_slot-slot.ensures.slot c.remove_slot-slot.ensures.slots c.replace_link.ensures.slots).first
 
 pub lose_names-requires-clause-second : goal.lose_names-requires-clause-second
 lose_names-requires-clause-second c =
     (lose_room_at c.args.vertices.now c.args.slots.now c.remove_slot-slot.new.slots c.replace_link.new.slots c.requires.graph c.args.number c.owner_at-owner.result c.index-vertices-owner.result c.number_before-before.result c.remove_slot-slot.result
-      c.requires.shows c.requires.sound c.owner_at-owner.ensures c.remove_slot-slot.ensures.slot c.remove_slot-slot.ensures.slots c.replace_link.ensures.slots).second
+    c.requires.shows c.requires.sound c.owner_at-owner.ensures c.remove_slot-slot.ensures.slot c.remove_slot-slot.ensures.slots c.replace_link.ensures.slots).second
 
 pub returns : goal.returns
 returns c = λ g shows sound can.
     let r = take_out_done c.args.vertices.now _ c.args.slots.now _ _ _ g c.args.number c.owner_at-owner.result c.index-vertices-owner.result c.place_in-place.result c.number_before-before.result c.remove_slot-slot.result
-      shows sound c.owner_at-owner.ensures c.remove_slot-slot.ensures.slot c.place_in-place.ensures c.number_before-before.ensures
-      c.remove_slot-slot.ensures.slots c.replace_link.ensures.vertices c.replace_link.ensures.slots c.lose_names.ensures in
+    shows sound c.owner_at-owner.ensures c.remove_slot-slot.ensures.slot c.place_in-place.ensures c.number_before-before.ensures
+    c.remove_slot-slot.ensures.slots c.replace_link.ensures.vertices c.replace_link.ensures.slots c.lose_names.ensures in
     (r.cut, r.shows)

@@ -15,7 +15,7 @@ take_out-requires-2 c =
       graph = without_arc r.graph k;
       sound = take_sound r.graph k r.sound r.can (found_live r.graph k r.sound r.can.live);
       shows = (c.take_out.ensures r.graph r.shows r.sound r.can).1;
-      can = r.next
+      can = r.next;
     }
 
 pub returns : goal.returns

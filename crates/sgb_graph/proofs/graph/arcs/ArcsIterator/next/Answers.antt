@@ -17,7 +17,7 @@ returns-in-Some-clause-steps c =
 pub returns-in-Some-clause-goes : goal.returns-in-Some-clause-goes
 returns-in-Some-clause-goes c =
     let s : Gives c.self.inside.slots.now c.next_after-self-inside.result c.args.self.now c.in-Some.number =
-        gives_next c.self.inside.slots.now c.self.inside.next _ c.in-Some.number _ c.self.invariant c.in-Some.is c.self.view_is c.next_after-self-inside.ensures in
+    gives_next c.self.inside.slots.now c.self.inside.next _ c.in-Some.number _ c.self.invariant c.in-Some.is c.self.view_is c.next_after-self-inside.ensures in
     let shorter = s.shorter in
     search (rules, shorter)
 

@@ -1,0 +1,71 @@
+//! Whether each value is one that its letter allows.
+ghost use Rattle.std.specs.Prelude.{◌≡◌};
+ghost use Rattle.std.specs.List.{list_all};
+ghost use Rattle.sgb_graph.specs.Exchange.{fields_in};
+ghost use Rattle.sgb_graph.specs.Honest.{is_allowed, are_allowed, is_honest};
+
+use super::{Graph, Slot, Vertex};
+use crate::Util;
+
+impl Graph {
+    /// Each utility field holds a value that its letter allows.
+    pub fn is_honest(&self) -> bool
+        ensures { result ≡ is_honest self.now }
+    {
+        let letters = self.types.letters();
+        let (vertex_letters, rest) = letters.split_at(6);
+        let (arc_letters, graph_letters) = rest.split_at(2);
+        if !are_allowed(graph_letters, &self.fields) {
+            return false;
+        }
+        if !are_vertices_honest(vertex_letters, &self.vertices) {
+            return false;
+        }
+        are_arcs_honest(arc_letters, &self.slots)
+    }
+}
+
+fn are_vertices_honest(letters: &[u8], vertices: &[Vertex]) -> bool
+    ensures { result ≡ list_all (λ v. are_allowed letters.now v.fields) vertices.now }
+{
+    vertices
+        .iter()
+        .all(|vertex| are_allowed(letters, &vertex.fields))
+}
+
+fn are_arcs_honest(letters: &[u8], slots: &[Option<Slot>]) -> bool
+    ensures { result ≡ list_all (λ o. are_allowed letters.now (fields_in o)) slots.now }
+{
+    slots.iter().all(|slot| is_slot_honest(letters, slot))
+}
+
+fn is_slot_honest(letters: &[u8], slot: &Option<Slot>) -> bool
+    ensures { result ≡ are_allowed letters.now (fields_in slot.now) }
+{
+    match slot {
+        Some(slot) => are_allowed(letters, &slot.fields),
+        None => true,
+    }
+}
+
+// Each value is allowed by the letter at its place.
+fn are_allowed(letters: &[u8], values: &[Util]) -> bool
+    ensures { result ≡ are_allowed letters.now values.now }
+{
+    values
+        .iter()
+        .zip(letters)
+        .all(|(value, letter)| is_allowed(*letter, value))
+}
+
+fn is_allowed(letter: u8, value: &Util) -> bool
+    ensures { result ≡ is_allowed letter value.now }
+{
+    match value {
+        Util::Zero => true,
+        Util::Int(number) => letter == b'I' || ((letter == b'V' || letter == b'A') && *number == 1),
+        Util::Vertex(_) => letter == b'V',
+        Util::Arc(_) => letter == b'A',
+        Util::Text(_) => letter == b'S',
+    }
+}
