@@ -1,6 +1,7 @@
 pub mod Drawing
 pub mod Line
 pub mod Lines
+pub mod Meter
 pub mod Performing
 pub mod Print
 pub mod Reaching

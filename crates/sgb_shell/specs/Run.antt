@@ -11,23 +11,24 @@ use Rattle.sgb_shell.specs.Reaching.{Progress, Stopped}
 use Rattle.sgb_shell.specs.Transcript.{course, transcript, whole_transcript}
 
 -- What a run did that took the bytes of a script. `left` are the bytes that the reader had, `held` those
--- of the writer, before and after; the two truth values tell whether a read and a write failed.
-abbrev pub Ends : List ℕ → List ℕ → Option (List ℕ) → Option (List ℕ) → Bool → Option (List ℕ) → Option (List ℕ) → Bool → Result RunEnd RunFault → Type 0
-Ends script no_room left left' read_failed held held' write_failed (Ok end) =
+-- of the writer, before and after; the two truth values tell whether a read and a write failed, and `reads`
+-- how many reads were made.
+abbrev pub Ends : List ℕ → List ℕ → Option (List ℕ) → Option (List ℕ) → Bool → ℕ → Option (List ℕ) → Option (List ℕ) → Bool → Result RunEnd RunFault → Type 0
+Ends script no_room left left' read_failed reads held held' write_failed (Ok end) =
     Consumes left left' script × IsAtEnd left' × (read_failed ≡ false) × (write_failed ≡ false)
     × Appends held held' (transcript no_room script)
     × (end.lines ≡ length (lines script)) × (end.refused ≡ (course no_room (lines script)).refused)
-Ends script no_room left left' read_failed held held' write_failed (Err Read) =
+Ends script no_room left left' read_failed reads held held' write_failed (Err Read) =
     Consumes left left' script × (read_failed ≡ true) × (write_failed ≡ false)
     × Appends held held' (whole_transcript no_room script)
-Ends script no_room left left' read_failed held held' write_failed (Err TooLong) =
+Ends script no_room left left' read_failed reads held held' write_failed (Err TooLong) =
     (length script ≡ 16777216) × ((more : ℕ) × Consumes left left' (script ++ more ∷ [])) × (read_failed ≡ false) × (write_failed ≡ false)
     × Appends held held' (whole_transcript no_room script)
-Ends script no_room left left' read_failed held held' write_failed (Err Write) =
+Ends script no_room left left' read_failed reads held held' write_failed (Err Write) =
     Consumes left left' script × (read_failed ≡ false) × (write_failed ≡ true)
     × AppendsFront held held' (transcript no_room script)
-Ends script no_room left left' read_failed held held' write_failed (Err NoRoom) =
-    (script ≡ []) × Consumes left left' [] × (read_failed ≡ false) × (write_failed ≡ false) × Appends held held' []
+Ends script no_room left left' read_failed reads held held' write_failed (Err NoRoom) =
+    (script ≡ []) × (reads ≡ 0) × Consumes left left' [] × (read_failed ≡ false) × (write_failed ≡ false) × Appends held held' []
 
 -- a run takes some bytes, and no more reads than one for each of them and one to see the end
 pub record Runs (left left' : Option (List ℕ)) (read_failed : Bool) (reads : ℕ) (held held' : Option (List ℕ)) (write_failed : Bool) (result : Result RunEnd RunFault) : Type 0 where
@@ -35,7 +36,7 @@ pub record Runs (left left' : Option (List ℕ)) (read_failed : Bool) (reads : �
   pub no_room : List ℕ
   pub few : length script ≤ 16777216
   pub seldom : reads ≤ length script + 1
-  pub ends : Ends script no_room left left' read_failed held held' write_failed result
+  pub ends : Ends script no_room left left' read_failed reads held held' write_failed result
 
 -- the same before the last line, which no newline ends, is answered
 abbrev pub ScriptEnds : {X : Type 0} → List ℕ → Option (List ℕ) → Option (List ℕ) → Bool → Option (List ℕ) → Option (List ℕ) → Bool

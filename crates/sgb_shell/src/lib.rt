@@ -1,4 +1,4 @@
-//! The session of named graphs, its script language and its transcript.
+//! The session, its script language and its transcript.
 #![tactic(auto)]
 
 mod answer;
@@ -21,6 +21,6 @@ pub use line::{LINE_LIMIT, parse};
 pub use mark::Mark;
 pub use meter::{Failed, MeteredReader, MeteredWriter};
 pub use refusal::ShellRefusal;
-pub use script::{Ended, SCRIPT_LIMIT, run, transcript_of};
+pub use script::{Ended, SCRIPT_LIMIT, run};
 pub use session::{MOST_DRAWS, MOST_UNIFORM, Session};
 pub use status::exit_status;

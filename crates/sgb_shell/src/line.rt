@@ -1,5 +1,5 @@
 //! Reads one line of a script.
-ghost use Rattle.std.specs.Prelude.{◌≡◌, [], ◌∷◌, MatchOption, Ok, length, ◌≤◌, ◌==◌, not, slice_index};
+ghost use Rattle.std.specs.Prelude.{◌≡◌, [], ◌∷◌, MatchOption, length, ◌≤◌, ◌==◌, not, slice_index};
 ghost use Rattle.std.specs.List.{prefix_len, list_all};
 ghost use Rattle.std.specs.Option.{ok_or};
 ghost use Rattle.sgb_shell.specs.Line.{words_of, number_of, keyword_of, one_number, line_of, asked_of, is_printable_byte, when_alone};

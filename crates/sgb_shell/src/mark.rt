@@ -1,5 +1,5 @@
 //! The session's generator: a seed and how many numbers were drawn since.
-ghost use Rattle.std.specs.Prelude.{◌≡◌, ◌+◌, ◌-◌, ◌<◌, ◌≤◌, ◌^◌};
+ghost use Rattle.std.specs.Prelude.{◌≡◌, ◌<◌, ◌≤◌, ◌^◌};
 ghost use Rattle.sgb_flip.specs.Generator.{drawn, seed_number, uniform};
 ghost use Rattle.sgb_shell.specs.Drawing.{seeded_by, drawn_on, drawn_back, generator_of};
 

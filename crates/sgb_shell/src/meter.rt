@@ -1,10 +1,10 @@
-//! A reader and a writer that remember whether a call failed, so that a contract can say that a
-//! fault was met.
-ghost use Rattle.std.specs.Prelude.{◌≡◌, ◌+◌, ◌<◌, ◌≤◌, ◌^◌, true, false, length, OnOk, OnErr, IfOk, is_err, ◌||◌};
+//! A reader and a writer that remember whether a call failed. Contracts tell faults by that.
+ghost use Rattle.std.specs.Prelude.{◌≡◌, ◌+◌, ◌<◌, ◌^◌, false, length, IfOk, is_err, ◌||◌};
 ghost use Rattle.std.specs.Io.{ReadsAtMost, WritesAtMost};
 ghost use Rattle.std.specs.Io.KnownBytes.{ReadConsumes, WriteAppends};
 
 use std::io::{Read, Write};
+use std::marker::Model;
 
 /// A read or a write failed. What went wrong is not told.
 #[derive(Clone, Copy, Debug, PartialEq, Eq)]
@@ -13,21 +13,32 @@ pub struct Failed;
 /// A reader, how often it was asked, and whether it ever failed.
 #[derive(Debug, Drop)]
 pub struct MeteredReader<R> {
-    /// The reader itself.
-    pub inner: R,
-    /// How many reads were made.
-    pub reads: u64,
-    /// Whether a read failed.
-    pub failed: bool,
+    inner: R,
+    reads: u64,
+    failed: bool,
 }
 
 /// A writer, and whether it ever failed.
 #[derive(Debug, Drop)]
 pub struct MeteredWriter<W> {
-    /// The writer itself.
-    pub inner: W,
-    /// Whether a write failed.
-    pub failed: bool,
+    inner: W,
+    failed: bool,
+}
+
+impl<R> Model for MeteredReader<R> {
+    ghost use Rattle.sgb_shell.specs.Meter.{ReaderUse};
+
+    ghost Value = { ReaderUse R };
+
+    ghost view = { λ m. record { inner = m.inner; reads = m.reads; failed = m.failed } };
+}
+
+impl<W> Model for MeteredWriter<W> {
+    ghost use Rattle.sgb_shell.specs.Meter.{WriterUse};
+
+    ghost Value = { WriterUse W };
+
+    ghost view = { λ m. record { inner = m.inner; failed = m.failed } };
 }
 
 impl<R: Read> MeteredReader<R> {
@@ -44,7 +55,22 @@ impl<R: Read> MeteredReader<R> {
         }
     }
 
-    /// Makes one read. No bytes at `Ok` say that there are no more. An interrupted read has failed.
+    /// How many reads were made.
+    pub fn reads(&self) -> u64
+        ensures { result ≡ self.now.reads }
+    {
+        self.reads
+    }
+
+    /// The reader itself.
+    pub fn into_inner(self) -> R
+        ensures { result ≡ self.inner }
+    {
+        self.inner
+    }
+
+    /// Makes one read. Where the buffer has room, no bytes at `Ok` say that there are no more. An
+    /// interrupted read has failed.
     pub fn read(&mut self, buffer: &mut [u8]) -> Result<usize, Failed>
         requires { self.old.reads < 2 ^ 63 }
         ensures reads { self.new.reads ≡ self.old.reads + 1 }
@@ -73,6 +99,13 @@ impl<W: Write> MeteredWriter<W> {
             inner,
             failed: false,
         }
+    }
+
+    /// The writer itself.
+    pub fn into_inner(self) -> W
+        ensures { result ≡ self.inner }
+    {
+        self.inner
     }
 
     /// Makes one write of some bytes. To take none of them is to fail.

@@ -1,5 +1,4 @@
 //! Prints bytes to a metered writer.
-ghost use Rattle.std.specs.Prelude.{List};
 ghost use Rattle.std.specs.List.{flat_map};
 ghost use Rattle.sgb_shell.specs.Print.{Prints};
 

@@ -5,18 +5,25 @@ use thiserror::Error;
 /// Why a line or a command was refused. Whatever was refused has changed nothing.
 #[derive(Clone, Copy, Debug, PartialEq, Eq, Error)]
 pub enum ShellRefusal {
+    /// 1: memory was wanted and not given.
     #[error("no room")]
     NoRoom,
+    /// 30: a number is outside its range.
     #[error("bad specification")]
     BadSpecs,
+    /// 40: too many numbers were drawn since the seeding.
     #[error("too large")]
     TooLarge,
+    /// 100: the line is none of the language.
     #[error("bad command")]
     ScriptSyntax,
+    /// 103: no command stands.
     #[error("nothing to undo")]
     NothingToUndo,
+    /// 104: no command is undone.
     #[error("nothing to redo")]
     NothingToRedo,
+    /// 105: as many commands stand as a journal holds.
     #[error("journal is full")]
     JournalFull,
 }

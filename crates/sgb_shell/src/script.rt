@@ -16,7 +16,7 @@ pub const SCRIPT_LIMIT: usize = 16_777_216;
 
 const CHUNK: usize = 4096;
 
-/// How a run ended, with what it was lent.
+/// How a run ended, with the reader and the writer that it was given.
 #[derive(Debug, Drop)]
 pub struct Ended<R, W> {
     /// What came of it.
@@ -43,18 +43,6 @@ pub fn run<R: Read, W: Write>(alloc: Global, reader: R, writer: W) -> Ended<R, W
         end,
         reader,
         writer,
-    }
-}
-
-/// The transcript of a script in memory. The text may want for memory too, which is a failed write.
-pub fn transcript_of(alloc: Global, script: &[u8]) -> Result<Vec<u8>, RunFault>
-    ensures ok { IfOk result (λ text. (no_room : List ℕ) × (text.items ≡ transcript no_room script.now)) }
-    ensures too_long { IsErrOf result RunFault.TooLong → 16777216 < length script.now }
-{
-    let ended = run(alloc, script, Vec::new(alloc));
-    match ended.end {
-        Ok(_) => Ok(ended.writer.inner),
-        Err(fault) => Err(fault),
     }
 }
 

@@ -1,6 +1,6 @@
 //! The session: what the commands change.
-ghost use Rattle.std.specs.Prelude.{◌≡◌, ◌⊎◌, true, Ok, Err, MatchResult, IfOk, IfErr, OnErr};
-ghost use Rattle.sgb_undo.specs.Outcome.{Outcome, Accepted, Refused};
+ghost use Rattle.std.specs.Prelude.{◌≡◌, ◌⊎◌, true, IfOk, IfErr, OnErr};
+ghost use Rattle.sgb_undo.specs.Outcome.{Accepted, Refused};
 ghost use Rattle.sgb_shell.specs.Drawing.{generator_of};
 
 use crate::command::{Command, Delta, Reply};

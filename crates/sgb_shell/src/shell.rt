@@ -1,6 +1,5 @@
 //! Answers a script line by line, as its bytes come.
 ghost use Rattle.std.specs.Prelude.{◌≡◌, ◌<◌, ◌≤◌, ◌^◌, ◌++◌, ◌∷◌, [], List, ℕ, Option, IfOk, false, length, vec_capacity};
-ghost use Rattle.std.specs.List.{list_any};
 ghost use Rattle.sgb_shell.specs.Line.{line_of};
 ghost use Rattle.sgb_shell.specs.Performing.{IsBegun, Does};
 ghost use Rattle.sgb_shell.specs.Reaching.{Holds, Reached, Finishes, Takes, Progress};
