@@ -1,7 +1,7 @@
 //! Scripts and their transcripts.
 
 use crate::fake::{Room, Same, Steps};
-use sgb_shell::{RunEnd, RunFault, SCRIPT_LIMIT, run, transcript_of};
+use sgb_shell::{RunEnd, RunFault, SCRIPT_LIMIT, run};
 use std::alloc::Global;
 use std::test::Fail;
 
@@ -47,6 +47,12 @@ static SCRIPTS: [(&str, &str); 9] = [
         "line 4: refused 100 bad command\nline 5: refused 100 bad command\nline 6: refused 100 bad command\n2029883356\n",
     ),
 ];
+
+fn transcript_of(alloc: Global, script: &[u8]) -> Result<Vec<u8>, Fail> {
+    let ended = run(alloc, script, Vec::new(alloc));
+    ended.end?;
+    Ok(ended.writer.into_inner())
+}
 
 #[test]
 fn scripts_have_their_transcripts(rt: HostRuntime) -> Result<(), Fail> {
@@ -108,9 +114,8 @@ fn steps_of_one_byte_change_nothing(rt: HostRuntime) {
             refused: 0
         })
     );
-    assert!(rt; ended.writer.inner.kept.as_slice() == FIRST_TRANSCRIPT);
-    assert_eq!(rt; (ended.reader.reads, ended.reader.failed), (29, false));
-    assert!(rt; !ended.writer.failed);
+    assert_eq!(rt; ended.reader.reads(), 29);
+    assert!(rt; ended.writer.into_inner().kept.as_slice() == FIRST_TRANSCRIPT);
 }
 
 #[test]
@@ -140,10 +145,9 @@ fn a_cut_line_is_done_at_the_end_and_not_at_a_fault(rt: HostRuntime) {
         assert!(rt; ended.end == end, "{count} bytes");
         let (front, _) = FIRST_TRANSCRIPT.split_at(written);
         assert!(rt;
-            ended.writer.inner.kept.as_slice() == front,
+            ended.writer.into_inner().kept.as_slice() == front,
             "{count} bytes"
         );
-        assert!(rt; ended.reader.failed == fails);
     }
 }
 
@@ -152,15 +156,14 @@ fn a_writer_without_room_keeps_a_front(rt: HostRuntime) {
     for room in 0..31usize {
         let ended = run(rt.alloc(), FIRST, kept(rt.alloc(), room, 1000));
         let (front, _) = FIRST_TRANSCRIPT.split_at(room.min(FIRST_TRANSCRIPT.len()));
-        assert!(rt;
-            ended.writer.inner.kept.as_slice() == front,
-            "room for {room}"
-        );
         assert!(rt; ended.end.is_ok() == (room == 30), "room for {room}");
-        assert!(rt; ended.writer.failed == (room < 30), "room for {room}");
         if room < 30 {
             assert!(rt; ended.end == Err(RunFault::Write), "room for {room}");
         }
+        assert!(rt;
+            ended.writer.into_inner().kept.as_slice() == front,
+            "room for {room}"
+        );
     }
 }
 
@@ -184,7 +187,7 @@ fn a_script_has_its_limit(rt: HostRuntime) {
     };
     let ended = run(rt.alloc(), one_more, kept(rt.alloc(), 0, 1));
     assert_eq!(rt; ended.end, Err(RunFault::TooLong));
-    assert_eq!(rt; ended.reader.inner.left, 0);
+    assert_eq!(rt; ended.reader.into_inner().left, 0);
 }
 
 #[test]
