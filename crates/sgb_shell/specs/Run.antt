@@ -1,5 +1,5 @@
 -- How a run of a script ends.
-use Rattle.std.specs.Prelude.{◌≡◌, ℕ, ◌+◌, ◌≤◌, Bool, true, false, List, [], ◌∷◌, ◌++◌, length, Option, Result, Ok, Err}
+use Rattle.std.specs.Prelude.{◌≡◌, ℕ, ◌+◌, ◌≤◌, ◌⊎◌, Bool, true, false, List, [], ◌∷◌, ◌++◌, length, Option, Result, Ok, Err}
 use Rattle.std.specs.Io.KnownBytes.{Appends, Consumes, IsAtEnd}
 use Rattle.sgb_shell.specs.declared.fault.RunEnd.{RunEnd}
 use Rattle.sgb_shell.specs.declared.fault.RunFault.{RunFault}
@@ -26,7 +26,7 @@ Ends script no_room left left' read_failed reads held held' write_failed (Err To
     × Appends held held' (whole_transcript no_room script)
 Ends script no_room left left' read_failed reads held held' write_failed (Err Write) =
     Consumes left left' script × (read_failed ≡ false) × (write_failed ≡ true)
-    × AppendsFront held held' (transcript no_room script)
+    × (AppendsFront held held' (whole_transcript no_room script) ⊎ IsAtEnd left' × AppendsFront held held' (transcript no_room script))
 Ends script no_room left left' read_failed reads held held' write_failed (Err NoRoom) =
     (script ≡ []) × (reads ≡ 0) × Consumes left left' [] × (read_failed ≡ false) × (write_failed ≡ false) × Appends held held' []
 
