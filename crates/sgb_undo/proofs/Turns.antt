@@ -5,7 +5,7 @@ use Rattle.std.proofs.lemmas.List.{append_assoc, length_push}
 use Rattle.std.specs.Prelude.{Result}
 use Rattle.sgb_undo.specs.Outcome.{Outcome}
 use Rattle.sgb_undo.specs.History.{History, Undoes}
-use Rattle.sgb_undo.specs.Events.{lists_of, last_moved, after, after_all, accepted_of, MayBeRefused, AreRefusedRightly}
+use Rattle.sgb_undo.specs.Events.{lists_of, last_moved, after, after_all, accepted_of, MayAnswer, AreAnsweredRightly}
 use Rattle.sgb_undo.specs.declared.runs.Event.{Event}
 
 pub OnTrue-is_ok : {T E : Type 0} (P : Type 0) (r : Result T E) (b : Bool) → b ≡ is_ok r → OnOk r P → OnTrue b P
@@ -40,16 +40,16 @@ module _ {C : Type 0} (e : Event C) (b : Bool) (now : List C × List C) where
   lists-more next (d ∷ es) (true ∷ bs) start long told taken left = lists-more next es bs (after d start) (omega arith) told taken left
   lists-more next (d ∷ es) (false ∷ bs) start long told taken left = lists-more next es bs start (omega arith) told taken left
 
-  refused-more : (es : List (Event C)) (bs : List Bool) (start : List C × List C) → length bs ≡ length es → now ≡ after_all (accepted_of es bs) start → AreRefusedRightly es bs start → OnFalse b (MayBeRefused e now) → AreRefusedRightly (es ++ e ∷ []) (bs ++ b ∷ []) start
-  refused-more [] [] start long told right may = at b may
+  answered-more : (es : List (Event C)) (bs : List Bool) (start : List C × List C) → length bs ≡ length es → now ≡ after_all (accepted_of es bs) start → AreAnsweredRightly es bs start → MayAnswer e b now → AreAnsweredRightly (es ++ e ∷ []) (bs ++ b ∷ []) start
+  answered-more [] [] start long told right may = at b may
     where
-      at : (b : Bool) → OnFalse b (MayBeRefused e now) → AreRefusedRightly (e ∷ []) (b ∷ []) start
-      at true may = tt
-      at false may = (subst (MayBeRefused e) told may, tt)
-  refused-more [] (x ∷ bs) start long told right may = absurd (omega arith)
-  refused-more (d ∷ es) [] start long told right may = absurd (omega arith)
-  refused-more (d ∷ es) (true ∷ bs) start long told right may = refused-more es bs (after d start) (omega arith) told right may
-  refused-more (d ∷ es) (false ∷ bs) start long told right may = (right.0, refused-more es bs start (omega arith) told right.1 may)
+      at : (b : Bool) → MayAnswer e b now → AreAnsweredRightly (e ∷ []) (b ∷ []) start
+      at true may = (subst (MayAnswer e true) told may, tt)
+      at false may = (subst (MayAnswer e false) told may, tt)
+  answered-more [] (x ∷ bs) start long told right may = absurd (omega arith)
+  answered-more (d ∷ es) [] start long told right may = absurd (omega arith)
+  answered-more (d ∷ es) (true ∷ bs) start long told right may = (right.0, answered-more es bs (after d start) (omega arith) told right.1 may)
+  answered-more (d ∷ es) (false ∷ bs) start long told right may = (right.0, answered-more es bs start (omega arith) told right.1 may)
 
 -- the same where the answers are known by an equation
 pub lists-turn : {M C D : Type 0} (old now next : History M C D) (e : Event C) (b : Bool) (es : List (Event C)) (bs bs' : List Bool) → bs' ≡ bs ++ b ∷ [] → length bs ≡ length es → lists_of now ≡ after_all (accepted_of es bs) (lists_of old) → OnTrue b (lists_of next ≡ after e (lists_of now)) → OnFalse b (next ≡ now) → lists_of next ≡ after_all (accepted_of (es ++ e ∷ []) bs') (lists_of old)
@@ -57,10 +57,10 @@ lists-turn old now next e b es bs bs' pushed long told taken left =
     lists-more e b (lists_of now) (lists_of next) es bs (lists_of old) long told taken (OnFalse-weaker b (ap lists_of) left)
     ∙ ap (λ xs. after_all (accepted_of (es ++ e ∷ []) xs) (lists_of old)) (sym pushed)
 
-pub refused-turn : {M C D : Type 0} (old now : History M C D) (e : Event C) (b : Bool) (es : List (Event C)) (bs bs' : List Bool) → bs' ≡ bs ++ b ∷ [] → length bs ≡ length es → lists_of now ≡ after_all (accepted_of es bs) (lists_of old) → AreRefusedRightly es bs (lists_of old) → OnFalse b (MayBeRefused e (lists_of now)) → AreRefusedRightly (es ++ e ∷ []) bs' (lists_of old)
-refused-turn old now e b es bs bs' pushed long told right may =
-    subst (λ xs. AreRefusedRightly (es ++ e ∷ []) xs (lists_of old)) (sym pushed)
-    (refused-more e b (lists_of now) es bs (lists_of old) long told right may)
+pub answered-turn : {M C D : Type 0} (old now : History M C D) (e : Event C) (b : Bool) (es : List (Event C)) (bs bs' : List Bool) → bs' ≡ bs ++ b ∷ [] → length bs ≡ length es → lists_of now ≡ after_all (accepted_of es bs) (lists_of old) → AreAnsweredRightly es bs (lists_of old) → MayAnswer e b (lists_of now) → AreAnsweredRightly (es ++ e ∷ []) bs' (lists_of old)
+answered-turn old now e b es bs bs' pushed long told right may =
+    subst (λ xs. AreAnsweredRightly (es ++ e ∷ []) xs (lists_of old)) (sym pushed)
+    (answered-more e b (lists_of now) es bs (lists_of old) long told right may)
 
 pub length-turn : {X Y : Type 0} (es : List X) (e : X) (bs bs' : List Y) (b : Y) → bs' ≡ bs ++ b ∷ [] → length bs ≡ length es → length bs' ≡ length (es ++ e ∷ [])
 length-turn es e bs bs' b pushed long =

@@ -1,5 +1,5 @@
 -- What events make of the standing and the undone commands.
-use Rattle.std.specs.Prelude.{◌≡◌, Bool, true, false, List, [], ◌∷◌, ◌++◌, ⊤}
+use Rattle.std.specs.Prelude.{◌≡◌, Bool, true, false, List, [], ◌∷◌, ◌++◌, ⊤, length}
 use Rattle.sgb_undo.specs.History.{History}
 use Rattle.sgb_undo.specs.declared.runs.Event.{Event}
 use Rattle.sgb_undo.specs.declared.runs.Event.TheVariants.{Apply, Undo, Redo}
@@ -37,15 +37,19 @@ module _ {C : Type 0} where
   accepted_of [] bs = []
   accepted_of (e ∷ es) [] = []
 
-  -- whether the event may be refused where the lists are these: an undo only where nothing stands
-  abbrev pub MayBeRefused : Event C → List C × List C → Type 0
-  MayBeRefused (Apply c) lists = ⊤
-  MayBeRefused Undo lists = lists.0 ≡ []
-  MayBeRefused Redo lists = ⊤
+  -- Whether the event may be answered so where the lists are these. A command may be refused, and a redo too,
+  -- by the machine or for want of memory; an undo is refused only where nothing stands.
+  abbrev pub MayAnswer : Event C → Bool → List C × List C → Type 0
+  MayAnswer (Apply c) true lists = length lists.0 ≡ 65535 → ⊥
+  MayAnswer (Apply c) false lists = ⊤
+  MayAnswer Undo true lists = lists.0 ≡ [] → ⊥
+  MayAnswer Undo false lists = lists.0 ≡ []
+  MayAnswer Redo true lists = lists.1 ≡ [] → ⊥
+  MayAnswer Redo false lists = ⊤
 
-  -- each refused event might be refused when its turn came
-  abbrev pub AreRefusedRightly : List (Event C) → List Bool → List C × List C → Type 0
-  AreRefusedRightly (e ∷ es) (true ∷ bs) lists = AreRefusedRightly es bs (after e lists)
-  AreRefusedRightly (e ∷ es) (false ∷ bs) lists = MayBeRefused e lists × AreRefusedRightly es bs lists
-  AreRefusedRightly [] bs lists = ⊤
-  AreRefusedRightly (e ∷ es) [] lists = ⊤
+  -- each event was answered as it may be when its turn came
+  abbrev pub AreAnsweredRightly : List (Event C) → List Bool → List C × List C → Type 0
+  AreAnsweredRightly (e ∷ es) (true ∷ bs) lists = MayAnswer e true lists × AreAnsweredRightly es bs (after e lists)
+  AreAnsweredRightly (e ∷ es) (false ∷ bs) lists = MayAnswer e false lists × AreAnsweredRightly es bs lists
+  AreAnsweredRightly [] bs lists = ⊤
+  AreAnsweredRightly (e ∷ es) [] lists = ⊤

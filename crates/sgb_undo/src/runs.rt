@@ -4,7 +4,7 @@ ghost use Rattle.std.specs.Prelude.{◌≡◌, ◌↔◌, ◌⊎◌, [], ◌∷�
 ghost use Rattle.std.specs.Bool.{OnTrue, OnFalse};
 ghost use Rattle.sgb_undo.specs.Outcome.{Accepted, Refused};
 ghost use Rattle.sgb_undo.specs.History.{IsJournal};
-ghost use Rattle.sgb_undo.specs.Events.{lists_of, after, after_all, accepted_of, MayBeRefused, AreRefusedRightly};
+ghost use Rattle.sgb_undo.specs.Events.{lists_of, after, after_all, accepted_of, MayAnswer, AreAnsweredRightly};
 
 use crate::{Journal, JournalRefusal, Reversible};
 use std::alloc::{AllocError, Global};
@@ -28,7 +28,7 @@ pub fn perform_all<M: Reversible>(
     ensures len { IfOk result (λ accepted. length accepted.items ≡ length events.items) }
     ensures lists { IfOk result (λ accepted.
         lists_of journal.new ≡ after_all (accepted_of events.items accepted.items) (lists_of journal.old)) }
-    ensures refused { IfOk result (λ accepted. AreRefusedRightly events.items accepted.items (lists_of journal.old)) }
+    ensures right { IfOk result (λ accepted. AreAnsweredRightly events.items accepted.items (lists_of journal.old)) }
     ensures start { journal.new.start ≡ journal.old.start }
     ensures sound { IsJournal M.step M.before journal.new }
     ensures err { OnErr result (journal.new ≡ journal.old) }
@@ -43,7 +43,7 @@ pub fn perform_all<M: Reversible>(
 
 fn perform<M: Reversible>(journal: &mut Journal<M>, event: Event<M::Command>) -> bool
     ensures accepted { OnTrue result (lists_of journal.new ≡ after event (lists_of journal.old)) }
-    ensures refused { OnFalse result (MayBeRefused event (lists_of journal.old)) }
+    ensures right { MayAnswer event result (lists_of journal.old) }
     ensures same { OnFalse result (journal.new ≡ journal.old) }
     ensures start { journal.new.start ≡ journal.old.start }
     ensures sound { IsJournal M.step M.before journal.new }
