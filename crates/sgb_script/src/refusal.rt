@@ -11,12 +11,24 @@ pub enum ShellRefusal {
     /// 30: a number is outside its range.
     #[error("bad specification")]
     BadSpecs,
-    /// 40: too many numbers were drawn since the seeding.
+    /// 40: a limit would be passed.
     #[error("too large")]
     TooLarge,
+    /// 50: no graph has this name.
+    #[error("no such graph")]
+    NoGraph,
+    /// 60: an operand is none that the command can work on.
+    #[error("bad operand")]
+    BadOperand,
     /// 100: the line is none of the language.
     #[error("bad command")]
     ScriptSyntax,
+    /// 101: as many graphs stand in the table as it holds.
+    #[error("table is full")]
+    TableFull,
+    /// 102: a graph has this name already.
+    #[error("name is taken")]
+    NameTaken,
     /// 103: no command stands.
     #[error("nothing to undo")]
     NothingToUndo,
@@ -30,7 +42,7 @@ pub enum ShellRefusal {
 
 impl ShellRefusal {
     ghost use Rattle.std.specs.Prelude.{◌≡◌};
-    ghost use Rattle.sgb_shell.specs.Refusal.{number_of, text_of};
+    ghost use Rattle.sgb_script.specs.Refusal.{number_of, text_of};
 
     /// The number that the transcript prints.
     pub fn number(&self) -> u8
@@ -40,7 +52,11 @@ impl ShellRefusal {
             ShellRefusal::NoRoom => 1,
             ShellRefusal::BadSpecs => 30,
             ShellRefusal::TooLarge => 40,
+            ShellRefusal::NoGraph => 50,
+            ShellRefusal::BadOperand => 60,
             ShellRefusal::ScriptSyntax => 100,
+            ShellRefusal::TableFull => 101,
+            ShellRefusal::NameTaken => 102,
             ShellRefusal::NothingToUndo => 103,
             ShellRefusal::NothingToRedo => 104,
             ShellRefusal::JournalFull => 105,
@@ -55,7 +71,11 @@ impl ShellRefusal {
             ShellRefusal::NoRoom => "no room",
             ShellRefusal::BadSpecs => "bad specification",
             ShellRefusal::TooLarge => "too large",
+            ShellRefusal::NoGraph => "no such graph",
+            ShellRefusal::BadOperand => "bad operand",
             ShellRefusal::ScriptSyntax => "bad command",
+            ShellRefusal::TableFull => "table is full",
+            ShellRefusal::NameTaken => "name is taken",
             ShellRefusal::NothingToUndo => "nothing to undo",
             ShellRefusal::NothingToRedo => "nothing to redo",
             ShellRefusal::JournalFull => "journal is full",

@@ -1,12 +1,12 @@
 //! Prints bytes to a metered writer.
 ghost use Rattle.std.specs.List.{flat_map};
-ghost use Rattle.sgb_shell.specs.Print.{Prints};
+ghost use Rattle.sgb_print.specs.Print.{Prints};
 
 use crate::meter::{Failed, MeteredWriter};
 use std::io::Write;
 
 /// Writes all the pieces, one after another.
-pub(crate) fn put_all<W: Write>(
+pub fn put_all<W: Write>(
     writer: &mut MeteredWriter<W>,
     pieces: &[&[u8]],
 ) -> Result<(), Failed>
@@ -20,7 +20,7 @@ pub(crate) fn put_all<W: Write>(
 }
 
 /// Writes all the bytes.
-pub(crate) fn put<W: Write>(writer: &mut MeteredWriter<W>, bytes: &[u8]) -> Result<(), Failed>
+pub fn put<W: Write>(writer: &mut MeteredWriter<W>, bytes: &[u8]) -> Result<(), Failed>
     ensures { Prints (W.contents writer.old.inner) (W.contents writer.new.inner) writer.old.failed writer.new.failed result bytes.now }
 {
     let mut rest = bytes;

@@ -1,12 +1,12 @@
 //! Reads one line of a script.
-ghost use Rattle.std.specs.Prelude.{◌≡◌, [], ◌∷◌, MatchOption, length, ◌≤◌, ◌==◌, not, slice_index};
+ghost use Rattle.std.specs.Prelude.{◌≡◌, ◌⊎◌, [], ◌∷◌, MatchOption, IfOk, IfErr, IsTrue, length, ◌≤◌, ◌==◌, not, slice_index, Some, None};
 ghost use Rattle.std.specs.List.{prefix_len, list_all};
-ghost use Rattle.std.specs.Option.{ok_or};
-ghost use Rattle.sgb_shell.specs.Line.{words_of, number_of, keyword_of, one_number, line_of, asked_of, is_printable_byte, when_alone};
-ghost use Rattle.sgb_shell.specs.declared.refusal.ShellRefusal.TheVariants.{ScriptSyntax};
+ghost use Rattle.sgb_script.specs.Line.{words_of, number_of, keyword_of, line_of, asked_of, takes_memory, is_printable_byte};
+ghost use Rattle.sgb_script.specs.declared.refusal.ShellRefusal.TheVariants.{NoRoom, ScriptSyntax};
 
 use crate::command::{Command, Line, Query};
 use crate::refusal::ShellRefusal;
+use std::alloc::Global;
 use std::str::from_utf8;
 
 /// The most bytes of a line, its newline not counted.
@@ -20,14 +20,29 @@ enum Keyword {
     Seed,
     Next,
     Unif,
+    Graph,
+    Arc,
+    Edge,
+    Cut,
+    Len,
+    Set,
+    Types,
+    Label,
+    Id,
+    Drop,
     Undo,
     Redo,
     Gen,
+    List,
+    Show,
 }
 
-/// Reads one line of a script, without its newline. Refused 100 where it is no line of the language.
-pub fn parse(line: &[u8]) -> Result<Line, ShellRefusal>
-    ensures { result ≡ ok_or (line_of line.now) ScriptSyntax }
+/// Reads one line of a script, without its newline. Refused 100 where it is no line of the language. Memory is taken
+/// for a text alone, once the line is known to be one.
+pub fn parse(alloc: Global, line: &[u8]) -> Result<Line, ShellRefusal>
+    ensures ok { IfOk result (λ l. line_of line.now ≡ Some l) }
+    ensures err { IfErr result (λ e. ((e ≡ ScriptSyntax) × (line_of line.now ≡ None))
+        ⊎ ((e ≡ NoRoom) × IsTrue (takes_memory (line_of line.now)))) }
 {
     if line.len() > LINE_LIMIT || !is_printable(line) {
         return Err(ShellRefusal::ScriptSyntax);

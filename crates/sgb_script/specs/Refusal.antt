@@ -1,13 +1,17 @@
 -- The refusals' numbers and texts.
 use Rattle.std.specs.Prelude.{ℕ, Bool, ◌==◌, List, codes}
-use Rattle.sgb_shell.specs.declared.refusal.ShellRefusal.{ShellRefusal}
-use Rattle.sgb_shell.specs.declared.refusal.ShellRefusal.TheVariants.{NoRoom, BadSpecs, TooLarge, ScriptSyntax, NothingToUndo, NothingToRedo, JournalFull}
+use Rattle.sgb_script.specs.declared.refusal.ShellRefusal.{ShellRefusal}
+use Rattle.sgb_script.specs.declared.refusal.ShellRefusal.TheVariants.{NoRoom, BadSpecs, TooLarge, NoGraph, BadOperand, ScriptSyntax, TableFull, NameTaken, NothingToUndo, NothingToRedo, JournalFull}
 
 abbrev pub number_of : ShellRefusal → ℕ
 number_of NoRoom = 1
 number_of BadSpecs = 30
 number_of TooLarge = 40
+number_of NoGraph = 50
+number_of BadOperand = 60
 number_of ScriptSyntax = 100
+number_of TableFull = 101
+number_of NameTaken = 102
 number_of NothingToUndo = 103
 number_of NothingToRedo = 104
 number_of JournalFull = 105
@@ -16,7 +20,11 @@ abbrev pub text_of : ShellRefusal → List ℕ
 text_of NoRoom = codes "no room"
 text_of BadSpecs = codes "bad specification"
 text_of TooLarge = codes "too large"
+text_of NoGraph = codes "no such graph"
+text_of BadOperand = codes "bad operand"
 text_of ScriptSyntax = codes "bad command"
+text_of TableFull = codes "table is full"
+text_of NameTaken = codes "name is taken"
 text_of NothingToUndo = codes "nothing to undo"
 text_of NothingToRedo = codes "nothing to redo"
 text_of JournalFull = codes "journal is full"

@@ -26,7 +26,7 @@ pub struct MeteredWriter<W> {
 }
 
 impl<R> Model for MeteredReader<R> {
-    ghost use Rattle.sgb_shell.specs.Meter.{ReaderUse};
+    ghost use Rattle.sgb_print.specs.Meter.{ReaderUse};
 
     ghost Value = { ReaderUse R };
 
@@ -34,7 +34,7 @@ impl<R> Model for MeteredReader<R> {
 }
 
 impl<W> Model for MeteredWriter<W> {
-    ghost use Rattle.sgb_shell.specs.Meter.{WriterUse};
+    ghost use Rattle.sgb_print.specs.Meter.{WriterUse};
 
     ghost Value = { WriterUse W };
 

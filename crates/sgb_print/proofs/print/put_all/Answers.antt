@@ -1,6 +1,6 @@
 use Rattle.std.proofs.lemmas.Result.{err_from_is_err_and}
-use Rattle.sgb_shell.proofs.Printing.{one_piece, failing_piece}
-use Rattle.sgb_shell.proofs.print.put_all.Goals as goal
+use Rattle.sgb_print.proofs.Printing.{one_piece, failing_piece}
+use Rattle.sgb_print.proofs.print.put_all.Goals as goal
 
 pub returns-in_err-put : goal.returns-in_err-put
 returns-in_err-put g c = let p = err_from_is_err_and c.from_residual.result c.from_residual.ensures.1 in

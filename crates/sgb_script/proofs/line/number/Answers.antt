@@ -1,6 +1,6 @@
 use Rattle.std.proofs.Common.{◌∙◌, sym}
-use Rattle.sgb_shell.proofs.Numbers.{text_read, number_is_utf8}
-use Rattle.sgb_shell.proofs.line.number.Goals as goal
+use Rattle.sgb_script.proofs.Numbers.{text_read, number_is_utf8}
+use Rattle.sgb_script.proofs.line.number.Goals as goal
 
 pub returns-in-Ok : goal.returns-in-Ok
 returns-in-Ok c = c.ok.ensures.value

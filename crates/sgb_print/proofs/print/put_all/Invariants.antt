@@ -1,7 +1,7 @@
 use Rattle.std.proofs.Common.{drop}
 use Rattle.std.specs.List.{flat_map}
-use Rattle.sgb_shell.proofs.Printing.{Writes}
-use Rattle.sgb_shell.proofs.print.put_all.Given as goal
+use Rattle.sgb_print.proofs.Printing.{Writes}
+use Rattle.sgb_print.proofs.print.put_all.Given as goal
 
 abbrev pub invariant-loop-piece : goal.invariant-loop-piece
 invariant-loop-piece g l = Writes (g.W.Write.contents l.initial.writer.inner) (g.W.Write.contents l.writer.inner) l.initial.writer.failed l.writer.failed

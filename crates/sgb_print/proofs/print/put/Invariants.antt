@@ -1,6 +1,6 @@
 use Rattle.std.proofs.Common.{length}
-use Rattle.sgb_shell.proofs.Printing.{Writes}
-use Rattle.sgb_shell.proofs.print.put.Given as goal
+use Rattle.sgb_print.proofs.Printing.{Writes}
+use Rattle.sgb_print.proofs.print.put.Given as goal
 
 abbrev pub invariant-loop-rest : goal.invariant-loop-rest
 invariant-loop-rest g l = Writes (g.W.Write.contents l.initial.writer.inner) (g.W.Write.contents l.writer.inner) l.initial.writer.failed l.writer.failed l.bytes l.rest

@@ -4,7 +4,7 @@ use Rattle.std.specs.List.{slice_split, onto_first, prefix_len}
 use Rattle.std.proofs.lemmas.Bool.{cases_Bool, ne_eqb}
 use Rattle.std.proofs.lemmas.List.Folds.{length-prefix_len}
 use Rattle.std.proofs.lemmas.Grind.{common_steps}
-use Rattle.sgb_shell.specs.Line.{words_of}
+use Rattle.sgb_script.specs.Line.{words_of}
 
 abbrev pub is_space : ℕ → Bool
 is_space b = b == 32

@@ -4,7 +4,7 @@ use lib.Seq.{take-append_seam, drop-append_seam}
 use Rattle.std.specs.List.{flat_map}
 use Rattle.std.specs.Io.KnownBytes.{Appends, Keeps}
 use Rattle.std.proofs.KnownBytes.{Appends-nil, Appends-trans, Appends-kept}
-use Rattle.sgb_shell.specs.Print.{AppendsFront}
+use Rattle.sgb_print.specs.Print.{AppendsFront}
 
 -- a front of the bytes was written, and the rest is to be
 pub record Writes (old new : Option (List ℕ)) (failed failed' : Bool) (bytes rest : List ℕ) : Type 0 where

@@ -1,0 +1,76 @@
+-- How graphs are printed.
+use Rattle.std.specs.Prelude.{ℕ, List, [], ◌∷◌, ◌++◌, ◌==◌, length, zip, codes, Bool, true, false, if◌then◌else◌, range_with_len}
+use Rattle.std.specs.List.{flat_map, list_all}
+use Rattle.std.specs.Fmt.{decimal, signed_decimal}
+use Rattle.sgb_graph.specs.declared.field.Tip.{Tip}
+use Rattle.sgb_graph.specs.declared.field.Tip.TheVariants as tips
+use Rattle.sgb_graph.specs.declared.field.Util.{Util}
+use Rattle.sgb_graph.specs.declared.field.Util.TheVariants.{Zero, Int, Vertex, Arc, Text}
+use Rattle.sgb_graph.specs.Graph.{GraphOf, ArcOf, n_of, m_of, made_of, vertex_at, arcs_of}
+use Rattle.sgb_graph.specs.Edit.{entry_at}
+
+-- NAME: N vertices, M arcs
+abbrev pub made_text : List ℕ → ℕ → ℕ → List ℕ
+made_text name n m = name ++ codes ": " ++ decimal n ++ codes " vertices, " ++ decimal m ++ codes " arcs\n"
+
+abbrev pub quoted : List ℕ → List ℕ
+quoted t = codes "\"" ++ t ++ codes "\""
+
+-- a value that is not Zero
+abbrev pub value_text : Util → List ℕ
+value_text Zero = []
+value_text (Int z) = signed_decimal z
+value_text (Vertex v) = codes "V" ++ decimal v.0
+value_text (Arc a) = codes "A" ++ decimal a.0
+value_text (Text t) = quoted t
+
+abbrev pub is_zero : Util → Bool
+is_zero Zero = true
+is_zero u = false
+
+-- a field that is not Zero: a space, its name, and its value
+abbrev pub field_text : List ℕ → Util → List ℕ
+field_text name u = if is_zero u then [] else codes " " ++ name ++ codes "=" ++ value_text u
+
+abbrev pub fields_text : List (List ℕ) → List Util → List ℕ
+fields_text names us = flat_map (λ p. field_text p.0 p.1) (zip names us)
+
+abbrev pub vertex_names : List (List ℕ)
+vertex_names = codes "u" ∷ codes "v" ∷ codes "w" ∷ codes "x" ∷ codes "y" ∷ codes "z" ∷ []
+
+abbrev pub arc_names : List (List ℕ)
+arc_names = codes "a" ∷ codes "b" ∷ []
+
+abbrev pub graph_names : List (List ℕ)
+graph_names = codes "uu" ∷ codes "vv" ∷ codes "ww" ∷ codes "xx" ∷ codes "yy" ∷ codes "zz" ∷ []
+
+abbrev pub tip_text : Tip → List ℕ
+tip_text tips.Zero = codes "0"
+tip_text tips.One = codes "1"
+tip_text (tips.To v) = codes "V" ++ decimal v.0
+
+-- two spaces, the arc's number, its tip, its length and its fields
+abbrev pub arc_line : ℕ → ArcOf → List ℕ
+arc_line k e =
+    codes "  A" ++ decimal k ++ codes " " ++ tip_text e.tip ++ codes " " ++ signed_decimal e.len ++ fields_text arc_names e.fields ++ codes "\n"
+
+-- the vertex's number, its name and its fields
+abbrev pub vertex_line : GraphOf → ℕ → List ℕ
+vertex_line g v =
+    codes "V" ++ decimal v ++ codes " " ++ quoted (vertex_at g v).label ++ fields_text vertex_names (vertex_at g v).fields ++ codes "\n"
+
+abbrev pub vertex_text : GraphOf → ℕ → List ℕ
+vertex_text g v = vertex_line g v ++ flat_map (λ k. arc_line k (entry_at g k)) (arcs_of g v)
+
+-- the graph's fields, where it has some
+abbrev pub graph_fields_text : List Util → List ℕ
+graph_fields_text us = if list_all is_zero us then [] else codes "G" ++ fields_text graph_names us ++ codes "\n"
+
+abbrev pub counts_text : GraphOf → List ℕ
+counts_text g = decimal (n_of g) ++ codes " vertices, " ++ decimal (m_of g) ++ codes " arcs, " ++ decimal (made_of g) ++ codes " numbers\n"
+
+unfoldable pub graph_text : GraphOf → List ℕ
+graph_text g =
+    quoted g.id ++ codes " " ++ g.types ++ codes "\n"
+    ++ counts_text g ++ graph_fields_text g.fields
+    ++ flat_map (vertex_text g) (range_with_len 0 (n_of g))

@@ -1,0 +1,13 @@
+//! Readers and writers that remember their failures, and graphs as they are printed.
+#![tactic(auto)]
+
+mod meter;
+mod print;
+mod show;
+
+pub use meter::{Failed, MeteredReader, MeteredWriter};
+pub use print::{put, put_all};
+pub use show::{print_made, print_graph};
+
+#[cfg(test)]
+mod tests;
