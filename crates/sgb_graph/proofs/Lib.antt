@@ -11,6 +11,7 @@ pub mod InsertLemmas
 pub mod Laws
 pub mod NewLemmas
 pub mod PutBack
+pub mod Reverting
 pub mod SetLemmas
 pub mod Shows
 pub mod ShowsPut

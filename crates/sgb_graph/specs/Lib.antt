@@ -14,6 +14,7 @@ pub mod New
 pub mod Read
 pub mod Refusal
 pub mod Revert
+pub mod Reverted
 pub mod Set
 pub mod Text
 pub mod Types

@@ -8,6 +8,7 @@ mod graph;
 mod refusal;
 mod text;
 mod types;
+mod undoing;
 
 pub use builder::Builder;
 pub use delta::{CutArc, GraphDelta};
@@ -16,6 +17,7 @@ pub use graph::{ArcView, Arcs, Graph, MOST_ARCS, MOST_VERTICES};
 pub use refusal::Refusal;
 pub use text::{Label, Text};
 pub use types::Types;
+pub use undoing::revert_law;
 
 #[cfg(test)]
 mod tests;
