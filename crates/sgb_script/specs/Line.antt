@@ -21,7 +21,8 @@ use Rattle.sgb_script.specs.Name.{is_name}
 use Rattle.sgb_script.specs.declared.line.Keyword.{Keyword}
 use Rattle.sgb_script.specs.declared.line.Keyword.TheVariants as keywords
 use Rattle.sgb_script.specs.declared.command.Command.{Command}
-use Rattle.sgb_script.specs.declared.command.Command.TheVariants.{Seed, Next, Unif, Graph, Arc, Edge, Cut, Len, Set, Types, Label, Id, Drop}
+use Rattle.sgb_script.specs.declared.command.Command.TheVariants.{Seed, Next, Unif, Graph, Edit, Drop}
+use Rattle.sgb_script.specs.declared.command.Edit.TheVariants.{Arc, Edge, Cut, Len, Set, Types, Label, Id}
 use Rattle.sgb_script.specs.declared.command.Query.TheVariants as queries
 use Rattle.sgb_script.specs.declared.command.Line.{Line}
 use Rattle.sgb_script.specs.declared.command.Line.TheVariants.{Nothing, Change, Undo, Redo, Ask}
@@ -215,7 +216,7 @@ four f g h i line [] = None
 -- a graph, a place of it, a field of the place, and a value
 abbrev pub setting : List Word → Option Line
 setting (g ∷ p ∷ f ∷ u ∷ []) =
-    option_and_then (λ name. option_and_then (λ place. option_map (λ value. Change (Set name place value)) (the_value u)) (the_place p f)) (the_name g)
+    option_and_then (λ name. option_and_then (λ place. option_map (λ value. Change (Edit name (Set place value))) (the_value u)) (the_place p f)) (the_name g)
 setting ws = None
 
 -- the words behind a keyword, and what the line then asks for
@@ -224,14 +225,14 @@ line_after ws keywords.Seed = one the_number (λ s. Change (Seed s)) ws
 line_after ws keywords.Next = none (Change Next) ws
 line_after ws keywords.Unif = one the_number (λ m. Change (Unif m)) ws
 line_after ws keywords.Graph = two the_name the_number (λ g n. Change (Graph g n)) ws
-line_after ws keywords.Arc = four the_name the_vertex the_vertex the_number (λ g u v len. Change (Arc g u v len)) ws
-line_after ws keywords.Edge = four the_name the_vertex the_vertex the_number (λ g u v len. Change (Edge g u v len)) ws
-line_after ws keywords.Cut = two the_name the_arc (λ g k. Change (Cut g k)) ws
-line_after ws keywords.Len = three the_name the_arc the_number (λ g k len. Change (Len g k len)) ws
+line_after ws keywords.Arc = four the_name the_vertex the_vertex the_number (λ g u v len. Change (Edit g (Arc u v len))) ws
+line_after ws keywords.Edge = four the_name the_vertex the_vertex the_number (λ g u v len. Change (Edit g (Edge u v len))) ws
+line_after ws keywords.Cut = two the_name the_arc (λ g k. Change (Edit g (Cut k))) ws
+line_after ws keywords.Len = three the_name the_arc the_number (λ g k len. Change (Edit g (Len k len))) ws
 line_after ws keywords.Set = setting ws
-line_after ws keywords.Types = two the_name the_letters (λ g types. Change (Types g types)) ws
-line_after ws keywords.Label = three the_name the_vertex the_text (λ g v text. Change (Label g v text)) ws
-line_after ws keywords.Id = two the_name the_text (λ g text. Change (Id g text)) ws
+line_after ws keywords.Types = two the_name the_letters (λ g types. Change (Edit g (Types types))) ws
+line_after ws keywords.Label = three the_name the_vertex the_text (λ g v text. Change (Edit g (Label v text))) ws
+line_after ws keywords.Id = two the_name the_text (λ g text. Change (Edit g (Id text))) ws
 line_after ws keywords.Drop = one the_name (λ g. Change (Drop g)) ws
 line_after ws keywords.Undo = none Undo ws
 line_after ws keywords.Redo = none Redo ws
@@ -257,9 +258,9 @@ line_of line =
 
 -- the line has a text, for which memory is taken
 abbrev pub has_text : Line → Bool
-has_text (Change (Set g p (utils.Text t))) = true
-has_text (Change (Label g v t)) = true
-has_text (Change (Id g t)) = true
+has_text (Change (Edit g (Set p (utils.Text t)))) = true
+has_text (Change (Edit g (Label v t))) = true
+has_text (Change (Edit g (Id t))) = true
 has_text line = false
 
 abbrev pub takes_memory : Option Line → Bool

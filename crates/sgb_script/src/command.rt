@@ -4,9 +4,6 @@ use crate::Name;
 use sgb_graph::{ArcNo, Place, Text, Types, Util, VertexNo};
 
 /// A command that changes the session. It stands in the journal, so that it can be undone.
-///
-/// A number that a script writes for a vertex or an arc and that no graph can give out is the greatest of 32 bits
-/// here, which no graph gives out either.
 #[derive(Debug, Drop)]
 pub enum Command {
     /// `seed S`: the generator starts anew (`gb_init_rand`).
@@ -17,24 +14,34 @@ pub enum Command {
     Unif(i64),
     /// `graph NAME N`: a graph of N vertices without arcs (`gb_new_graph`).
     Graph(Name, i64),
-    /// `arc G u v len`: a new arc (`gb_new_arc`).
-    Arc(Name, VertexNo, VertexNo, i64),
-    /// `edge G u v len`: a new edge (`gb_new_edge`).
-    Edge(Name, VertexNo, VertexNo, i64),
-    /// `cut G k`: an arc is cut.
-    Cut(Name, ArcNo),
-    /// `len G k L`: an arc gets another length.
-    Len(Name, ArcNo, i64),
-    /// `set G PLACE FIELD VALUE`: a utility field gets another value.
-    Set(Name, Place, Util),
-    /// `types G LETTERS`: the graph gets other letters.
-    Types(Name, Types),
-    /// `label G v "T"`: a vertex gets another name.
-    Label(Name, VertexNo, Text),
-    /// `id G "T"`: the graph gets another id.
-    Id(Name, Text),
+    /// A graph of the table is edited.
+    Edit(Name, Edit),
     /// `drop G`: the graph leaves the table.
     Drop(Name),
+}
+
+/// An edit of a graph.
+///
+/// A number that a script writes for a vertex or an arc and that no graph can give out is the greatest of 32 bits
+/// here, which no graph gives out either.
+#[derive(Debug, Drop)]
+pub enum Edit {
+    /// `arc G u v len`: a new arc (`gb_new_arc`).
+    Arc(VertexNo, VertexNo, i64),
+    /// `edge G u v len`: a new edge (`gb_new_edge`).
+    Edge(VertexNo, VertexNo, i64),
+    /// `cut G k`: an arc is cut.
+    Cut(ArcNo),
+    /// `len G k L`: an arc gets another length.
+    Len(ArcNo, i64),
+    /// `set G PLACE FIELD VALUE`: a utility field gets another value.
+    Set(Place, Util),
+    /// `types G LETTERS`: the graph gets other letters.
+    Types(Types),
+    /// `label G v "T"`: a vertex gets another name.
+    Label(VertexNo, Text),
+    /// `id G "T"`: the graph gets another id.
+    Id(Text),
 }
 
 /// A question about the session, which changes nothing.

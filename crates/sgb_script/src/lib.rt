@@ -6,7 +6,7 @@ mod line;
 mod name;
 mod refusal;
 
-pub use command::{Command, Line, Query};
+pub use command::{Command, Edit, Line, Query};
 pub use line::{LINE_LIMIT, parse};
 pub use name::{NAME_LIMIT, Name};
 pub use refusal::ShellRefusal;

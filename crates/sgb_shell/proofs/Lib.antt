@@ -1,6 +1,3 @@
-mod Words
-mod Numbers
-mod Printing
 mod Drawings
 mod Performing
 mod LineEnds

@@ -10,15 +10,15 @@ use Rattle.sgb_undo.specs.declared.refusal.JournalRefusal.{JournalRefusal}
 use Rattle.sgb_undo.specs.declared.refusal.JournalRefusal.TheVariants as journals
 use Rattle.sgb_shell.specs.declared.answer.Answer.{Answer}
 use Rattle.sgb_shell.specs.declared.answer.Answer.TheVariants as answers
-use Rattle.sgb_shell.specs.declared.command.Command.{Command}
-use Rattle.sgb_shell.specs.declared.command.Line.{Line}
-use Rattle.sgb_shell.specs.declared.command.Line.TheVariants.{Change, Undo, Redo}
-use Rattle.sgb_shell.specs.declared.command.Reply.{Reply}
-use Rattle.sgb_shell.specs.declared.refusal.ShellRefusal.{ShellRefusal}
-use Rattle.sgb_shell.specs.declared.refusal.ShellRefusal.TheVariants.{NoRoom, BadSpecs, TooLarge, ScriptSyntax, NothingToUndo, NothingToRedo, JournalFull}
+use Rattle.sgb_script.specs.declared.command.Command.{Command}
+use Rattle.sgb_script.specs.declared.command.Line.{Line}
+use Rattle.sgb_script.specs.declared.command.Line.TheVariants.{Change, Undo, Redo}
+use Rattle.sgb_shell.specs.declared.reply.Reply.{Reply}
+use Rattle.sgb_script.specs.declared.refusal.ShellRefusal.{ShellRefusal}
+use Rattle.sgb_script.specs.declared.refusal.ShellRefusal.TheVariants.{NoRoom, BadSpecs, TooLarge, ScriptSyntax, NothingToUndo, NothingToRedo, JournalFull}
 use Rattle.sgb_shell.specs.Lines.{all_but_last}
 use Rattle.sgb_shell.specs.Performing.{Kept, IsBegun, Does, lists_of, answer_from}
-use Rattle.sgb_shell.specs.Refusal.{is_no_room}
+use Rattle.sgb_script.specs.Refusal.{is_no_room}
 use Rattle.sgb_shell.specs.State.{empty, step, before}
 use Rattle.sgb_shell.specs.Transcript.{Lists, Told, state_of, answered, with_command, last_command, undoing, redoing}
 

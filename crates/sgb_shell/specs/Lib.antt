@@ -1,12 +1,10 @@
 pub mod Drawing
-pub mod Line
+pub mod Edits
 pub mod Lines
-pub mod Meter
 pub mod Performing
-pub mod Print
 pub mod Reaching
-pub mod Refusal
 pub mod Run
 pub mod State
 pub mod Status
+pub mod Table
 pub mod Transcript

@@ -5,12 +5,12 @@ use Rattle.sgb_undo.specs.declared.refusal.JournalRefusal.{JournalRefusal}
 use Rattle.sgb_undo.specs.declared.refusal.JournalRefusal.TheVariants as journals
 use Rattle.sgb_shell.specs.declared.answer.Answer.{Answer}
 use Rattle.sgb_shell.specs.declared.answer.Answer.TheVariants.{Replied, Refused}
-use Rattle.sgb_shell.specs.declared.command.Command.{Command}
-use Rattle.sgb_shell.specs.declared.command.Delta.{Delta}
-use Rattle.sgb_shell.specs.declared.command.Line.{Line}
-use Rattle.sgb_shell.specs.declared.command.Reply.{Reply}
-use Rattle.sgb_shell.specs.declared.refusal.ShellRefusal.{ShellRefusal}
-use Rattle.sgb_shell.specs.declared.refusal.ShellRefusal.TheVariants.{NoRoom, NothingToRedo, JournalFull}
+use Rattle.sgb_script.specs.declared.command.Command.{Command}
+use Rattle.sgb_shell.specs.declared.reply.Delta.{Delta}
+use Rattle.sgb_script.specs.declared.command.Line.{Line}
+use Rattle.sgb_shell.specs.declared.reply.Reply.{Reply}
+use Rattle.sgb_script.specs.declared.refusal.ShellRefusal.{ShellRefusal}
+use Rattle.sgb_script.specs.declared.refusal.ShellRefusal.TheVariants.{NoRoom, NothingToRedo, JournalFull}
 use Rattle.sgb_shell.specs.State.{State, empty, step, before}
 use Rattle.sgb_shell.specs.Transcript.{Lists, unit_told}
 

@@ -4,7 +4,7 @@ use Rattle.std.specs.List.{list_any}
 use Rattle.std.specs.Io.KnownBytes.{Appends}
 use Rattle.sgb_shell.specs.Lines.{whole_lines, unfinished}
 use Rattle.sgb_shell.specs.Performing.{Kept, IsBegun, lists_of}
-use Rattle.sgb_shell.specs.Print.{AppendsFront}
+use Rattle.sgb_print.specs.Print.{AppendsFront}
 use Rattle.sgb_shell.specs.Transcript.{course}
 
 -- these lines are answered: so many of them are counted and refused, the journal has their commands,

@@ -6,7 +6,7 @@ use Rattle.sgb_shell.specs.declared.fault.RunFault.{RunFault}
 use Rattle.sgb_shell.specs.declared.fault.RunFault.TheVariants.{Read, Write, TooLong, NoRoom}
 use Rattle.sgb_shell.specs.Lines.{whole_lines, lines}
 use Rattle.sgb_shell.specs.Performing.{Kept}
-use Rattle.sgb_shell.specs.Print.{AppendsFront}
+use Rattle.sgb_print.specs.Print.{AppendsFront}
 use Rattle.sgb_shell.specs.Reaching.{Progress, Stopped}
 use Rattle.sgb_shell.specs.Transcript.{course, transcript, whole_transcript}
 

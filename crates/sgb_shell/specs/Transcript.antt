@@ -4,19 +4,19 @@ use Rattle.std.specs.List.{list_any}
 use Rattle.std.specs.Fmt.{decimal}
 use Rattle.sgb_undo.specs.Outcome.{Accepted, Refused}
 use Rattle.sgb_undo.specs.Replay.{fold}
-use Rattle.sgb_shell.specs.declared.command.Command.{Command}
-use Rattle.sgb_shell.specs.declared.command.Reply.{Reply}
-use Rattle.sgb_shell.specs.declared.command.Reply.TheVariants.{Done, Number}
-use Rattle.sgb_shell.specs.declared.command.Query.TheVariants.{Gen}
-use Rattle.sgb_shell.specs.declared.command.Line.{Line}
-use Rattle.sgb_shell.specs.declared.command.Line.TheVariants.{Nothing, Change, Undo, Redo, Ask}
+use Rattle.sgb_script.specs.declared.command.Command.{Command}
+use Rattle.sgb_shell.specs.declared.reply.Reply.{Reply}
+use Rattle.sgb_shell.specs.declared.reply.Reply.TheVariants.{Done, Number}
+use Rattle.sgb_script.specs.declared.command.Query.TheVariants.{Gen}
+use Rattle.sgb_script.specs.declared.command.Line.{Line}
+use Rattle.sgb_script.specs.declared.command.Line.TheVariants.{Nothing, Change, Undo, Redo, Ask}
 use Rattle.sgb_shell.specs.declared.answer.Answer.{Answer}
 use Rattle.sgb_shell.specs.declared.answer.Answer.TheVariants as answers
-use Rattle.sgb_shell.specs.declared.refusal.ShellRefusal.TheVariants.{NoRoom, ScriptSyntax, NothingToUndo, NothingToRedo, JournalFull}
+use Rattle.sgb_script.specs.declared.refusal.ShellRefusal.TheVariants.{NoRoom, ScriptSyntax, NothingToUndo, NothingToRedo, JournalFull}
 use Rattle.sgb_shell.specs.Drawing.{generator_of}
-use Rattle.sgb_shell.specs.Line.{line_of}
+use Rattle.sgb_script.specs.Line.{line_of}
 use Rattle.sgb_shell.specs.Lines.{all_but_last, whole_lines, lines}
-use Rattle.sgb_shell.specs.Refusal.{number_of, text_of}
+use Rattle.sgb_script.specs.Refusal.{number_of, text_of}
 use Rattle.sgb_shell.specs.State.{State, StepOutcome, empty, step}
 
 -- the commands that stand, and those that are undone, the next to redo first

@@ -1,14 +1,14 @@
 //! What a line of a script is answered, and how that is printed.
-ghost use Rattle.sgb_shell.specs.Print.{Prints};
+ghost use Rattle.sgb_print.specs.Print.{Prints};
 ghost use Rattle.sgb_shell.specs.Transcript.{answer_text, reply_text};
 ghost use Rattle.sgb_shell.specs.State.{empty};
 ghost use Rattle.sgb_shell.specs.declared.answer.Answer.TheVariants.{Asked, Refused};
-ghost use Rattle.sgb_shell.specs.declared.command.Query.TheVariants.{Gen};
+ghost use Rattle.sgb_script.specs.declared.command.Query.TheVariants.{Gen};
 
 use crate::command::{Query, Reply};
-use crate::meter::{Failed, MeteredWriter};
-use crate::print::{put, put_all};
-use crate::refusal::ShellRefusal;
+use sgb_print::{Failed, MeteredWriter};
+use sgb_print::{put, put_all};
+use sgb_script::ShellRefusal;
 use crate::session::Session;
 use itoa::Buffer;
 use std::io::Write;

@@ -2,25 +2,23 @@
 #![tactic(auto)]
 
 mod answer;
-mod command;
+mod edit;
 mod fault;
-mod line;
 mod mark;
-mod meter;
 mod perform;
-mod print;
-mod refusal;
+mod reply;
 mod script;
 mod session;
 mod shell;
 mod status;
+mod table;
 
-pub use command::{Command, Delta, Line, Query, Reply};
 pub use fault::{RunEnd, RunFault};
-pub use line::{LINE_LIMIT, parse};
 pub use mark::Mark;
-pub use meter::{Failed, MeteredReader, MeteredWriter};
-pub use refusal::ShellRefusal;
+pub use reply::{Delta, Reply};
 pub use script::{Ended, SCRIPT_LIMIT, run};
 pub use session::{MOST_DRAWS, MOST_UNIFORM, Session};
+pub use sgb_print::{Failed, MeteredReader, MeteredWriter};
+pub use sgb_script::{Command, Edit, LINE_LIMIT, Line, Name, Query, ShellRefusal, parse};
 pub use status::exit_status;
+pub use table::{Entry, MOST_GRAPHS};

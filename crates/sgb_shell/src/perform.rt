@@ -1,13 +1,13 @@
 //! Does what a line says to the session's journal.
 ghost use Rattle.std.specs.Prelude.{◌≡◌, Some};
-ghost use Rattle.sgb_shell.specs.Line.{line_of};
+ghost use Rattle.sgb_script.specs.Line.{line_of};
 ghost use Rattle.sgb_shell.specs.Performing.{IsBegun, Does, answer_from, refusal_from};
-ghost use Rattle.sgb_shell.specs.declared.command.Line.TheVariants.{Change, Undo, Redo};
+ghost use Rattle.sgb_script.specs.declared.command.Line.TheVariants.{Change, Undo, Redo};
 
 use crate::answer::Answer;
 use crate::command::{Command, Line, Reply};
 use crate::line::parse;
-use crate::refusal::ShellRefusal;
+use sgb_script::ShellRefusal;
 use crate::session::Session;
 use sgb_undo::{Journal, JournalRefusal};
 

@@ -6,7 +6,7 @@ ghost use Rattle.sgb_shell.specs.Reaching.{Progress};
 ghost use Rattle.sgb_shell.specs.Run.{Runs, TakesScript};
 
 use crate::fault::{RunEnd, RunFault};
-use crate::meter::{Failed, MeteredReader, MeteredWriter};
+use sgb_print::{Failed, MeteredReader, MeteredWriter};
 use crate::shell::Shell;
 use std::alloc::Global;
 use std::io::{Read, Write};

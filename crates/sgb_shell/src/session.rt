@@ -1,12 +1,18 @@
 //! The session: what the commands change.
-ghost use Rattle.std.specs.Prelude.{◌≡◌, ◌⊎◌, true, IfOk, IfErr, OnErr};
+ghost use Rattle.std.specs.Prelude.{◌≡◌, ◌<◌, ◌≤◌, ◌⊎◌, ◌×◌, length, true, IfOk, IfErr, OnErr};
 ghost use Rattle.sgb_undo.specs.Outcome.{Accepted, Refused};
+ghost use Rattle.sgb_script.specs.declared.command.Command.TheVariants as commands;
 ghost use Rattle.sgb_shell.specs.Drawing.{generator_of};
+ghost use Rattle.sgb_shell.specs.Edits.{refusal_from};
+ghost use Rattle.sgb_shell.specs.State.{Performs};
 
-use crate::command::{Command, Delta, Reply};
 use crate::mark::Mark;
-use crate::refusal::ShellRefusal;
+use crate::reply::{Delta, Reply};
+use crate::table::{MOST_GRAPHS, Table};
+use sgb_graph::{Graph, MOST_VERTICES, Refusal};
+use sgb_script::{Command, Edit, Name, ShellRefusal};
 use sgb_undo::Reversible;
+use std::alloc::Global;
 use std::marker::Model;
 
 /// No number is drawn any more where so many were drawn since the seeding.
@@ -15,10 +21,12 @@ pub const MOST_DRAWS: u64 = 1 << 62;
 /// The greatest bound of a uniform number.
 pub const MOST_UNIFORM: i64 = 1 << 31;
 
-/// The state that a script works on. It keeps the laws of [`Reversible`].
-#[derive(Debug, Drop)]
+/// The state that a script works on: a generator, and named graphs. It keeps the laws of [`Reversible`].
+#[derive(Drop)]
 pub struct Session {
+    alloc: Global,
     generator: Mark,
+    table: Table,
 }
 
 impl Model for Session {
@@ -26,18 +34,21 @@ impl Model for Session {
 
     ghost Value = { State };
 
-    ghost view = { λ s. record { generator = s.generator } };
+    ghost view = { λ s. record { generator = s.generator; table = s.table } };
 }
 
 impl Session {
     ghost use Rattle.sgb_shell.specs.State.{empty};
+    ghost use Rattle.sgb_shell.specs.Table.{find, entry_in, graph_in};
 
-    /// The empty session: the generator is that of seed 0. It takes no memory.
-    pub fn new() -> Session
+    /// The empty session: the generator is that of seed 0, and there are no graphs. It takes no memory.
+    pub fn new(alloc: Global) -> Session
         ensures { result ≡ empty }
     {
         Session {
+            alloc,
             generator: Mark::new(0),
+            table: Table::new(),
         }
     }
 
@@ -50,11 +61,129 @@ impl Session {
         let mark = &self.generator;
         (mark.seed(), mark.draws(), mark.unread())
     }
+
+    /// How many graphs there are, at most 64.
+    pub fn len(&self) -> usize
+        ensures value { result ≡ length self.now.table }
+        ensures few { result ≤ 64 }
+    {
+        self.table.len()
+    }
+
+    /// The name of the graph at a place.
+    pub fn name_at(&self, place: usize) -> Name
+        requires { place < length self.now.table }
+        ensures { result ≡ (entry_in self.now.table place).name }
+    {
+        self.table.entry(place).name
+    }
+
+    /// The graph at a place.
+    pub fn graph_at(&self, place: usize) -> &Graph
+        requires { place < length self.now.table }
+        ensures { result.now ≡ graph_in self.now.table place }
+    {
+        &self.table.entry(place).graph
+    }
+
+    /// The place of the graph of this name.
+    pub fn find(&self, name: &Name) -> Option<usize>
+        ensures { result ≡ find self.now.table name.now }
+    {
+        self.table.find(name)
+    }
+
+    // Draws one number.
+    fn draw(&mut self) -> Result<(Delta, Reply), ShellRefusal>
+        ensures { Performs self.old self.new commands.Next result }
+    {
+        if self.generator.draws() >= MOST_DRAWS {
+            return Err(ShellRefusal::TooLarge);
+        }
+        let number = self.generator.next();
+        Ok((Delta::Draws(1), Reply::Number(number)))
+    }
+
+    // Draws a uniform number.
+    fn draw_below(&mut self, bound: i64) -> Result<(Delta, Reply), ShellRefusal>
+        ensures { Performs self.old self.new (commands.Unif bound) result }
+    {
+        if self.generator.draws() >= MOST_DRAWS {
+            return Err(ShellRefusal::TooLarge);
+        }
+        if bound < 1 || bound > MOST_UNIFORM {
+            return Err(ShellRefusal::BadSpecs);
+        }
+        let drawn = self.generator.uniform(bound as u32);
+        Ok((
+            Delta::Draws(u64::from(drawn.draws)),
+            Reply::Number(drawn.value),
+        ))
+    }
+
+    // Makes a graph, which then stands last.
+    fn make(&mut self, name: Name, vertices: i64) -> Result<(Delta, Reply), ShellRefusal>
+        ensures { Performs self.old self.new (commands.Graph name vertices) result }
+    {
+        if self.table.find(&name).is_some() {
+            return Err(ShellRefusal::NameTaken);
+        }
+        if self.table.len() >= MOST_GRAPHS {
+            return Err(ShellRefusal::TableFull);
+        }
+        if vertices < 0 {
+            return Err(ShellRefusal::BadSpecs);
+        }
+        if vertices > i64::from(MOST_VERTICES) {
+            return Err(ShellRefusal::TooLarge);
+        }
+        let graph = Graph::new(self.alloc, vertices as u32).map_err(refusal_of)?;
+        let reply = Reply::Made(name, graph.n(), graph.m());
+        self.table.push(name, graph);
+        Ok((Delta::Made, reply))
+    }
+
+    // Edits the graph of this name.
+    fn edit(&mut self, name: &Name, edit: &Edit) -> Result<(Delta, Reply), ShellRefusal>
+        ensures { Performs self.old self.new (commands.Edit name.now edit.now) result }
+    {
+        let Some(place) = self.table.find(name) else {
+            return Err(ShellRefusal::NoGraph);
+        };
+        match self.table.edit(self.alloc, place, edit) {
+            Ok((delta, reply)) => Ok((Delta::Edit(place, delta), reply)),
+            Err(refusal) => Err(refusal_of(refusal)),
+        }
+    }
+
+    // Takes the graph of this name out of the table.
+    fn drop_graph(&mut self, name: &Name) -> Result<(Delta, Reply), ShellRefusal>
+        ensures { Performs self.old self.new (commands.Drop name.now) result }
+    {
+        let Some(place) = self.table.find(name) else {
+            return Err(ShellRefusal::NoGraph);
+        };
+        let entry = self.table.remove(place);
+        Ok((
+            Delta::Dropped(place, entry.name, entry.graph),
+            Reply::Done,
+        ))
+    }
+}
+
+fn refusal_of(refusal: Refusal) -> ShellRefusal
+    ensures { result ≡ refusal_from refusal }
+{
+    match refusal {
+        Refusal::NoRoom => ShellRefusal::NoRoom,
+        Refusal::TooLarge => ShellRefusal::TooLarge,
+        Refusal::BadOperand => ShellRefusal::BadOperand,
+    }
 }
 
 impl Reversible for Session {
-    ghost use Rattle.sgb_shell.specs.State.{step, before, can_revert};
-    ghost use Rattle.sgb_shell.specs.Refusal.{is_no_room};
+    ghost use Rattle.sgb_shell.specs.State.{step, before, can_revert, takes_memory};
+    ghost use Rattle.sgb_script.specs.Refusal.{is_no_room};
 
     type Command = Command;
 
@@ -72,14 +201,14 @@ impl Reversible for Session {
 
     ghost is_want_of_memory = { is_no_room };
 
-    /// Performs a command. None of these commands takes memory.
+    /// Performs a command. Only a new graph, a new arc or edge and a text take memory.
     fn apply(&mut self, command: &Command) -> Result<(Delta, Reply), ShellRefusal>
         ensures accepted { IfOk result (λ a. step self.old command.now ≡ Accepted self.new a.0 a.1) }
         ensures can_revert { IfOk result (λ a. can_revert self.new a.0) }
         ensures before { IfOk result (λ a. before self.new a.0 ≡ self.old) }
         ensures refused { IfErr result (λ r. (is_no_room r ≡ true) ⊎ (step self.old command.now ≡ Refused r)) }
         ensures err { OnErr result (self.new ≡ self.old) }
-        ensures no_memory { IfErr result (λ r. step self.old command.now ≡ Refused r) }
+        ensures memory { IfErr result (λ r. (takes_memory command.now ≡ true) ⊎ (step self.old command.now ≡ Refused r)) }
     {
         match command {
             Command::Seed(seed) => {
@@ -87,26 +216,11 @@ impl Reversible for Session {
                 self.generator = Mark::new(*seed);
                 Ok((Delta::Seed(before), Reply::Done))
             }
-            Command::Next => {
-                if self.generator.draws() >= MOST_DRAWS {
-                    return Err(ShellRefusal::TooLarge);
-                }
-                let number = self.generator.next();
-                Ok((Delta::Draws(1), Reply::Number(number)))
-            }
-            Command::Unif(bound) => {
-                if self.generator.draws() >= MOST_DRAWS {
-                    return Err(ShellRefusal::TooLarge);
-                }
-                if *bound < 1 || *bound > MOST_UNIFORM {
-                    return Err(ShellRefusal::BadSpecs);
-                }
-                let drawn = self.generator.uniform(*bound as u32);
-                Ok((
-                    Delta::Draws(u64::from(drawn.draws)),
-                    Reply::Number(drawn.value),
-                ))
-            }
+            Command::Next => self.draw(),
+            Command::Unif(bound) => self.draw_below(*bound),
+            Command::Graph(name, vertices) => self.make(*name, *vertices),
+            Command::Edit(name, edit) => self.edit(name, edit),
+            Command::Drop(name) => self.drop_graph(name),
         }
     }
 
@@ -114,6 +228,9 @@ impl Reversible for Session {
         match delta {
             Delta::Seed(mark) => self.generator = mark,
             Delta::Draws(draws) => self.generator.back_by(draws),
+            Delta::Made => self.table.pop(),
+            Delta::Edit(place, delta) => self.table.revert(place, delta),
+            Delta::Dropped(place, name, graph) => self.table.insert(place, name, graph),
         }
     }
 

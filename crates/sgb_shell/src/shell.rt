@@ -1,6 +1,6 @@
 //! Answers a script line by line, as its bytes come.
 ghost use Rattle.std.specs.Prelude.{◌≡◌, ◌<◌, ◌≤◌, ◌^◌, ◌++◌, ◌∷◌, [], List, ℕ, Option, IfOk, false, length, vec_capacity};
-ghost use Rattle.sgb_shell.specs.Line.{line_of};
+ghost use Rattle.sgb_script.specs.Line.{line_of};
 ghost use Rattle.sgb_shell.specs.Performing.{IsBegun, Does};
 ghost use Rattle.sgb_shell.specs.Reaching.{Holds, Reached, Finishes, Takes, Progress};
 ghost use Rattle.sgb_shell.specs.Lines.{lines};
@@ -8,9 +8,9 @@ ghost use Rattle.sgb_shell.specs.Transcript.{refusals};
 
 use crate::answer::{Answer, print_answer};
 use crate::line::LINE_LIMIT;
-use crate::meter::{Failed, MeteredWriter};
+use sgb_print::{Failed, MeteredWriter};
 use crate::perform::perform;
-use crate::refusal::ShellRefusal;
+use sgb_script::ShellRefusal;
 use crate::session::Session;
 use sgb_undo::Journal;
 use std::alloc::{AllocError, Global};

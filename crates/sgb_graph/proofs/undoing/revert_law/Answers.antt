@@ -2,4 +2,4 @@ use Rattle.sgb_graph.proofs.Reverting.{reverted_is}
 use Rattle.sgb_graph.proofs.undoing.revert_law.Goals as goal
 
 pub returns : goal.returns
-returns c = reverted_is
+returns c = record { met = reverted_is }

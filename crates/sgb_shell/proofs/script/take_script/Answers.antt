@@ -2,7 +2,7 @@ use Rattle.std.proofs.Common.{◌≡◌, ◌≢◌, ◌∙◌, ◌+◌, ◌++◌
 use Rattle.std.proofs.KnownBytes.{Consumes-trans}
 use Rattle.std.proofs.lemmas.List.{length-take-le}
 use Rattle.std.specs.Io.KnownBytes.{Consumes}
-use Rattle.sgb_shell.proofs.Printing.{or-false}
+use Rattle.sgb_print.proofs.Printing.{or-false}
 use Rattle.sgb_shell.proofs.Taking.{still_few, takes_ok, takes_err, one_byte}
 use Rattle.sgb_shell.proofs.script.take_script.Goals as goal
 

@@ -1,5 +1,5 @@
 use Rattle.std.proofs.Common.{subst}
-use Rattle.sgb_shell.specs.Line.{line_of}
+use Rattle.sgb_script.specs.Line.{line_of}
 use Rattle.sgb_shell.specs.Performing.{Does}
 use Rattle.sgb_shell.proofs.Courses.{held_whole}
 use Rattle.sgb_shell.proofs.shell.answer_line.Goals as goal

@@ -1,0 +1,184 @@
+//! The named graphs of a session.
+ghost use Rattle.std.specs.Prelude.{◌≡◌, ◌<◌, ◌≤◌, ◌+◌, ◌-◌, ◌×◌, ◌++◌, ◌∷◌, [], length, take, insert, remove, IsSome};
+ghost use Rattle.std.specs.Str.{bytes_eq};
+ghost use Rattle.sgb_graph.specs.Graph.{GraphOf};
+ghost use Rattle.sgb_graph.specs.Delta.{LeftBy};
+ghost use Rattle.sgb_graph.specs.Reverted.{reverted};
+ghost use Rattle.sgb_shell.specs.Edits.{edited, edit_takes_memory};
+ghost use Rattle.sgb_shell.specs.Table.{find, entry_in, graph_in, with_graph, held, slot_in, slot_with_graph, MakesAt, MakesInSlot};
+
+use crate::edit::make_edit;
+use crate::reply::Reply;
+use arrayvec::ArrayVec;
+use sgb_graph::{Graph, GraphDelta, Refusal};
+use sgb_script::{Edit, Name};
+use std::alloc::Global;
+use std::marker::Model;
+
+/// The most graphs of a session.
+pub const MOST_GRAPHS: usize = 64;
+
+/// A graph and its name.
+#[derive(Drop)]
+pub struct Entry {
+    pub(crate) name: Name,
+    pub(crate) graph: Graph,
+}
+
+/// The graphs in their order. They lie in the table itself, and none is ever copied.
+#[derive(Drop)]
+pub(crate) struct Table {
+    // A place that is used holds an entry.
+    entries: ArrayVec<Option<Entry>, MOST_GRAPHS>,
+}
+
+impl Model for Table {
+    ghost use Rattle.std.specs.Prelude.{List, map, All, IsSome};
+    ghost use Rattle.sgb_shell.specs.declared.table.Entry.{Entry};
+    ghost use Rattle.sgb_shell.specs.Table.{held};
+
+    ghost Value = { List Entry };
+
+    ghost view = { λ t. map held t.entries.items };
+
+    ghost invariant = { λ t. All (λ o. IsSome o) t.entries.items };
+}
+
+impl Table {
+    /// No graphs.
+    pub(crate) fn new() -> Table
+        ensures { result ≡ [] }
+    {
+        Table {
+            entries: ArrayVec::new(),
+        }
+    }
+
+    /// How many graphs there are.
+    pub(crate) fn len(&self) -> usize
+        ensures value { result ≡ length self.now }
+        ensures few { result ≤ 64 }
+    {
+        self.entries.len()
+    }
+
+    /// The graph at a place, with its name.
+    pub(crate) fn entry(&self, place: usize) -> &Entry
+        requires { place < length self.now }
+        ensures { result.now ≡ entry_in self.now place }
+    {
+        match &self.entries.as_slice()[place] {
+            Some(entry) => entry,
+            None => unreachable!(),
+        }
+    }
+
+    /// Where the graph of this name stands.
+    pub(crate) fn find(&self, name: &Name) -> Option<usize>
+        ensures { result ≡ find self.now name.now }
+    {
+        let bytes = name.bytes();
+        self.entries
+            .as_slice()
+            .iter()
+            .position(|slot| has_name(slot, bytes))
+    }
+
+    /// Puts a graph last.
+    pub(crate) fn push(&mut self, name: Name, graph: Graph)
+        requires { length self.old < 64 }
+        ensures { self.new ≡ self.old ++ record { name = name; graph = graph } ∷ [] }
+    {
+        self.entries.push(Some(Entry { name, graph }));
+    }
+
+    /// Takes the last graph away.
+    pub(crate) fn pop(&mut self)
+        requires { 0 < length self.old }
+        ensures { self.new ≡ take (length self.old - 1) self.old }
+    {
+        let _ = self.entries.pop();
+    }
+
+    /// Puts a graph at a place, before those that stand from there on.
+    pub(crate) fn insert(&mut self, place: usize, name: Name, graph: Graph)
+        requires place { place ≤ length self.old }
+        requires few { length self.old < 64 }
+        ensures { self.new ≡ insert self.old place (record { name = name; graph = graph }) }
+    {
+        self.entries.insert(place, Some(Entry { name, graph }));
+    }
+
+    /// Takes the graph at a place away, and closes up.
+    pub(crate) fn remove(&mut self, place: usize) -> Entry
+        requires { place < length self.old }
+        ensures entry { result ≡ entry_in self.old place }
+        ensures table { self.new ≡ remove self.old place }
+        ensures few { length self.new < 64 }
+    {
+        match self.entries.remove(place) {
+            Some(entry) => entry,
+            None => unreachable!(),
+        }
+    }
+
+    /// Makes an edit of the graph at a place.
+    pub(crate) fn edit(
+        &mut self,
+        alloc: Global,
+        place: usize,
+        edit: &Edit,
+    ) -> Result<(GraphDelta, Reply), Refusal>
+        requires { place < length self.old }
+        ensures { MakesAt (edit_takes_memory edit.now) self.old self.new place (edited (graph_in self.old place) edit.now) result }
+    {
+        edit_slot(self.entries.as_mut_slice(), alloc, place, edit)
+    }
+
+    /// Takes an edit of the graph at a place back.
+    pub(crate) fn revert(&mut self, place: usize, delta: GraphDelta)
+        requires place { place < length self.old }
+        requires left { (g : GraphOf) × LeftBy g delta (graph_in self.old place) }
+        ensures { self.new ≡ with_graph self.old place (reverted (graph_in self.old place) delta) }
+    {
+        revert_slot(self.entries.as_mut_slice(), place, delta);
+    }
+}
+
+fn has_name(slot: &Option<Entry>, name: &[u8]) -> bool
+    requires { IsSome slot.now }
+    ensures { result ≡ bytes_eq (held slot.now).name name.now }
+{
+    match slot {
+        Some(entry) => entry.name.bytes() == name,
+        None => unreachable!(),
+    }
+}
+
+fn edit_slot(
+    slots: &mut [Option<Entry>],
+    alloc: Global,
+    place: usize,
+    edit: &Edit,
+) -> Result<(GraphDelta, Reply), Refusal>
+    requires place { place < length slots.old }
+    requires some { IsSome (slot_in slots.old place) }
+    ensures { MakesInSlot (edit_takes_memory edit.now) slots.old slots.new place (edited (held (slot_in slots.old place)).graph edit.now) result }
+{
+    match &mut slots[place] {
+        Some(entry) => make_edit(alloc, &mut entry.graph, edit),
+        None => unreachable!(),
+    }
+}
+
+fn revert_slot(slots: &mut [Option<Entry>], place: usize, delta: GraphDelta)
+    requires place { place < length slots.old }
+    requires some { IsSome (slot_in slots.old place) }
+    requires left { (g : GraphOf) × LeftBy g delta (held (slot_in slots.old place)).graph }
+    ensures { slots.new ≡ slot_with_graph slots.old place (reverted (held (slot_in slots.old place)).graph delta) }
+{
+    match &mut slots[place] {
+        Some(entry) => entry.graph.revert(delta),
+        None => unreachable!(),
+    }
+}
