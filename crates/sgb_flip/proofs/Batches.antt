@@ -162,35 +162,13 @@ restored old new count count' small small' low high (suc bound) k h lt =
     ∙ sym (term-more new (k + 1) (omega arith)) ∙ ap (λ n. term new n) whole)
     (cases_lt k 24)
 
-pub batch_before : (old a b new : List ℕ) → length old ≡ 55 → AreSmall old → AreSmall new → IsRun joined 48 24 7 old a → IsRun joined 24 0 24 a b → IsRun joined 0 31 24 b new → terms_after new 55 ≡ old
-batch_before old a b new count small small' first second third =
-    let count' : length new ≡ 55 = third.length_is ∙ second.length_is ∙ first.length_is ∙ count in
+pub batch_before : (old new : List ℕ) → length old ≡ 55 → length new ≡ 55 → AreSmall old → AreSmall new
+    → ((k : ℕ) → k < 24 → get_or new k 0 ≡ joined (get_or old k 0) (get_or new (k + 31) 0))
+    → ((k : ℕ) → 24 ≤ k → k < 55 → get_or new k 0 ≡ joined (get_or old k 0) (get_or old (k - 24) 0))
+    → terms_after new 55 ≡ old
+batch_before old new count count' small small' low high =
     sym (same-terms_after new 55 old count
-    (λ k h.
-    restored old new count' count small small'
-    (λ i lt.
-    let here : 0 + i ≡ i = omega arith in
-    let there : 31 + i ≡ i + 31 = omega arith in
-    ap (λ n. get_or new n 0) (sym here) ∙ third.changed i lt
-    ∙ ap₂ (λ p q. joined (get_or b p 0) (get_or b q 0)) here there
-    ∙ ap₂ joined (second.below i lt ∙ first.below i (omega arith)) (sym (third.above (i + 31) (omega arith))))
-    (λ i low lt.
-    ⊎_elim
-    (λ (middle : i < 48).
-    let here : 24 + (i - 24) ≡ i = omega arith in
-    let there : 0 + (i - 24) ≡ i - 24 = omega arith in
-    third.above i low
-    ∙ ap (λ n. get_or b n 0) (sym here) ∙ second.changed (i - 24) (omega arith)
-    ∙ ap₂ (λ p q. joined (get_or a p 0) (get_or a q 0)) here there
-    ∙ ap₂ joined (first.below i middle) (first.below (i - 24) (omega arith)))
-    (λ (high : 48 ≤ i).
-    let here : 48 + (i - 48) ≡ i = omega arith in
-    let there : 24 + (i - 48) ≡ i - 24 = omega arith in
-    third.above i low ∙ second.above i high
-    ∙ ap (λ n. get_or a n 0) (sym here) ∙ first.changed (i - 48) (omega arith)
-    ∙ ap₂ (λ p q. joined (get_or old p 0) (get_or old q 0)) here there)
-    (cases_lt i 48))
-    (suc k) k (omega arith) h))
+    (λ k h. restored old new count' count small small' low high (suc k) k (omega arith) h))
 
 -- ---- many batches
 pub batches_more : (first now next : List ℕ) (turns : ℕ) → now ≡ terms_after first (55 * turns) → next ≡ terms_after now 55 → next ≡ terms_after first (55 * (turns + 1))

@@ -6,16 +6,12 @@ use Rattle.std.proofs.lemmas.Nat.{and_mask}
 use Rattle.std.proofs.lemmas.Simd.{get_or-chunk, get_or-put_chunk_above, get_or-put_chunk_at, get_or-put_chunk_below, get_or-replicate, get_or-zip2, length-chunk, length-put_chunk, length-replicate, length-zip2}
 use Rattle.sgb_flip.specs.Generator.{AreSmall}
 use Rattle.sgb_flip.specs.Run.{IsRun}
-use Rattle.sgb_flip.specs.Sequence.{difference, joined}
+use Rattle.sgb_flip.specs.Sequence.{difference}
 
 -- ---- one lane
 pub masked_difference : (a b : ℕ) → a < 2 ^ 31 → b < 2 ^ 31 → bit_and ((a + (2 ^ 32 - b)) % 2 ^ 32) (2 ^ 31 - 1) ≡ difference a b
 unfolding difference
 masked_difference a b p q = and_mask ((a + (2 ^ 32 - b)) % 2 ^ 32) 31 ∙ omega arith
-
-pub masked_joined : (a b : ℕ) → a < 2 ^ 31 → b < 2 ^ 31 → bit_and ((a + b) % 2 ^ 32) (2 ^ 31 - 1) ≡ joined a b
-unfolding joined
-masked_joined a b p q = and_mask ((a + b) % 2 ^ 32) 31 ∙ omega arith
 
 -- ---- eight lanes
 -- two vectors put together by g, and then masked by h, where that is f of two small words

@@ -1,5 +1,6 @@
 mod Batches
 pub mod Draws
+mod Halves
 mod Lanes
 mod Seeds
 pub mod Terms

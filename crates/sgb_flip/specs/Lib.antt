@@ -1,3 +1,4 @@
 pub mod Generator
+pub mod Halves
 pub mod Run
 pub mod Sequence
