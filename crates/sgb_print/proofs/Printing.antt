@@ -1,10 +1,11 @@
 -- Bytes that were written, piece by piece.
-use Rattle.std.proofs.Common.{◌+◌, ◌<◌, length, get_or, drop-cons, add-one, ◌≡◌, ℕ, Bool, true, false, ◌||◌, List, [], ◌∷◌, ◌++◌, take, drop, Option, refl, sym, ap, ◌∙◌, subst, append_assoc, append-nil, take-append-drop}
+use Rattle.std.proofs.Common.{◌+◌, ◌<◌, ◌≤◌, length, get_or, drop-cons, add-one, ◌≡◌, ℕ, Bool, true, false, ◌||◌, List, [], ◌∷◌, ◌++◌, take, drop, Option, Result, Ok, Err, refl, sym, ap, ◌∙◌, subst, append_assoc, append-nil, arith, take-append-drop}
 use lib.Seq.{take-append_seam, drop-append_seam}
+use Rattle.std.proofs.Math.ListN.{drop_of_length-le}
 use Rattle.std.specs.List.{flat_map}
 use Rattle.std.specs.Io.KnownBytes.{Appends, Keeps}
 use Rattle.std.proofs.KnownBytes.{Appends-nil, Appends-trans, Appends-kept}
-use Rattle.sgb_print.specs.Print.{AppendsFront}
+use Rattle.sgb_print.specs.Print.{AppendsFront, Prints}
 
 -- a front of the bytes was written, and the rest is to be
 pub record Writes (old new : Option (List ℕ)) (failed failed' : Bool) (bytes rest : List ℕ) : Type 0 where
@@ -61,3 +62,81 @@ module _ {X : Type 0} (text : X → List ℕ) where
         whole = w.whole ∙ ap (λ r. w.front ++ r) (pieces_from xs i d within ∙ ap (λ p. p ++ rest) more.whole) ∙ simp append_assoc;
         appends = Appends-trans old mid new w.front more.front w.appends more.appends;
       }
+
+  -- the same, where x is what stands at the place
+  pub one_item : (old mid new : Option (List ℕ)) (failed failed' failed'' : Bool) (bytes : List ℕ) (xs : List X) (i : ℕ) (x : X) → i < length xs → x ≡ get_or xs i x
+      → Writes old mid failed failed' bytes (flat_map text (drop i xs)) → Appends mid new (text x) × (failed'' ≡ failed')
+      → Writes old new failed failed'' bytes (flat_map text (drop (i + 1) xs))
+  one_item old mid new failed failed' failed'' bytes xs i x within same w more =
+      one_piece old mid new failed failed' failed'' bytes xs i x within w (subst (λ (y : X). Appends mid new (text y) × (failed'' ≡ failed')) same more)
+
+  pub failing_item : (old mid new : Option (List ℕ)) (failed failed' : Bool) (bytes : List ℕ) (xs : List X) (i : ℕ) (x : X) → i < length xs → x ≡ get_or xs i x
+      → Writes old mid failed failed' bytes (flat_map text (drop i xs)) → AppendsFront mid new (text x) → AppendsFront old new bytes
+  failing_item old mid new failed failed' bytes xs i x within same w more =
+      failing_piece old mid new failed failed' bytes xs i x within w (subst (λ (y : X). AppendsFront mid new (text y)) same more)
+
+  pub last_item : (old new : Option (List ℕ)) (failed failed' : Bool) (bytes : List ℕ) (xs : List X) (i : ℕ) → length xs ≤ i
+      → Writes old new failed failed' bytes (flat_map text (drop i xs)) → Appends old new bytes × (failed' ≡ failed)
+  last_item old new failed failed' bytes xs i all w =
+      all_written old new failed failed' bytes (flat_map text (drop i xs)) (ap (flat_map text) (drop_of_length-le xs all)) w
+
+  -- the same of the first of a list
+  pub first_item : (old mid new : Option (List ℕ)) (failed failed' failed'' : Bool) (bytes : List ℕ) (xs : List X) (x : X) (rest : List X) → xs ≡ x ∷ rest
+      → Writes old mid failed failed' bytes (flat_map text xs) → Appends mid new (text x) × (failed'' ≡ failed')
+      → Writes old new failed failed'' bytes (flat_map text rest)
+  first_item old mid new failed failed' failed'' bytes xs x rest same w more =
+      one_piece old mid new failed failed' failed'' bytes (x ∷ rest) 0 x (omega arith)
+      (subst (λ (ys : List X). Writes old mid failed failed' bytes (flat_map text ys)) same w) more
+
+  pub failing_first : (old mid new : Option (List ℕ)) (failed failed' : Bool) (bytes : List ℕ) (xs : List X) (x : X) (rest : List X) → xs ≡ x ∷ rest
+      → Writes old mid failed failed' bytes (flat_map text xs) → AppendsFront mid new (text x) → AppendsFront old new bytes
+  failing_first old mid new failed failed' bytes xs x rest same w more =
+      failing_piece old mid new failed failed' bytes (x ∷ rest) 0 x (omega arith)
+      (subst (λ (ys : List X). Writes old mid failed failed' bytes (flat_map text ys)) same w) more
+
+-- ---- one text behind another
+pub prints_behind : {X E : Type 0} (old mid new : Option (List ℕ)) (failed failed' failed'' : Bool) (result : Result X E) (first second : List ℕ)
+    → Appends old mid first × (failed' ≡ failed) → Prints mid new failed' failed'' result second → Prints old new failed failed'' result (first ++ second)
+prints_behind old mid new failed failed' failed'' (Ok x) first second before more = (Appends-trans old mid new first second before.0 more.0, more.1 ∙ before.1)
+prints_behind old mid new failed failed' failed'' (Err e) first second before more = (
+  record {
+    front = first ++ more.0.front;
+    rest = more.0.rest;
+    whole = ap (λ r. first ++ r) more.0.whole ∙ sym (append_assoc first more.0.front more.0.rest);
+    appends = Appends-trans old mid new first more.0.front before.0 more.0.appends;
+  },
+  more.1,
+)
+
+-- the first text was not written, so neither are both
+pub fails_before : (old new : Option (List ℕ)) (first second : List ℕ) → AppendsFront old new first → AppendsFront old new (first ++ second)
+fails_before old new first second w = record {
+  front = w.front;
+  rest = w.rest ++ second;
+  whole = ap (λ t. t ++ second) w.whole ∙ append_assoc w.front w.rest second;
+  appends = w.appends;
+}
+
+-- the first text was written, and the second was not
+pub fails_behind : (old mid new : Option (List ℕ)) (first second : List ℕ) → Appends old mid first → AppendsFront mid new second → AppendsFront old new (first ++ second)
+fails_behind old mid new first second before w = record {
+  front = first ++ w.front;
+  rest = w.rest;
+  whole = ap (λ t. first ++ t) w.whole ∙ sym (append_assoc first w.front w.rest);
+  appends = Appends-trans old mid new first w.front before w.appends;
+}
+
+-- the same bytes in another spelling
+pub prints_same : {X E : Type 0} (old new : Option (List ℕ)) (failed failed' : Bool) (result : Result X E) (bytes text : List ℕ)
+    → Prints old new failed failed' result bytes → text ≡ bytes → Prints old new failed failed' result text
+prints_same old new failed failed' result bytes text w same = subst (Prints old new failed failed' result) (sym same) w
+
+pub fails_same : (old new : Option (List ℕ)) (bytes text : List ℕ) → AppendsFront old new bytes → text ≡ bytes → AppendsFront old new text
+fails_same old new bytes text w same = subst (AppendsFront old new) (sym same) w
+
+pub appends_same : (old new : Option (List ℕ)) (failed failed' : Bool) (bytes text : List ℕ)
+    → Appends old new bytes × (failed' ≡ failed) → text ≡ bytes → Appends old new text × (failed' ≡ failed)
+appends_same old new failed failed' bytes text w same = subst (λ t. Appends old new t × (failed' ≡ failed)) (sym same) w
+
+pub nothing_printed : (held : Option (List ℕ)) (failed : Bool) (text : List ℕ) → text ≡ [] → Appends held held text × (failed ≡ failed)
+nothing_printed held failed text none = (subst (Appends held held) (sym none) (Appends-nil held), refl)

@@ -1,6 +1,6 @@
 -- How graphs are printed.
-use Rattle.std.specs.Prelude.{ℕ, List, [], ◌∷◌, ◌++◌, ◌==◌, length, zip, codes, Bool, true, false, if◌then◌else◌}
-use Rattle.std.specs.List.{flat_map, list_all, range_with_len}
+use Rattle.std.specs.Prelude.{ℕ, ℤ, List, [], ◌∷◌, ◌++◌, codes, Bool, true, false, if◌then◌else◌}
+use Rattle.std.specs.List.{flat_map, list_all, range_with_len, zip}
 use Rattle.std.specs.Fmt.{decimal, signed_decimal}
 use Rattle.sgb_graph.specs.declared.field.Tip.{Tip}
 use Rattle.sgb_graph.specs.declared.field.Tip.TheVariants as tips
@@ -35,6 +35,10 @@ field_text name u = if is_zero u then [] else codes " " ++ name ++ codes "=" ++ 
 abbrev pub fields_text : List (List ℕ) → List Util → List ℕ
 fields_text names us = flat_map (λ p. field_text p.0 p.1) (zip names us)
 
+-- the fields at the end of a line
+abbrev pub fields_end : List (List ℕ) → List Util → List ℕ
+fields_end names us = fields_text names us ++ codes "\n"
+
 abbrev pub vertex_names : List (List ℕ)
 vertex_names = codes "u" ∷ codes "v" ∷ codes "w" ∷ codes "x" ∷ codes "y" ∷ codes "z" ∷ []
 
@@ -49,28 +53,42 @@ tip_text tips.Zero = codes "0"
 tip_text tips.One = codes "1"
 tip_text (tips.To v) = codes "V" ++ decimal v.0
 
--- two spaces, the arc's number, its tip, its length and its fields
+-- two spaces, the arc's number, its tip and its length
+abbrev pub arc_head : ℕ → Tip → ℤ → List ℕ
+arc_head k tip len = codes "  A" ++ decimal k ++ codes " " ++ tip_text tip ++ codes " " ++ signed_decimal len
+
+-- and its fields
 abbrev pub arc_line : ℕ → ArcOf → List ℕ
-arc_line k e =
-    codes "  A" ++ decimal k ++ codes " " ++ tip_text e.tip ++ codes " " ++ signed_decimal e.len ++ fields_text arc_names e.fields ++ codes "\n"
+arc_line k e = arc_head k e.tip e.len ++ fields_end arc_names e.fields
 
--- the vertex's number, its name and its fields
+-- the arcs of these numbers
+abbrev pub arcs_text : GraphOf → List ℕ → List ℕ
+arcs_text g = flat_map (λ k. arc_line k (entry_at g k))
+
+-- the vertex's number and its name
+abbrev pub vertex_head : ℕ → List ℕ → List ℕ
+vertex_head v label = codes "V" ++ decimal v ++ codes " " ++ quoted label
+
+-- and its fields
 abbrev pub vertex_line : GraphOf → ℕ → List ℕ
-vertex_line g v =
-    codes "V" ++ decimal v ++ codes " " ++ quoted (vertex_at g v).label ++ fields_text vertex_names (vertex_at g v).fields ++ codes "\n"
+vertex_line g v = vertex_head v (vertex_at g v).label ++ fields_end vertex_names (vertex_at g v).fields
 
+-- and its arcs
 abbrev pub vertex_text : GraphOf → ℕ → List ℕ
-vertex_text g v = vertex_line g v ++ flat_map (λ k. arc_line k (entry_at g k)) (arcs_of g v)
+vertex_text g v = vertex_line g v ++ arcs_text g (arcs_of g v)
+
+abbrev pub vertices_text : GraphOf → List ℕ
+vertices_text g = flat_map (vertex_text g) (range_with_len 0 (n_of g))
 
 -- the graph's fields, where it has some
 abbrev pub graph_fields_text : List Util → List ℕ
-graph_fields_text us = if list_all is_zero us then [] else codes "G" ++ fields_text graph_names us ++ codes "\n"
+graph_fields_text us = if list_all is_zero us then [] else codes "G" ++ fields_end graph_names us
 
-abbrev pub counts_text : GraphOf → List ℕ
-counts_text g = decimal (n_of g) ++ codes " vertices, " ++ decimal (m_of g) ++ codes " arcs, " ++ decimal (made_of g) ++ codes " numbers\n"
+-- the id with the letters, and the counts
+abbrev pub header_text : GraphOf → List ℕ
+header_text g =
+    quoted g.id ++ codes " " ++ g.types ++ codes "\n"
+    ++ decimal (n_of g) ++ codes " vertices, " ++ decimal (m_of g) ++ codes " arcs, " ++ decimal (made_of g) ++ codes " numbers\n"
 
 unfoldable pub graph_text : GraphOf → List ℕ
-graph_text g =
-    quoted g.id ++ codes " " ++ g.types ++ codes "\n"
-    ++ counts_text g ++ graph_fields_text g.fields
-    ++ flat_map (vertex_text g) (range_with_len 0 (n_of g))
+graph_text g = header_text g ++ (graph_fields_text g.fields ++ vertices_text g)

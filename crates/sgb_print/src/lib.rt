@@ -7,7 +7,7 @@ mod show;
 
 pub use meter::{Failed, MeteredReader, MeteredWriter};
 pub use print::{put, put_all};
-pub use show::{print_made, print_graph};
+pub use show::{print_graph, print_made};
 
 #[cfg(test)]
 mod tests;

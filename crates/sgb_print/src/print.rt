@@ -6,10 +6,7 @@ use crate::meter::{Failed, MeteredWriter};
 use std::io::Write;
 
 /// Writes all the pieces, one after another.
-pub fn put_all<W: Write>(
-    writer: &mut MeteredWriter<W>,
-    pieces: &[&[u8]],
-) -> Result<(), Failed>
+pub fn put_all<W: Write>(writer: &mut MeteredWriter<W>, pieces: &[&[u8]]) -> Result<(), Failed>
     ensures { Prints (W.contents writer.old.inner) (W.contents writer.new.inner) writer.old.failed writer.new.failed
         result (flat_map (λ piece. piece.now) pieces.now) }
 {

@@ -1,9 +1,15 @@
 //! Graphs as they are printed.
+ghost use Rattle.std.specs.Prelude.{◌≡◌, ◌<◌, ◌++◌, codes, IsSome};
+ghost use Rattle.std.specs.List.{flat_map, list_all};
+ghost use Rattle.sgb_graph.specs.Graph.{n_of, made_of, arc_at, arcs_of};
+ghost use Rattle.sgb_graph.specs.Edit.{entry_at};
 ghost use Rattle.sgb_print.specs.Print.{Prints};
-ghost use Rattle.sgb_print.specs.Show.{made_text, graph_text};
+ghost use Rattle.sgb_print.specs.Show.{made_text, graph_text, header_text, is_zero, field_text, arc_head, arc_line, vertex_head, vertex_line, vertex_text, graph_fields_text, vertices_text, arcs_text};
 
-use crate::{Failed, MeteredWriter};
-use sgb_graph::Graph;
+use crate::meter::{Failed, MeteredWriter};
+use crate::print::{put, put_all};
+use itoa::Buffer;
+use sgb_graph::{ArcField, ArcNo, Graph, GraphField, Place, Tip, Util, VertexField, VertexNo};
 use std::io::Write;
 
 /// Prints a name with the counts of vertices and arcs, on one line.
@@ -16,17 +22,254 @@ pub fn print_made<W: Write>(
     ensures { Prints (W.contents writer.old.inner) (W.contents writer.new.inner) writer.old.failed writer.new.failed
         result (made_text name.now vertices arcs) }
 {
-    todo!()
+    let mut vertex_digits = Buffer::new();
+    let mut arc_digits = Buffer::new();
+    put_all(
+        writer,
+        &[
+            name,
+            b": ",
+            vertex_digits.format(vertices).as_bytes(),
+            b" vertices, ",
+            arc_digits.format(arcs).as_bytes(),
+            b" arcs\n",
+        ],
+    )
 }
 
 /// Prints a graph: its id and letters, its counts and fields, and each vertex with its fields and arcs. The text is
 /// written in pieces, and no memory is taken.
-pub fn print_graph<W: Write>(
-    writer: &mut MeteredWriter<W>,
-    graph: &Graph,
-) -> Result<(), Failed>
+pub fn print_graph<W: Write>(writer: &mut MeteredWriter<W>, graph: &Graph) -> Result<(), Failed>
     ensures { Prints (W.contents writer.old.inner) (W.contents writer.new.inner) writer.old.failed writer.new.failed
         result (graph_text graph.now) }
 {
-    todo!()
+    print_header(writer, graph)?;
+    print_graph_fields(writer, graph)?;
+    print_vertices(writer, graph)
+}
+
+// The id with the letters, and the counts.
+fn print_header<W: Write>(writer: &mut MeteredWriter<W>, graph: &Graph) -> Result<(), Failed>
+    ensures { Prints (W.contents writer.old.inner) (W.contents writer.new.inner) writer.old.failed writer.new.failed
+        result (header_text graph.now) }
+{
+    let types = graph.types();
+    let mut vertex_digits = Buffer::new();
+    let mut arc_digits = Buffer::new();
+    let mut number_digits = Buffer::new();
+    put_all(
+        writer,
+        &[
+            b"\"",
+            graph.id(),
+            b"\" ",
+            types.letters(),
+            b"\n",
+            vertex_digits.format(graph.n()).as_bytes(),
+            b" vertices, ",
+            arc_digits.format(graph.m()).as_bytes(),
+            b" arcs, ",
+            number_digits.format(graph.made()).as_bytes(),
+            b" numbers\n",
+        ],
+    )
+}
+
+// A line with the graph's fields, where one is not Zero.
+fn print_graph_fields<W: Write>(writer: &mut MeteredWriter<W>, graph: &Graph) -> Result<(), Failed>
+    ensures { Prints (W.contents writer.old.inner) (W.contents writer.new.inner) writer.old.failed writer.new.failed
+        result (graph_fields_text graph.now.fields) }
+{
+    // It tells that the graph is sound, and so that it has six fields.
+    let _ = graph.n();
+    let fields = [
+        ("uu", graph.util(Place::Graph(GraphField::Uu))),
+        ("vv", graph.util(Place::Graph(GraphField::Vv))),
+        ("ww", graph.util(Place::Graph(GraphField::Ww))),
+        ("xx", graph.util(Place::Graph(GraphField::Xx))),
+        ("yy", graph.util(Place::Graph(GraphField::Yy))),
+        ("zz", graph.util(Place::Graph(GraphField::Zz))),
+    ];
+    if are_zeros(&fields) {
+        return Ok(());
+    }
+    put(writer, b"G")?;
+    end_with_fields(writer, &fields)
+}
+
+// Each vertex with its arcs.
+fn print_vertices<W: Write>(writer: &mut MeteredWriter<W>, graph: &Graph) -> Result<(), Failed>
+    ensures { Prints (W.contents writer.old.inner) (W.contents writer.new.inner) writer.old.failed writer.new.failed
+        result (vertices_text graph.now) }
+{
+    for v in 0..graph.n() {
+        print_vertex(writer, graph, VertexNo(v))?;
+    }
+    Ok(())
+}
+
+// A vertex with its arcs.
+fn print_vertex<W: Write>(
+    writer: &mut MeteredWriter<W>,
+    graph: &Graph,
+    vertex: VertexNo,
+) -> Result<(), Failed>
+    requires { vertex.0 < n_of graph.now }
+    ensures { Prints (W.contents writer.old.inner) (W.contents writer.new.inner) writer.old.failed writer.new.failed
+        result (vertex_text graph.now vertex.0) }
+{
+    print_vertex_line(writer, graph, vertex)?;
+    print_arcs(writer, graph, vertex)
+}
+
+// A vertex's name and fields.
+fn print_vertex_line<W: Write>(
+    writer: &mut MeteredWriter<W>,
+    graph: &Graph,
+    vertex: VertexNo,
+) -> Result<(), Failed>
+    requires { vertex.0 < n_of graph.now }
+    ensures { Prints (W.contents writer.old.inner) (W.contents writer.new.inner) writer.old.failed writer.new.failed
+        result (vertex_line graph.now vertex.0) }
+{
+    // It tells that the graph is sound, and so that the vertex has six fields.
+    let _ = graph.n();
+    print_vertex_head(writer, vertex, graph.label(vertex))?;
+    let fields = [
+        ("u", graph.util(Place::Vertex(vertex, VertexField::U))),
+        ("v", graph.util(Place::Vertex(vertex, VertexField::V))),
+        ("w", graph.util(Place::Vertex(vertex, VertexField::W))),
+        ("x", graph.util(Place::Vertex(vertex, VertexField::X))),
+        ("y", graph.util(Place::Vertex(vertex, VertexField::Y))),
+        ("z", graph.util(Place::Vertex(vertex, VertexField::Z))),
+    ];
+    end_with_fields(writer, &fields)
+}
+
+fn print_vertex_head<W: Write>(
+    writer: &mut MeteredWriter<W>,
+    vertex: VertexNo,
+    label: &[u8],
+) -> Result<(), Failed>
+    ensures { Prints (W.contents writer.old.inner) (W.contents writer.new.inner) writer.old.failed writer.new.failed
+        result (vertex_head vertex.0 label.now) }
+{
+    let mut digits = Buffer::new();
+    let digits = digits.format(vertex.0).as_bytes();
+    put_all(writer, &[b"V", digits, b" \"", label, b"\""])
+}
+
+// The arcs of a vertex, the newest first.
+fn print_arcs<W: Write>(
+    writer: &mut MeteredWriter<W>,
+    graph: &Graph,
+    vertex: VertexNo,
+) -> Result<(), Failed>
+    requires { vertex.0 < n_of graph.now }
+    ensures { Prints (W.contents writer.old.inner) (W.contents writer.new.inner) writer.old.failed writer.new.failed
+        result (arcs_text graph.now (arcs_of graph.now vertex.0)) }
+{
+    for number in graph.arcs(vertex) {
+        print_arc(writer, graph, number)?;
+    }
+    Ok(())
+}
+
+// An arc's number, tip, length and fields.
+fn print_arc<W: Write>(
+    writer: &mut MeteredWriter<W>,
+    graph: &Graph,
+    number: ArcNo,
+) -> Result<(), Failed>
+    requires live { IsSome (arc_at graph.now number.0) }
+    requires within { number.0 < made_of graph.now }
+    ensures { Prints (W.contents writer.old.inner) (W.contents writer.new.inner) writer.old.failed writer.new.failed
+        result (arc_line number.0 (entry_at graph.now number.0)) }
+{
+    let Some(arc) = graph.arc(number) else {
+        unreachable!()
+    };
+    print_arc_head(writer, number, arc.tip, arc.len)?;
+    let fields = [
+        ("a", graph.util(Place::Arc(number, ArcField::A))),
+        ("b", graph.util(Place::Arc(number, ArcField::B))),
+    ];
+    end_with_fields(writer, &fields)
+}
+
+fn print_arc_head<W: Write>(
+    writer: &mut MeteredWriter<W>,
+    number: ArcNo,
+    tip: Tip,
+    len: i64,
+) -> Result<(), Failed>
+    ensures { Prints (W.contents writer.old.inner) (W.contents writer.new.inner) writer.old.failed writer.new.failed
+        result (arc_head number.0 tip len) }
+{
+    let mut digits = Buffer::new();
+    let digits = digits.format(number.0).as_bytes();
+    let mut len_digits = Buffer::new();
+    let len_digits = len_digits.format(len).as_bytes();
+    match tip {
+        Tip::Zero => put_all(writer, &[b"  A", digits, b" 0 ", len_digits]),
+        Tip::One => put_all(writer, &[b"  A", digits, b" 1 ", len_digits]),
+        Tip::To(vertex) => {
+            let mut tip_digits = Buffer::new();
+            let tip_digits = tip_digits.format(vertex.0).as_bytes();
+            put_all(
+                writer,
+                &[b"  A", digits, b" V", tip_digits, b" ", len_digits],
+            )
+        }
+    }
+}
+
+// Whether each value is Zero.
+fn are_zeros(fields: &[(&str, &Util)]) -> bool
+    ensures { result ≡ list_all (λ p. is_zero p.1.now) fields.now }
+{
+    fields.iter().all(|field| matches!(field.1, Util::Zero))
+}
+
+// The fields that are not Zero, and the end of the line.
+fn end_with_fields<W: Write>(
+    writer: &mut MeteredWriter<W>,
+    fields: &[(&str, &Util)],
+) -> Result<(), Failed>
+    ensures { Prints (W.contents writer.old.inner) (W.contents writer.new.inner) writer.old.failed writer.new.failed
+        result (flat_map (λ p. field_text p.0.now p.1.now) fields.now ++ codes "\n") }
+{
+    for (name, value) in fields {
+        print_field(writer, name, value)?;
+    }
+    put(writer, b"\n")
+}
+
+// A field that is not Zero.
+fn print_field<W: Write>(
+    writer: &mut MeteredWriter<W>,
+    name: &str,
+    value: &Util,
+) -> Result<(), Failed>
+    ensures { Prints (W.contents writer.old.inner) (W.contents writer.new.inner) writer.old.failed writer.new.failed
+        result (field_text name.now value.now) }
+{
+    let name = name.as_bytes();
+    let mut buffer = Buffer::new();
+    match value {
+        Util::Zero => Ok(()),
+        Util::Int(number) => {
+            let digits = buffer.format(*number).as_bytes();
+            put_all(writer, &[b" ", name, b"=", digits])
+        }
+        Util::Vertex(vertex) => {
+            let digits = buffer.format(vertex.0).as_bytes();
+            put_all(writer, &[b" ", name, b"=V", digits])
+        }
+        Util::Arc(number) => {
+            let digits = buffer.format(number.0).as_bytes();
+            put_all(writer, &[b" ", name, b"=A", digits])
+        }
+        Util::Text(text) => put_all(writer, &[b" ", name, b"=\"", text.bytes(), b"\""]),
+    }
 }

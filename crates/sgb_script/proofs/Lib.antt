@@ -1,2 +1,5 @@
-mod Words
-mod Numbers
+mod Digits
+mod Names
+mod Setting
+mod Splitting
+mod Texts

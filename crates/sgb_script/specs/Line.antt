@@ -1,23 +1,11 @@
--- One line of a script: its words, and what they ask for.
-use Rattle.std.specs.Prelude.{◌≡◌, ℕ, ◌-◌, ◌^◌, ◌==◌, nat_lt, nat_le, Bool, true, false, not, ◌&&◌, ◌||◌, if◌then◌else◌, List, [], ◌∷◌, ◌++◌, map, length, filter, slice_index, codes, min, ℤ, pos, negsuc, neg_ℤ, Option, None, Some, option_and_then}
+-- One line of a script: what its words ask for.
+use Rattle.std.specs.Prelude.{◌≡◌, ℕ, ◌==◌, nat_lt, nat_le, Bool, true, false, not, ◌&&◌, ◌||◌, ◌⊎◌, IsTrue, if◌then◌else◌, List, [], ◌∷◌, length, slice_index, codes, Option, None, Some, option_and_then, Result, Ok, Err}
 use Rattle.std.specs.Option.{option_map}
-use Rattle.std.specs.List.{slice_split, list_all, list_any}
-use Rattle.std.specs.Str.{bytes_eq, all_ascii_digits}
-use Rattle.std.specs.Str.Parse.{digits_value}
-use Rattle.sgb_graph.specs.declared.field.VertexNo.{VertexNo}
-use Rattle.sgb_graph.specs.declared.field.ArcNo.{ArcNo}
-use Rattle.sgb_graph.specs.declared.field.VertexField.{VertexField}
-use Rattle.sgb_graph.specs.declared.field.VertexField.TheVariants as vertex_fields
-use Rattle.sgb_graph.specs.declared.field.ArcField.{ArcField}
-use Rattle.sgb_graph.specs.declared.field.ArcField.TheVariants as arc_fields
-use Rattle.sgb_graph.specs.declared.field.GraphField.{GraphField}
-use Rattle.sgb_graph.specs.declared.field.GraphField.TheVariants as graph_fields
-use Rattle.sgb_graph.specs.declared.field.Place.{Place}
-use Rattle.sgb_graph.specs.declared.field.Place.TheVariants as places
-use Rattle.sgb_graph.specs.declared.field.Util.{Util}
+use Rattle.std.specs.List.{list_all}
+use Rattle.std.specs.Str.{bytes_eq}
 use Rattle.sgb_graph.specs.declared.field.Util.TheVariants as utils
-use Rattle.sgb_graph.specs.Types.{is_letter}
-use Rattle.sgb_script.specs.Name.{is_name}
+use Rattle.sgb_script.specs.Words.{Word, Plain, Quoted, words_of}
+use Rattle.sgb_script.specs.Arguments.{the_number, the_vertex, the_arc, the_name, the_text, the_letters, the_place, the_value}
 use Rattle.sgb_script.specs.declared.line.Keyword.{Keyword}
 use Rattle.sgb_script.specs.declared.line.Keyword.TheVariants as keywords
 use Rattle.sgb_script.specs.declared.command.Command.{Command}
@@ -26,149 +14,8 @@ use Rattle.sgb_script.specs.declared.command.Edit.TheVariants.{Arc, Edge, Cut, L
 use Rattle.sgb_script.specs.declared.command.Query.TheVariants as queries
 use Rattle.sgb_script.specs.declared.command.Line.{Line}
 use Rattle.sgb_script.specs.declared.command.Line.TheVariants.{Nothing, Change, Undo, Redo, Ask}
-
--- ---- words
-
--- a word, or what stands between two quotes
-pub data Word : Type 0 where
-  Plain : List ℕ → Word
-  Quoted : List ℕ → Word
-
--- the runs of bytes other than the space
-abbrev pub plain_words : List ℕ → List Word
-plain_words bytes = map Plain (filter (λ w. not (length w == 0)) (slice_split (λ b. b == 32) bytes))
-
-abbrev pub begins_with_space : List ℕ → Bool
-begins_with_space bytes = slice_index bytes 0 == 32
-
-abbrev pub ends_with_space : List ℕ → Bool
-ends_with_space [] = false
-ends_with_space (b ∷ []) = b == 32
-ends_with_space (b ∷ c ∷ cs) = ends_with_space (c ∷ cs)
-
--- a text between quotes: at most 4,095 bytes, and no backslash
-abbrev pub is_quotable : List ℕ → Bool
-is_quotable t = nat_le (length t) 4095 && not (list_any (λ b. b == 92) t)
-
--- What stands outside and inside the quotes, in turns. A quoted text begins where a word can, and behind it comes a
--- space or the end.
-abbrev pub words_in : List (List ℕ) → Option (List Word)
-words_in [] = None
-words_in (p ∷ []) = Some (plain_words p)
-words_in (p ∷ t ∷ []) = None
-words_in (p ∷ t ∷ q ∷ more) =
-    if (length p == 0 || ends_with_space p) && is_quotable t && (begins_with_space q || (length q == 0 && length more == 0))
-    then option_map (λ ws. plain_words p ++ Quoted t ∷ ws) (words_in (q ∷ more))
-    else None
-
-abbrev pub words_of : List ℕ → Option (List Word)
-words_of line = words_in (slice_split (λ b. b == 34) line)
-
--- ---- what a word says
-
--- the number that digits spell, one digit or more
-abbrev pub natural_of : List ℕ → Option ℕ
-natural_of ds = if not (length ds == 0) && all_ascii_digits ds then Some (digits_value 10 ds) else None
-
--- the number that bytes spell, digits and a minus before them, where it fits in 64 bits
-abbrev pub number_of : List ℕ → Option ℤ
-number_of [] = None
-number_of (c ∷ cs) =
-    if c == 45
-    then option_and_then (λ n. if nat_le n (2 ^ 63) then Some (neg_ℤ (pos n)) else None) (natural_of cs)
-    else option_and_then (λ n. if nat_lt n (2 ^ 63) then Some (pos n) else None) (natural_of (c ∷ cs))
-
-abbrev pub the_number : Word → Option ℤ
-the_number (Plain w) = number_of w
-the_number (Quoted t) = None
-
--- a number as one of 32 bits; what is none of them becomes the greatest
-abbrev pub in_32_bits : ℤ → ℕ
-in_32_bits (pos n) = min n (2 ^ 32 - 1)
-in_32_bits (negsuc n) = 2 ^ 32 - 1
-
-abbrev pub vertex_no : ℤ → VertexNo
-vertex_no z = record { 0 = in_32_bits z }
-
-abbrev pub arc_no : ℤ → ArcNo
-arc_no z = record { 0 = in_32_bits z }
-
-abbrev pub the_vertex : Word → Option VertexNo
-the_vertex w = option_map vertex_no (the_number w)
-
-abbrev pub the_arc : Word → Option ArcNo
-the_arc w = option_map arc_no (the_number w)
-
-abbrev pub the_name : Word → Option (List ℕ)
-the_name (Plain w) = if is_name w then Some w else None
-the_name (Quoted t) = None
-
-abbrev pub the_text : Word → Option (List ℕ)
-the_text (Plain w) = None
-the_text (Quoted t) = Some t
-
--- fourteen letters of ZIVSA
-abbrev pub the_letters : Word → Option (List ℕ)
-the_letters (Plain w) = if length w == 14 && list_all is_letter w then Some w else None
-the_letters (Quoted t) = None
-
--- the k of Vk or Ak, which fits in 63 bits
-abbrev pub index_of : List ℕ → Option ℤ
-index_of ds = option_and_then (λ n. if nat_lt n (2 ^ 63) then Some (pos n) else None) (natural_of ds)
-
-abbrev pub vertex_field : List ℕ → Option VertexField
-vertex_field w =
-    if bytes_eq w (codes "u") then Some vertex_fields.U
-    else (if bytes_eq w (codes "v") then Some vertex_fields.V
-    else (if bytes_eq w (codes "w") then Some vertex_fields.W
-    else (if bytes_eq w (codes "x") then Some vertex_fields.X
-    else (if bytes_eq w (codes "y") then Some vertex_fields.Y
-    else (if bytes_eq w (codes "z") then Some vertex_fields.Z
-    else None)))))
-
-abbrev pub arc_field : List ℕ → Option ArcField
-arc_field w =
-    if bytes_eq w (codes "a") then Some arc_fields.A
-    else (if bytes_eq w (codes "b") then Some arc_fields.B
-    else None)
-
-abbrev pub graph_field : List ℕ → Option GraphField
-graph_field w =
-    if bytes_eq w (codes "uu") then Some graph_fields.Uu
-    else (if bytes_eq w (codes "vv") then Some graph_fields.Vv
-    else (if bytes_eq w (codes "ww") then Some graph_fields.Ww
-    else (if bytes_eq w (codes "xx") then Some graph_fields.Xx
-    else (if bytes_eq w (codes "yy") then Some graph_fields.Yy
-    else (if bytes_eq w (codes "zz") then Some graph_fields.Zz
-    else None)))))
-
--- Vk, Ak or G, and one of that place's fields
-abbrev pub place_in : List ℕ → List ℕ → Option Place
-place_in [] f = None
-place_in (c ∷ cs) f =
-    if c == 86 then option_and_then (λ k. option_map (places.Vertex (vertex_no k)) (vertex_field f)) (index_of cs)
-    else (if c == 65 then option_and_then (λ k. option_map (places.Arc (arc_no k)) (arc_field f)) (index_of cs)
-    else (if bytes_eq (c ∷ cs) (codes "G") then option_map places.Graph (graph_field f)
-    else None))
-
-abbrev pub the_place : Word → Word → Option Place
-the_place (Plain p) (Plain f) = place_in p f
-the_place (Plain p) (Quoted t) = None
-the_place (Quoted t) f = None
-
--- Vk, Ak, or a number
-abbrev pub value_in : List ℕ → Option Util
-value_in [] = None
-value_in (c ∷ cs) =
-    if c == 86 then option_map (λ k. utils.Vertex (vertex_no k)) (index_of cs)
-    else (if c == 65 then option_map (λ k. utils.Arc (arc_no k)) (index_of cs)
-    else option_map utils.Int (number_of (c ∷ cs)))
-
-abbrev pub the_value : Word → Option Util
-the_value (Plain w) = value_in w
-the_value (Quoted t) = Some (utils.Text t)
-
--- ---- what a line asks for
+use Rattle.sgb_script.specs.declared.refusal.ShellRefusal.{ShellRefusal}
+use Rattle.sgb_script.specs.declared.refusal.ShellRefusal.TheVariants.{NoRoom, ScriptSyntax}
 
 abbrev pub keyword_of : List ℕ → Option Keyword
 keyword_of w =
@@ -266,3 +113,8 @@ has_text line = false
 abbrev pub takes_memory : Option Line → Bool
 takes_memory None = false
 takes_memory (Some line) = has_text line
+
+-- what the reading of a line answers: the line, 100 where it is none, or 1 where it takes memory
+abbrev pub Reads : Option Line → Result Line ShellRefusal → Type 0
+Reads asked (Ok line) = asked ≡ Some line
+Reads asked (Err e) = ((e ≡ ScriptSyntax) × (asked ≡ None)) ⊎ ((e ≡ NoRoom) × IsTrue (takes_memory asked))

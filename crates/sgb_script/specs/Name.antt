@@ -10,12 +10,13 @@ abbrev pub is_name_byte : ℕ → Bool
 is_name_byte c = is_letter c || (nat_le 48 c && nat_le c 57) || c == 95
 
 -- a letter comes first, and there are at most 32 bytes
-abbrev pub is_name : List ℕ → Bool
+unfoldable pub is_name : List ℕ → Bool
 is_name [] = false
 is_name (c ∷ cs) = is_letter c && list_all is_name_byte cs && nat_le (length cs) 31
 
 -- a name of so many bytes, and zeros up to 32
 pub record IsPadded (n : ℕ) (bytes : List ℕ) : Type 0 where
   pub name : IsTrue (is_name (take n bytes))
+  pub size : length bytes ≡ 32
   pub len : n ≤ 32
   pub padding : drop n bytes ≡ replicate (32 - n) 0

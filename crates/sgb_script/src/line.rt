@@ -1,18 +1,25 @@
 //! Reads one line of a script.
-ghost use Rattle.std.specs.Prelude.{◌≡◌, ◌⊎◌, [], ◌∷◌, MatchOption, IfOk, IfErr, IsTrue, length, ◌≤◌, ◌==◌, not, slice_index, Some, None};
-ghost use Rattle.std.specs.List.{prefix_len, list_all};
-ghost use Rattle.sgb_script.specs.Line.{words_of, number_of, keyword_of, line_of, asked_of, takes_memory, is_printable_byte};
+ghost use Rattle.std.specs.Prelude.{◌≡◌, ◌⊎◌, MatchOption, IfOk, IfErr, IsTrue, length, ◌==◌, ◌∷◌, [], slice_index, Some, None};
+ghost use Rattle.std.specs.List.{list_all};
+ghost use Rattle.std.specs.Option.{option_and_then};
+ghost use Rattle.sgb_graph.specs.Text.{IsText};
+ghost use Rattle.sgb_script.specs.Words.{words_of, seen, AreTexts, HasTexts};
+ghost use Rattle.sgb_script.specs.Arguments.{the_value, is_text};
+ghost use Rattle.sgb_script.specs.Line.{line_of, asked_of, line_after, keyword_of, none, takes_memory, is_printable_byte, Reads};
 ghost use Rattle.sgb_script.specs.declared.refusal.ShellRefusal.TheVariants.{NoRoom, ScriptSyntax};
+ghost use Rattle.sgb_script.specs.declared.line.Keyword.TheVariants as keywords;
 
-use crate::command::{Command, Line, Query};
+use crate::arguments::{
+    the_arc, the_letters, the_name, the_number, the_place, the_text, the_vertex, value_in,
+};
+use crate::command::{Command, Edit, Line, Query};
 use crate::refusal::ShellRefusal;
+use crate::words::{Word, four_words, is_blank, one_word, split_word, three_words, two_words};
+use sgb_graph::{Text, Util};
 use std::alloc::Global;
-use std::str::from_utf8;
 
 /// The most bytes of a line, its newline not counted.
 pub const LINE_LIMIT: usize = 8192;
-
-const SPACE: u8 = b' ';
 
 /// The first word of a line.
 #[derive(Clone, Copy, Debug, PartialEq, Eq)]
@@ -50,22 +57,22 @@ pub fn parse(alloc: Global, line: &[u8]) -> Result<Line, ShellRefusal>
     if is_comment(line) {
         return Ok(Line::Nothing);
     }
-    asked(line).ok_or(ShellRefusal::ScriptSyntax)
+    asked(alloc, line)
 }
 
-fn asked(line: &[u8]) -> Option<Line>
-    ensures { result ≡ asked_of (words_of line.now) }
+fn asked(alloc: Global, line: &[u8]) -> Result<Line, ShellRefusal>
+    requires { HasTexts (words_of line.now) }
+    ensures { Reads (option_and_then asked_of (words_of line.now)) result }
 {
-    let Some((word, rest)) = split_word(line) else {
-        return Some(Line::Nothing);
-    };
-    match recognize(word)? {
-        Keyword::Seed => Some(Line::Change(Command::Seed(only_number(rest)?))),
-        Keyword::Next => alone(rest, Line::Change(Command::Next)),
-        Keyword::Unif => Some(Line::Change(Command::Unif(only_number(rest)?))),
-        Keyword::Undo => alone(rest, Line::Undo),
-        Keyword::Redo => alone(rest, Line::Redo),
-        Keyword::Gen => alone(rest, Line::Ask(Query::Gen)),
+    if is_blank(line) {
+        return Ok(Line::Nothing);
+    }
+    match split_word(line) {
+        Some((Word::Plain(word), rest)) => match recognize(word) {
+            Some(keyword) => asked_after(alloc, keyword, rest),
+            None => Err(ShellRefusal::ScriptSyntax),
+        },
+        _ => Err(ShellRefusal::ScriptSyntax),
     }
 }
 
@@ -76,76 +83,205 @@ fn recognize(word: &[u8]) -> Option<Keyword>
         b"seed" => Some(Keyword::Seed),
         b"next" => Some(Keyword::Next),
         b"unif" => Some(Keyword::Unif),
+        b"graph" => Some(Keyword::Graph),
+        b"arc" => Some(Keyword::Arc),
+        b"edge" => Some(Keyword::Edge),
+        b"cut" => Some(Keyword::Cut),
+        b"len" => Some(Keyword::Len),
+        b"set" => Some(Keyword::Set),
+        b"types" => Some(Keyword::Types),
+        b"label" => Some(Keyword::Label),
+        b"id" => Some(Keyword::Id),
+        b"drop" => Some(Keyword::Drop),
         b"undo" => Some(Keyword::Undo),
         b"redo" => Some(Keyword::Redo),
         b"gen" => Some(Keyword::Gen),
+        b"list" => Some(Keyword::List),
+        b"show" => Some(Keyword::Show),
         _ => None,
+    }
+}
+
+// What the keyword asks for with the words that follow it.
+fn asked_after(alloc: Global, keyword: Keyword, rest: &[u8]) -> Result<Line, ShellRefusal>
+    requires { HasTexts (words_of rest.now) }
+    ensures { Reads (option_and_then (λ ws. line_after ws keyword) (words_of rest.now)) result }
+{
+    let refused = ShellRefusal::ScriptSyntax;
+    match keyword {
+        Keyword::Seed => seed(rest).ok_or(refused),
+        Keyword::Next => alone(rest, Line::Change(Command::Next)).ok_or(refused),
+        Keyword::Unif => unif(rest).ok_or(refused),
+        Keyword::Graph => graph(rest).ok_or(refused),
+        Keyword::Arc => arc(rest).ok_or(refused),
+        Keyword::Edge => edge(rest).ok_or(refused),
+        Keyword::Cut => cut(rest).ok_or(refused),
+        Keyword::Len => len(rest).ok_or(refused),
+        Keyword::Set => set(alloc, rest),
+        Keyword::Types => types(rest).ok_or(refused),
+        Keyword::Label => label(alloc, rest),
+        Keyword::Id => id(alloc, rest),
+        Keyword::Drop => drop_graph(rest).ok_or(refused),
+        Keyword::Undo => alone(rest, Line::Undo).ok_or(refused),
+        Keyword::Redo => alone(rest, Line::Redo).ok_or(refused),
+        Keyword::Gen => alone(rest, Line::Ask(Query::Gen)).ok_or(refused),
+        Keyword::List => alone(rest, Line::Ask(Query::List)).ok_or(refused),
+        Keyword::Show => show(rest).ok_or(refused),
     }
 }
 
 // The line, where no word follows.
 fn alone(rest: &[u8], line: Line) -> Option<Line>
-    ensures { result ≡ when_alone line (words_of rest.now) }
+    ensures { result ≡ option_and_then (none line) (words_of rest.now) }
 {
-    match split_word(rest) {
-        None => Some(line),
-        Some(_) => None,
+    if is_blank(rest) { Some(line) } else { None }
+}
+
+fn seed(rest: &[u8]) -> Option<Line>
+    ensures { result ≡ option_and_then (λ ws. line_after ws keywords.Seed) (words_of rest.now) }
+{
+    let seed = the_number(one_word(rest)?)?;
+    Some(Line::Change(Command::Seed(seed)))
+}
+
+fn unif(rest: &[u8]) -> Option<Line>
+    ensures { result ≡ option_and_then (λ ws. line_after ws keywords.Unif) (words_of rest.now) }
+{
+    let bound = the_number(one_word(rest)?)?;
+    Some(Line::Change(Command::Unif(bound)))
+}
+
+fn graph(rest: &[u8]) -> Option<Line>
+    ensures { result ≡ option_and_then (λ ws. line_after ws keywords.Graph) (words_of rest.now) }
+{
+    let (name, count) = two_words(rest)?;
+    let name = the_name(name)?;
+    let count = the_number(count)?;
+    Some(Line::Change(Command::Graph(name, count)))
+}
+
+fn arc(rest: &[u8]) -> Option<Line>
+    ensures { result ≡ option_and_then (λ ws. line_after ws keywords.Arc) (words_of rest.now) }
+{
+    let (name, from, to, len) = four_words(rest)?;
+    let name = the_name(name)?;
+    let from = the_vertex(from)?;
+    let to = the_vertex(to)?;
+    let len = the_number(len)?;
+    Some(Line::Change(Command::Edit(name, Edit::Arc(from, to, len))))
+}
+
+fn edge(rest: &[u8]) -> Option<Line>
+    ensures { result ≡ option_and_then (λ ws. line_after ws keywords.Edge) (words_of rest.now) }
+{
+    let (name, from, to, len) = four_words(rest)?;
+    let name = the_name(name)?;
+    let from = the_vertex(from)?;
+    let to = the_vertex(to)?;
+    let len = the_number(len)?;
+    Some(Line::Change(Command::Edit(name, Edit::Edge(from, to, len))))
+}
+
+fn cut(rest: &[u8]) -> Option<Line>
+    ensures { result ≡ option_and_then (λ ws. line_after ws keywords.Cut) (words_of rest.now) }
+{
+    let (name, arc) = two_words(rest)?;
+    let name = the_name(name)?;
+    let arc = the_arc(arc)?;
+    Some(Line::Change(Command::Edit(name, Edit::Cut(arc))))
+}
+
+fn len(rest: &[u8]) -> Option<Line>
+    ensures { result ≡ option_and_then (λ ws. line_after ws keywords.Len) (words_of rest.now) }
+{
+    let (name, arc, len) = three_words(rest)?;
+    let name = the_name(name)?;
+    let arc = the_arc(arc)?;
+    let len = the_number(len)?;
+    Some(Line::Change(Command::Edit(name, Edit::Len(arc, len))))
+}
+
+fn types(rest: &[u8]) -> Option<Line>
+    ensures { result ≡ option_and_then (λ ws. line_after ws keywords.Types) (words_of rest.now) }
+{
+    let (name, letters) = two_words(rest)?;
+    let name = the_name(name)?;
+    let types = the_letters(letters)?;
+    Some(Line::Change(Command::Edit(name, Edit::Types(types))))
+}
+
+fn drop_graph(rest: &[u8]) -> Option<Line>
+    ensures { result ≡ option_and_then (λ ws. line_after ws keywords.Drop) (words_of rest.now) }
+{
+    let name = the_name(one_word(rest)?)?;
+    Some(Line::Change(Command::Drop(name)))
+}
+
+fn show(rest: &[u8]) -> Option<Line>
+    ensures { result ≡ option_and_then (λ ws. line_after ws keywords.Show) (words_of rest.now) }
+{
+    let name = the_name(one_word(rest)?)?;
+    Some(Line::Ask(Query::Show(name)))
+}
+
+fn set(alloc: Global, rest: &[u8]) -> Result<Line, ShellRefusal>
+    requires { HasTexts (words_of rest.now) }
+    ensures { Reads (option_and_then (λ ws. line_after ws keywords.Set) (words_of rest.now)) result }
+{
+    let refused = ShellRefusal::ScriptSyntax;
+    let (name, place, field, value) = four_words(rest).ok_or(refused)?;
+    let name = the_name(name).ok_or(refused)?;
+    let place = the_place(place, field).ok_or(refused)?;
+    let value = the_value(alloc, value)?;
+    Ok(Line::Change(Command::Edit(name, Edit::Set(place, value))))
+}
+
+// The value, for which memory is taken where it is a text.
+fn the_value(alloc: Global, word: Word<'_>) -> Result<Util, ShellRefusal>
+    requires { AreTexts (seen word ∷ []) }
+    ensures ok { IfOk result (λ v. the_value (seen word.entry) ≡ Some v) }
+    ensures err { IfErr result (λ e. ((e ≡ ScriptSyntax) × (the_value (seen word.entry) ≡ None))
+        ⊎ ((e ≡ NoRoom) × IsTrue (is_text (the_value (seen word.entry))))) }
+{
+    match word {
+        Word::Plain(bytes) => value_in(bytes).ok_or(ShellRefusal::ScriptSyntax),
+        Word::Quoted(bytes) => Ok(Util::Text(text(alloc, bytes)?)),
     }
 }
 
-// The number, where one word follows and is a number.
-fn only_number(rest: &[u8]) -> Option<i64>
-    ensures { result ≡ one_number (words_of rest.now) }
+fn label(alloc: Global, rest: &[u8]) -> Result<Line, ShellRefusal>
+    requires { HasTexts (words_of rest.now) }
+    ensures { Reads (option_and_then (λ ws. line_after ws keywords.Label) (words_of rest.now)) result }
 {
-    let (word, rest) = split_word(rest)?;
-    if split_word(rest).is_some() {
-        return None;
+    let refused = ShellRefusal::ScriptSyntax;
+    let (name, vertex, bytes) = three_words(rest).ok_or(refused)?;
+    let name = the_name(name).ok_or(refused)?;
+    let vertex = the_vertex(vertex).ok_or(refused)?;
+    let bytes = the_text(bytes).ok_or(refused)?;
+    Ok(Line::Change(Command::Edit(name, Edit::Label(vertex, text(alloc, bytes)?))))
+}
+
+fn id(alloc: Global, rest: &[u8]) -> Result<Line, ShellRefusal>
+    requires { HasTexts (words_of rest.now) }
+    ensures { Reads (option_and_then (λ ws. line_after ws keywords.Id) (words_of rest.now)) result }
+{
+    let refused = ShellRefusal::ScriptSyntax;
+    let (name, bytes) = two_words(rest).ok_or(refused)?;
+    let name = the_name(name).ok_or(refused)?;
+    let bytes = the_text(bytes).ok_or(refused)?;
+    Ok(Line::Change(Command::Edit(name, Edit::Id(text(alloc, bytes)?))))
+}
+
+// A copy of the bytes of a text.
+fn text(alloc: Global, bytes: &[u8]) -> Result<Text, ShellRefusal>
+    requires { IsText bytes.now }
+    ensures ok { IfOk result (λ t. t ≡ bytes.now) }
+    ensures err { IfErr result (λ e. e ≡ NoRoom) }
+{
+    match Text::new(alloc, bytes) {
+        Ok(text) => Ok(text),
+        Err(_) => Err(ShellRefusal::NoRoom),
     }
-    number(word)
-}
-
-// A whole number: digits, and a minus before them.
-fn number(word: &[u8]) -> Option<i64>
-    ensures { result ≡ number_of word.now }
-{
-    if has_plus(word) {
-        return None;
-    }
-    match from_utf8(word) {
-        Ok(text) => text.parse().ok(),
-        Err(_) => None,
-    }
-}
-
-// The first word and what follows it.
-fn split_word(line: &[u8]) -> Option<(&[u8], &[u8])>
-    ensures { MatchOption result (words_of line.now ≡ []) (λ r. words_of line.now ≡ r.0.now ∷ words_of r.1.now) }
-{
-    let (_, text) = line.split_at(count_spaces(line));
-    if text.is_empty() {
-        return None;
-    }
-    Some(text.split_at(count_letters(text)))
-}
-
-fn count_spaces(line: &[u8]) -> usize
-    ensures count { result ≡ prefix_len (λ b. b == 32) line.now }
-    ensures within { result ≤ length line.now }
-{
-    line.iter().take_while(|b| **b == SPACE).count()
-}
-
-fn count_letters(line: &[u8]) -> usize
-    ensures count { result ≡ prefix_len (λ b. not (b == 32)) line.now }
-    ensures within { result ≤ length line.now }
-{
-    line.iter().take_while(|b| **b != SPACE).count()
-}
-
-fn has_plus(word: &[u8]) -> bool
-    ensures { result ≡ (slice_index word.now 0 == 43) }
-{
-    word.first() == Some(&b'+')
 }
 
 fn is_comment(line: &[u8]) -> bool

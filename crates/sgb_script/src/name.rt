@@ -1,6 +1,7 @@
 //! The names of graphs.
-ghost use Rattle.std.specs.Prelude.{◌≡◌, IfSome, IfNone, IsTrue};
-ghost use Rattle.sgb_script.specs.Name.{is_name};
+ghost use Rattle.std.specs.Prelude.{◌≡◌, IfSome, IfNone, IsTrue, slice_index};
+ghost use Rattle.std.specs.List.{list_all};
+ghost use Rattle.sgb_script.specs.Name.{is_name, is_letter, is_name_byte};
 
 use std::marker::Model;
 
@@ -27,6 +28,13 @@ impl Model for Name {
     ghost invariant = { λ n. IsPadded n.len n.bytes };
 
     ghost inverse = { λ t. record { bytes = t ++ replicate (32 - length t) 0; len = length t } };
+
+    ghost use Rattle.sgb_script.specs.Padding.{bytes_back, len_back};
+
+    ghost inverse_ok = { λ n h i. record {
+      bytes = bytes_back n.len n.bytes h i;
+      len = len_back n.len n.bytes h i;
+    } };
 }
 
 impl Name {
@@ -36,7 +44,15 @@ impl Name {
         ensures when { IfSome result (λ _. IsTrue (is_name bytes.now)) }
         ensures none { IfNone result (IsTrue (is_name bytes.now) → ⊥) }
     {
-        todo!()
+        if !is_name(bytes) {
+            return None;
+        }
+        let mut padded = [0; NAME_LIMIT];
+        padded[..bytes.len()].copy_from_slice(bytes);
+        Some(Name {
+            bytes: padded,
+            len: bytes.len() as u8,
+        })
     }
 
     /// The bytes.
@@ -45,6 +61,42 @@ impl Name {
         ensures value { result.now ≡ self.now }
         ensures name { IsTrue (is_name self.now) }
     {
-        todo!()
+        &self.bytes[..usize::from(self.len)]
     }
+}
+
+fn is_name(bytes: &[u8]) -> bool
+    ensures { result ≡ is_name bytes.now }
+{
+    if bytes.len() > NAME_LIMIT {
+        return false;
+    }
+    begins_with_letter(bytes) && are_name_bytes(bytes)
+}
+
+fn begins_with_letter(bytes: &[u8]) -> bool
+    ensures { result ≡ is_letter (slice_index bytes.now 0) }
+{
+    match bytes.first() {
+        Some(first) => is_letter(*first),
+        None => false,
+    }
+}
+
+fn are_name_bytes(bytes: &[u8]) -> bool
+    ensures { result ≡ list_all is_name_byte bytes.now }
+{
+    bytes.iter().all(|byte| is_name_byte(*byte))
+}
+
+fn is_letter(byte: u8) -> bool
+    ensures { result ≡ is_letter byte }
+{
+    matches!(byte, b'A'..=b'Z' | b'a'..=b'z')
+}
+
+fn is_name_byte(byte: u8) -> bool
+    ensures { result ≡ is_name_byte byte }
+{
+    is_letter(byte) || matches!(byte, b'0'..=b'9' | b'_')
 }

@@ -13,7 +13,8 @@ use Rattle.sgb_script.specs.Line.{line_of, is_printable_byte}
 use Rattle.sgb_shell.specs.Performing.{Kept, IsBegun, Does, lists_of}
 use Rattle.sgb_print.specs.Print.{AppendsFront, Prints}
 use Rattle.sgb_shell.specs.Reaching.{Reached, Stopped, Holds, Finishes}
-use Rattle.sgb_shell.specs.Transcript.{Course, course, start, advance, goes_on, unit_told, answer_text, refusals, state_of}
+use Rattle.sgb_shell.specs.Answer.{answer_text}
+use Rattle.sgb_shell.specs.Transcript.{Course, course, start, advance, goes_on, unit_told, refusals, state_of}
 use Rattle.sgb_shell.proofs.Performing.{machine_is}
 
 -- ---- what is held of a line

@@ -1,3 +1,4 @@
+pub mod Answer
 pub mod Drawing
 pub mod Edits
 pub mod Lines

@@ -1,6 +1,6 @@
 -- The named graphs of a session.
-use Rattle.std.specs.Prelude.{◌≡◌, Bool, Result, ℕ, List, [], length, Option, None, Some, if◌then◌else◌, nat_lt, slice_set, slice_index_or}
-use Rattle.std.specs.List.{position_or_len}
+use Rattle.std.specs.Prelude.{◌≡◌, Bool, Result, ℕ, List, [], Option, None, Some, slice_set, slice_index_or}
+use Rattle.std.specs.List.{position}
 use Rattle.std.specs.Str.{bytes_eq}
 use Rattle.sgb_graph.specs.declared.delta.GraphDelta.{GraphDelta}
 use Rattle.sgb_graph.specs.declared.refusal.Refusal.{Refusal}
@@ -9,13 +9,9 @@ use Rattle.sgb_shell.specs.Edits.{Edited, Makes}
 use Rattle.sgb_shell.specs.declared.reply.Reply.{Reply}
 use Rattle.sgb_shell.specs.declared.table.Entry.{Entry}
 
--- where the name stands first, or the number of graphs where it stands nowhere
-abbrev pub place_of : List Entry → List ℕ → ℕ
-place_of table name = position_or_len (λ e. bytes_eq e.name name) table
-
--- the place of the graph of this name
+-- the place of the first graph of this name
 abbrev pub find : List Entry → List ℕ → Option ℕ
-find table name = if nat_lt (place_of table name) (length table) then Some (place_of table name) else None
+find table name = position (λ e. bytes_eq e.name name) table
 
 -- what stands at a place that the table has not
 abbrev pub no_entry : Entry

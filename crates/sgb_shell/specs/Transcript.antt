@@ -1,23 +1,21 @@
 -- What a script is answered.
-use Rattle.std.specs.Prelude.{ℕ, ◌+◌, ◌==◌, Bool, if◌then◌else◌, List, [], ◌∷◌, ◌++◌, length, Option, None, Some, codes, unwrap_or, fold as fold_list}
+use Rattle.std.specs.Prelude.{ℕ, ◌+◌, ◌==◌, Bool, if◌then◌else◌, List, [], ◌∷◌, ◌++◌, length, Option, None, Some, ◌&&◌, unwrap_or, fold as fold_list}
 use Rattle.std.specs.List.{list_any}
-use Rattle.std.specs.Fmt.{decimal}
 use Rattle.sgb_undo.specs.Outcome.{Accepted, Refused}
 use Rattle.sgb_undo.specs.Replay.{fold}
 use Rattle.sgb_script.specs.declared.command.Command.{Command}
-use Rattle.sgb_shell.specs.declared.reply.Reply.{Reply}
-use Rattle.sgb_shell.specs.declared.reply.Reply.TheVariants.{Done, Number}
-use Rattle.sgb_script.specs.declared.command.Query.TheVariants.{Gen}
+use Rattle.sgb_script.specs.declared.command.Query.{Query}
+use Rattle.sgb_script.specs.declared.command.Query.TheVariants as queries
 use Rattle.sgb_script.specs.declared.command.Line.{Line}
 use Rattle.sgb_script.specs.declared.command.Line.TheVariants.{Nothing, Change, Undo, Redo, Ask}
 use Rattle.sgb_shell.specs.declared.answer.Answer.{Answer}
 use Rattle.sgb_shell.specs.declared.answer.Answer.TheVariants as answers
-use Rattle.sgb_script.specs.declared.refusal.ShellRefusal.TheVariants.{NoRoom, ScriptSyntax, NothingToUndo, NothingToRedo, JournalFull}
-use Rattle.sgb_shell.specs.Drawing.{generator_of}
-use Rattle.sgb_script.specs.Line.{line_of}
+use Rattle.sgb_script.specs.declared.refusal.ShellRefusal.TheVariants.{NoRoom, NoGraph, ScriptSyntax, NothingToUndo, NothingToRedo, JournalFull}
+use Rattle.sgb_shell.specs.Answer.{answer_text}
+use Rattle.sgb_script.specs.Line.{line_of, has_text}
 use Rattle.sgb_shell.specs.Lines.{all_but_last, whole_lines, lines}
-use Rattle.sgb_script.specs.Refusal.{number_of, text_of}
 use Rattle.sgb_shell.specs.State.{State, StepOutcome, empty, step}
+use Rattle.sgb_shell.specs.Table.{find}
 
 -- the commands that stand, and those that are undone, the next to redo first
 pub record Lists : Type 0 where
@@ -41,11 +39,13 @@ answered l accepted (Refused r) = (l, answers.Refused r)
 abbrev pub with_command : Lists → Command → Lists
 with_command l c = record { standing = l.standing ++ c ∷ []; undone = [] }
 
+-- a command; its text takes memory before the journal is asked
 abbrev pub changing : Bool → Lists → Command → Told
 changing no_room l c =
-    if length l.standing == 65535 then (l, answers.Refused JournalFull)
+    if no_room && has_text (Change c) then (l, answers.Refused NoRoom)
+    else (if length l.standing == 65535 then (l, answers.Refused JournalFull)
     else (if no_room then (l, answers.Refused NoRoom)
-    else answered l (with_command l c) (step (state_of l.standing) c))
+    else answered l (with_command l c) (step (state_of l.standing) c)))
 
 abbrev pub last_command : List Command → Option Command
 last_command [] = None
@@ -65,6 +65,16 @@ redoing no_room standing (c ∷ cs) =
     if no_room then (l, answers.Refused NoRoom)
     else answered l (record { standing = standing ++ c ∷ []; undone = cs }) (step (state_of standing) c)
 
+abbrev pub shown_or_refused : Option ℕ → Answer
+shown_or_refused None = answers.Refused NoGraph
+shown_or_refused (Some i) = answers.Graph i
+
+-- what a question is answered
+abbrev pub asked_of : State → Query → Answer
+asked_of s queries.Gen = answers.Generator
+asked_of s queries.List = answers.Graphs
+asked_of s (queries.Show name) = shown_or_refused (find s.table name)
+
 -- What a unit does. Want of memory touches none but a command and a redo.
 abbrev pub unit_told : Bool → Lists → Option Line → Told
 unit_told no_room l None = (l, answers.Refused ScriptSyntax)
@@ -72,22 +82,7 @@ unit_told no_room l (Some Nothing) = (l, answers.Silent)
 unit_told no_room l (Some (Change c)) = changing no_room l c
 unit_told no_room l (Some Undo) = undoing l (last_command l.standing)
 unit_told no_room l (Some Redo) = redoing no_room l.standing l.undone
-unit_told no_room l (Some (Ask q)) = (l, answers.Asked q)
-
-abbrev pub reply_text : Reply → List ℕ
-reply_text Done = codes "ok\n"
-reply_text (Number n) = decimal n ++ codes "\n"
-
--- what is printed for the unit of a number, at the state after it
-abbrev pub answer_text : ℕ → State → Answer → List ℕ
-answer_text n s answers.Silent = []
-answer_text n s answers.Undone = codes "undone\n"
-answer_text n s (answers.Replied reply) = reply_text reply
-answer_text n s (answers.Asked Gen) =
-    codes "seed " ++ decimal s.generator.seed ++ codes ", draws " ++ decimal s.generator.draws
-    ++ codes ", unread " ++ decimal (generator_of s.generator).unread ++ codes "\n"
-answer_text n s (answers.Refused r) =
-    codes "line " ++ decimal n ++ codes ": refused " ++ decimal (number_of r) ++ codes " " ++ text_of r ++ codes "\n"
+unit_told no_room l (Some (Ask q)) = (l, asked_of (state_of l.standing) q)
 
 abbrev pub refusals : Answer → ℕ
 refusals (answers.Refused r) = 1

@@ -1,16 +1,15 @@
 //! What a line of a script is answered, and how that is printed.
 ghost use Rattle.sgb_print.specs.Print.{Prints};
-ghost use Rattle.sgb_shell.specs.Transcript.{answer_text, reply_text};
-ghost use Rattle.sgb_shell.specs.State.{empty};
-ghost use Rattle.sgb_shell.specs.declared.answer.Answer.TheVariants.{Asked, Refused};
-ghost use Rattle.sgb_script.specs.declared.command.Query.TheVariants.{Gen};
+ghost use Rattle.std.specs.Prelude.{◌<◌, length};
+ghost use Rattle.std.specs.List.{flat_map};
+ghost use Rattle.sgb_shell.specs.Answer.{answer_text, reply_text, generator_text, refusal_text, list_text, entry_text, shown_text};
+ghost use Rattle.sgb_shell.specs.Table.{entry_in};
 
-use crate::command::{Query, Reply};
-use sgb_print::{Failed, MeteredWriter};
-use sgb_print::{put, put_all};
-use sgb_script::ShellRefusal;
+use crate::reply::Reply;
 use crate::session::Session;
 use itoa::Buffer;
+use sgb_print::{Failed, MeteredWriter, print_graph, print_made, put, put_all};
+use sgb_script::ShellRefusal;
 use std::io::Write;
 
 /// The answer to a line.
@@ -22,8 +21,12 @@ pub(crate) enum Answer {
     Undone,
     /// A command was accepted.
     Replied(Reply),
-    /// A question was asked.
-    Asked(Query),
+    /// The generator was asked for.
+    Generator,
+    /// The graphs were asked for.
+    Graphs,
+    /// The graph at a place of the table was asked for.
+    Graph(usize),
     /// The line was refused.
     Refused(ShellRefusal),
 }
@@ -33,36 +36,60 @@ pub(crate) fn print_answer<W: Write>(
     writer: &mut MeteredWriter<W>,
     number: u64,
     session: &Session,
-    answer: Answer,
+    answer: &Answer,
 ) -> Result<(), Failed>
     ensures { Prints (W.contents writer.old.inner) (W.contents writer.new.inner) writer.old.failed writer.new.failed
-        result (answer_text number session.now answer) }
+        result (answer_text number session.now answer.now) }
 {
     match answer {
         Answer::Silent => Ok(()),
         Answer::Undone => put(writer, b"undone\n"),
         Answer::Replied(reply) => print_reply(writer, reply),
-        Answer::Asked(Query::Gen) => print_generator(writer, session),
-        Answer::Refused(refusal) => print_refusal(writer, number, refusal),
+        Answer::Generator => print_generator(writer, session),
+        Answer::Graphs => print_list(writer, session),
+        Answer::Graph(place) => print_graph_at(writer, session, *place),
+        Answer::Refused(refusal) => print_refusal(writer, number, *refusal),
     }
 }
 
-fn print_reply<W: Write>(writer: &mut MeteredWriter<W>, reply: Reply) -> Result<(), Failed>
+fn print_reply<W: Write>(writer: &mut MeteredWriter<W>, reply: &Reply) -> Result<(), Failed>
     ensures { Prints (W.contents writer.old.inner) (W.contents writer.new.inner) writer.old.failed writer.new.failed
-        result (reply_text reply) }
+        result (reply_text reply.now) }
 {
     match reply {
         Reply::Done => put(writer, b"ok\n"),
         Reply::Number(number) => {
             let mut buffer = Buffer::new();
-            put_all(writer, &[buffer.format(number).as_bytes(), b"\n"])
+            put_all(writer, &[buffer.format(*number).as_bytes(), b"\n"])
+        }
+        Reply::Made(name, vertices, arcs) => print_made(writer, name.bytes(), *vertices, *arcs),
+        Reply::Arc(number) => {
+            let mut buffer = Buffer::new();
+            put_all(
+                writer,
+                &[b"A", buffer.format(number.0).as_bytes(), b"\n"],
+            )
+        }
+        Reply::Edge(first, second) => {
+            let mut first_digits = Buffer::new();
+            let mut second_digits = Buffer::new();
+            put_all(
+                writer,
+                &[
+                    b"A",
+                    first_digits.format(first.0).as_bytes(),
+                    b" A",
+                    second_digits.format(second.0).as_bytes(),
+                    b"\n",
+                ],
+            )
         }
     }
 }
 
 fn print_generator<W: Write>(writer: &mut MeteredWriter<W>, session: &Session) -> Result<(), Failed>
     ensures { Prints (W.contents writer.old.inner) (W.contents writer.new.inner) writer.old.failed writer.new.failed
-        result (answer_text 0 session.now (Asked Gen)) }
+        result (generator_text session.now) }
 {
     let (seed, draws, unread) = session.generator();
     let mut seed_digits = Buffer::new();
@@ -88,7 +115,7 @@ fn print_refusal<W: Write>(
     refusal: ShellRefusal,
 ) -> Result<(), Failed>
     ensures { Prints (W.contents writer.old.inner) (W.contents writer.new.inner) writer.old.failed writer.new.failed
-        result (answer_text number empty (Refused refusal)) }
+        result (refusal_text number refusal) }
 {
     let mut line_digits = Buffer::new();
     let mut digits = Buffer::new();
@@ -104,4 +131,64 @@ fn print_refusal<W: Write>(
             b"\n",
         ],
     )
+}
+
+// The number of graphs, and each graph as it was made.
+fn print_list<W: Write>(writer: &mut MeteredWriter<W>, session: &Session) -> Result<(), Failed>
+    ensures { Prints (W.contents writer.old.inner) (W.contents writer.new.inner) writer.old.failed writer.new.failed
+        result (list_text session.now) }
+{
+    let mut digits = Buffer::new();
+    put_all(
+        writer,
+        &[digits.format(session.len()).as_bytes(), b" graphs\n"],
+    )?;
+    print_entries(writer, session)
+}
+
+fn print_entries<W: Write>(
+    writer: &mut MeteredWriter<W>,
+    session: &Session,
+) -> Result<(), Failed>
+    ensures { Prints (W.contents writer.old.inner) (W.contents writer.new.inner) writer.old.failed writer.new.failed
+        result (flat_map entry_text session.now.table) }
+{
+    for place in 0..session.len() {
+        print_entry(writer, session, place)?;
+    }
+    Ok(())
+}
+
+fn print_entry<W: Write>(
+    writer: &mut MeteredWriter<W>,
+    session: &Session,
+    place: usize,
+) -> Result<(), Failed>
+    requires { place < length session.now.table }
+    ensures { Prints (W.contents writer.old.inner) (W.contents writer.new.inner) writer.old.failed writer.new.failed
+        result (entry_text (entry_in session.now.table place)) }
+{
+    let graph = session.graph_at(place);
+    print_made(
+        writer,
+        session.name_at(place).bytes(),
+        graph.n(),
+        graph.m(),
+    )
+}
+
+// A place that the table has not prints nothing; no answer names one.
+fn print_graph_at<W: Write>(
+    writer: &mut MeteredWriter<W>,
+    session: &Session,
+    place: usize,
+) -> Result<(), Failed>
+    ensures { Prints (W.contents writer.old.inner) (W.contents writer.new.inner) writer.old.failed writer.new.failed
+        result (shown_text session.now place) }
+{
+    if place < session.len() {
+        print_graph(writer, session.graph_at(place))
+    } else {
+        Ok(())
+    }
 }

@@ -1,5 +1,5 @@
 //! The edits of the script, made to a graph.
-ghost use Rattle.std.specs.Prelude.{◌≡◌, ◌×◌, true, false, MatchResult};
+ghost use Rattle.std.specs.Prelude.{◌≡◌, true, false, MatchResult};
 ghost use Rattle.sgb_graph.specs.declared.refusal.Refusal.TheVariants.{NoRoom};
 ghost use Rattle.sgb_shell.specs.declared.reply.Reply.TheVariants.{Done};
 ghost use Rattle.sgb_script.specs.declared.command.Edit.TheVariants.{Arc, Edge, Set, Label, Id};

@@ -6,8 +6,8 @@ ghost use Rattle.sgb_shell.specs.Reaching.{Progress};
 ghost use Rattle.sgb_shell.specs.Run.{Runs, TakesScript};
 
 use crate::fault::{RunEnd, RunFault};
-use sgb_print::{Failed, MeteredReader, MeteredWriter};
 use crate::shell::Shell;
+use sgb_print::{Failed, MeteredReader, MeteredWriter};
 use std::alloc::Global;
 use std::io::{Read, Write};
 

@@ -7,11 +7,10 @@ ghost use Rattle.sgb_shell.specs.Lines.{lines};
 ghost use Rattle.sgb_shell.specs.Transcript.{refusals};
 
 use crate::answer::{Answer, print_answer};
-use crate::line::LINE_LIMIT;
-use sgb_print::{Failed, MeteredWriter};
 use crate::perform::perform;
-use sgb_script::ShellRefusal;
 use crate::session::Session;
+use sgb_print::{Failed, MeteredWriter};
+use sgb_script::{LINE_LIMIT, ShellRefusal};
 use sgb_undo::Journal;
 use std::alloc::{AllocError, Global};
 use std::io::Write;
@@ -19,6 +18,8 @@ use std::io::Write;
 /// A session at work on a script.
 #[derive(Drop)]
 pub(crate) struct Shell {
+    // Where texts take their memory.
+    alloc: Global,
     /// The commands that stand and those that are undone, with the session.
     pub(crate) journal: Journal<Session>,
     /// The first bytes of the line that is not finished.
@@ -39,7 +40,8 @@ impl Shell {
     {
         let line = Vec::with_capacity(alloc, LINE_LIMIT)?;
         Ok(Shell {
-            journal: Journal::new(alloc, Session::new()),
+            alloc,
+            journal: Journal::new(alloc, Session::new(alloc)),
             line,
             is_long: false,
             lines: 0,
@@ -109,18 +111,24 @@ impl Shell {
             → Finishes held (W.contents writer.new.inner) writer.old.failed writer.new.failed (ls ++ line ∷ [])
             self.new.journal self.new.lines self.new.refused result }
     {
-        let answer = answer_line(&mut self.journal, self.line.as_slice(), self.is_long);
+        let alloc = self.alloc;
+        let answer = answer_line(
+            alloc,
+            &mut self.journal,
+            self.line.as_slice(),
+            self.is_long,
+        );
         self.line.clear();
         self.is_long = false;
         self.lines = self.lines.saturating_add(1);
-        self.refused = self.refused.saturating_add(refusal_count(answer));
-        print_answer(writer, self.lines, self.journal.machine(), answer)
+        self.refused = self.refused.saturating_add(refusal_count(&answer));
+        print_answer(writer, self.lines, self.journal.machine(), &answer)
     }
 }
 
 // A refused line counts once.
-fn refusal_count(answer: Answer) -> u64
-    ensures { result ≡ refusals answer }
+fn refusal_count(answer: &Answer) -> u64
+    ensures { result ≡ refusals answer.now }
 {
     match answer {
         Answer::Refused(_) => 1,
@@ -129,11 +137,16 @@ fn refusal_count(answer: Answer) -> u64
 }
 
 // Answers a line of which at most 8,192 bytes are kept.
-fn answer_line(journal: &mut Journal<Session>, bytes: &[u8], is_long: bool) -> Answer
+fn answer_line(
+    alloc: Global,
+    journal: &mut Journal<Session>,
+    bytes: &[u8],
+    is_long: bool,
+) -> Answer
     ensures { (line : List ℕ) → Holds bytes.now is_long line → IsBegun journal.old → Does journal.old journal.new (line_of line) result }
 {
     if is_long {
         return Answer::Refused(ShellRefusal::ScriptSyntax);
     }
-    perform(journal, bytes)
+    perform(alloc, journal, bytes)
 }

@@ -1,5 +1,6 @@
 //! The named graphs of a session.
-ghost use Rattle.std.specs.Prelude.{◌≡◌, ◌<◌, ◌≤◌, ◌+◌, ◌-◌, ◌×◌, ◌++◌, ◌∷◌, [], length, take, insert, remove, IsSome};
+ghost use Rattle.std.specs.Prelude.{◌≡◌, ◌<◌, ◌≤◌, ◌+◌, ◌-◌, ◌++◌, ◌∷◌, [], length, take, insert, remove, IsSome};
+ghost use Rattle.std.specs.List.{position};
 ghost use Rattle.std.specs.Str.{bytes_eq};
 ghost use Rattle.sgb_graph.specs.Graph.{GraphOf};
 ghost use Rattle.sgb_graph.specs.Delta.{LeftBy};
@@ -77,11 +78,7 @@ impl Table {
     pub(crate) fn find(&self, name: &Name) -> Option<usize>
         ensures { result ≡ find self.now name.now }
     {
-        let bytes = name.bytes();
-        self.entries
-            .as_slice()
-            .iter()
-            .position(|slot| has_name(slot, bytes))
+        find_slot(self.entries.as_slice(), name.bytes())
     }
 
     /// Puts a graph last.
@@ -116,6 +113,7 @@ impl Table {
         ensures table { self.new ≡ remove self.old place }
         ensures few { length self.new < 64 }
     {
+        let _ = self.entries.len();
         match self.entries.remove(place) {
             Some(entry) => entry,
             None => unreachable!(),
@@ -145,13 +143,18 @@ impl Table {
     }
 }
 
+fn find_slot(slots: &[Option<Entry>], name: &[u8]) -> Option<usize>
+    ensures { result ≡ position (λ o. bytes_eq (held o).name name.now) slots.now }
+{
+    slots.iter().position(|slot| has_name(slot, name))
+}
+
 fn has_name(slot: &Option<Entry>, name: &[u8]) -> bool
-    requires { IsSome slot.now }
     ensures { result ≡ bytes_eq (held slot.now).name name.now }
 {
     match slot {
         Some(entry) => entry.name.bytes() == name,
-        None => unreachable!(),
+        None => name.is_empty(),
     }
 }
 

@@ -1,6 +1,6 @@
 use Rattle.std.proofs.Common.{◌∙◌, ap, subst, min, ◌+◌, ◌-◌, ◌^◌}
 use Rattle.sgb_print.specs.Print.{Prints}
-use Rattle.sgb_shell.specs.Transcript.{answer_text}
+use Rattle.sgb_shell.specs.Answer.{answer_text}
 use Rattle.sgb_shell.proofs.Courses.{finished}
 use Rattle.sgb_shell.proofs.shell.Shell.finish.Goals as goal
 

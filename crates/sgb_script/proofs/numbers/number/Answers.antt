@@ -1,6 +1,6 @@
 use Rattle.std.proofs.Common.{◌∙◌, sym}
-use Rattle.sgb_script.proofs.Numbers.{text_read, number_is_utf8}
-use Rattle.sgb_script.proofs.line.number.Goals as goal
+use Rattle.sgb_script.proofs.Digits.{text_read, number_is_utf8, no_plus}
+use Rattle.sgb_script.proofs.numbers.number.Goals as goal
 
 pub returns-in-Ok : goal.returns-in-Ok
 returns-in-Ok c = c.ok.ensures.value
@@ -8,3 +8,6 @@ returns-in-Ok c = c.ok.ensures.value
 
 pub returns-in-Err : goal.returns-in-Err
 returns-in-Err c = sym (number_is_utf8 c.args.word.now c.in-Err.ensures.cases.0)
+
+pub returns-then-has_plus : goal.returns-then-has_plus
+returns-then-has_plus c = sym (no_plus c.args.word.now (sym c.has_plus.ensures ∙ c.if-has_plus.true))

@@ -8,7 +8,7 @@ use Rattle.std.proofs.lemmas.Bool.{cases_Bool, and_right, false_from_ne_true, eq
 use Rattle.std.proofs.lemmas.Str.{IsUtf8-from_ascii}
 use Rattle.std.proofs.lemmas.Fmt.{IsAscii-from_digits}
 use Rattle.std.proofs.lemmas.Str.Parse.{IsNumeralModel, numerals_by_value, tells_all_ascii_digits, parse_signed_minus, parse_signed_plain}
-use Rattle.sgb_script.specs.Line.{number_of, natural_of}
+use Rattle.sgb_script.specs.Numbers.{number_of, natural_of, index_of}
 
 own : IsNumeralModel (λ ds. all_ascii_digits ds ≡ true) (digits_value 10)
 own = numerals_by_value _ tells_all_ascii_digits
@@ -40,6 +40,7 @@ nothing_read (Ok x) P Q z h = absurd (let bad : 0 < 0 = h.0.1 in omega arith)
 nothing_read (Err e) P Q z h = refl
 
 number_read : {E : Type 0} (w : List ℕ) (r : Result ℤ E) → ParsesSigned w64 10 w r → get_or w 0 0 ≢ 43 → result_ok r ≡ number_of w
+unfolding number_of natural_of
 number_read [] r h plus = nothing_read r _ _ _ (parse_signed_plain own w64 [] r h plus (λ e. absurd (omega arith)))
 number_read (c ∷ cs) r h plus = elim (cases_Bool (c == 45)) [
   | inl minus ↦ rw minus (
@@ -58,6 +59,7 @@ ascii_digits : (ds : List ℕ) → all_ascii_digits ds ≡ true → IsAscii ds
 ascii_digits ds h = IsAscii-from_digits ds (own.to ds h)
 
 natural_none : (ds : List ℕ) → all_ascii_digits ds ≡ false → natural_of ds ≡ None
+unfolding natural_of
 natural_none ds h = rw (and_right (not (length ds == 0)) (all_ascii_digits ds) h) refl
 
 after_minus : (c : ℕ) (cs : List ℕ) → c ≡ 45 → IsAscii cs → IsAscii (c ∷ cs)
@@ -65,6 +67,7 @@ after_minus c cs e h zero = omega arith
 after_minus c cs e h (suc i) = h i
 
 pub number_is_utf8 : (w : List ℕ) → (IsUtf8 w → ⊥) → number_of w ≡ None
+unfolding number_of
 number_is_utf8 [] not_text = refl
 number_is_utf8 (c ∷ cs) not_text = elim (cases_Bool (c == 45)) [
   | inl minus ↦ rw (minus, natural_none cs (false_from_ne_true _ (λ h. not_text (IsUtf8-from_ascii (c ∷ cs) (after_minus c cs (eqb-true c 45 minus) (ascii_digits cs h)))))) refl
@@ -75,3 +78,24 @@ pub text_read : {E : Type 0} (w text : List ℕ) (r : Result ℤ E) (plus : Bool
 text_read w text r plus same tested none h =
     let no_plus : get_or text 0 0 ≢ 43 = λ e. eqb-false (get_or w 0 0) 43 (sym tested ∙ none) (sym (ap (λ t. get_or t 0 0) same) ∙ e) in
     number_read text r h no_plus ∙ ap number_of same
+
+-- digits alone: what `number_of` reads where no minus stands first
+pub index_is : (ds : List ℕ) → (slice_index ds 0 == 45) ≡ false → number_of ds ≡ index_of ds
+unfolding number_of index_of natural_of
+index_is [] plain = refl
+index_is (c ∷ cs) plain = let first : (c == 45) ≡ false = plain in rw first refl
+
+pub no_index : (ds : List ℕ) → (slice_index ds 0 == 45) ≡ true → index_of ds ≡ None
+unfolding index_of natural_of
+no_index [] minus = refl
+no_index (c ∷ cs) minus =
+    let first : c ≡ 45 = eqb-true c 45 minus in
+    rw first (ap (option_and_then (λ n. cond (nat_lt n (2 ^ 63)) (Some (pos n)) None)) (natural_none (45 ∷ cs) refl))
+
+-- a plus is no digit
+pub no_plus : (w : List ℕ) → (slice_index w 0 == 43) ≡ true → number_of w ≡ None
+unfolding number_of
+no_plus [] plus = refl
+no_plus (c ∷ cs) plus =
+    let first : c ≡ 43 = eqb-true c 43 plus in
+    rw first (ap (option_and_then (λ n. cond (nat_lt n (2 ^ 63)) (Some (pos n)) None)) (natural_none (43 ∷ cs) refl))

@@ -1,0 +1,104 @@
+-- What a word says where a name, a number, a place or a value is wanted.
+use Rattle.std.specs.Prelude.{ℕ, ◌==◌, Bool, true, false, ◌&&◌, if◌then◌else◌, List, [], ◌∷◌, length, codes, ℤ, Option, None, Some, option_and_then}
+use Rattle.std.specs.Option.{option_map}
+use Rattle.std.specs.List.{list_all}
+use Rattle.std.specs.Str.{bytes_eq}
+use Rattle.sgb_graph.specs.declared.field.VertexNo.{VertexNo}
+use Rattle.sgb_graph.specs.declared.field.ArcNo.{ArcNo}
+use Rattle.sgb_graph.specs.declared.field.VertexField.{VertexField}
+use Rattle.sgb_graph.specs.declared.field.VertexField.TheVariants as vertex_fields
+use Rattle.sgb_graph.specs.declared.field.ArcField.{ArcField}
+use Rattle.sgb_graph.specs.declared.field.ArcField.TheVariants as arc_fields
+use Rattle.sgb_graph.specs.declared.field.GraphField.{GraphField}
+use Rattle.sgb_graph.specs.declared.field.GraphField.TheVariants as graph_fields
+use Rattle.sgb_graph.specs.declared.field.Place.{Place}
+use Rattle.sgb_graph.specs.declared.field.Place.TheVariants as places
+use Rattle.sgb_graph.specs.declared.field.Util.{Util}
+use Rattle.sgb_graph.specs.declared.field.Util.TheVariants as utils
+use Rattle.sgb_graph.specs.Types.{is_letter}
+use Rattle.sgb_script.specs.Name.{is_name}
+use Rattle.sgb_script.specs.Words.{Word, Plain, Quoted}
+use Rattle.sgb_script.specs.Numbers.{number_of, index_of, vertex_no, arc_no}
+
+abbrev pub the_number : Word → Option ℤ
+the_number (Plain w) = number_of w
+the_number (Quoted t) = None
+
+abbrev pub the_vertex : Word → Option VertexNo
+the_vertex w = option_map vertex_no (the_number w)
+
+abbrev pub the_arc : Word → Option ArcNo
+the_arc w = option_map arc_no (the_number w)
+
+abbrev pub the_name : Word → Option (List ℕ)
+the_name (Plain w) = if is_name w then Some w else None
+the_name (Quoted t) = None
+
+abbrev pub the_text : Word → Option (List ℕ)
+the_text (Plain w) = None
+the_text (Quoted t) = Some t
+
+-- fourteen letters of ZIVSA
+abbrev pub the_letters : Word → Option (List ℕ)
+the_letters (Plain w) = if length w == 14 && list_all is_letter w then Some w else None
+the_letters (Quoted t) = None
+
+abbrev pub vertex_field : List ℕ → Option VertexField
+vertex_field w =
+    if bytes_eq w (codes "u") then Some vertex_fields.U
+    else (if bytes_eq w (codes "v") then Some vertex_fields.V
+    else (if bytes_eq w (codes "w") then Some vertex_fields.W
+    else (if bytes_eq w (codes "x") then Some vertex_fields.X
+    else (if bytes_eq w (codes "y") then Some vertex_fields.Y
+    else (if bytes_eq w (codes "z") then Some vertex_fields.Z
+    else None)))))
+
+abbrev pub arc_field : List ℕ → Option ArcField
+arc_field w =
+    if bytes_eq w (codes "a") then Some arc_fields.A
+    else (if bytes_eq w (codes "b") then Some arc_fields.B
+    else None)
+
+abbrev pub graph_field : List ℕ → Option GraphField
+graph_field w =
+    if bytes_eq w (codes "uu") then Some graph_fields.Uu
+    else (if bytes_eq w (codes "vv") then Some graph_fields.Vv
+    else (if bytes_eq w (codes "ww") then Some graph_fields.Ww
+    else (if bytes_eq w (codes "xx") then Some graph_fields.Xx
+    else (if bytes_eq w (codes "yy") then Some graph_fields.Yy
+    else (if bytes_eq w (codes "zz") then Some graph_fields.Zz
+    else None)))))
+
+-- Vk, Ak or G, and one of that place's fields
+abbrev pub place_in : List ℕ → List ℕ → Option Place
+place_in [] f = None
+place_in (c ∷ cs) f =
+    if c == 86 then option_and_then (λ k. option_map (places.Vertex (vertex_no k)) (vertex_field f)) (index_of cs)
+    else (if c == 65 then option_and_then (λ k. option_map (places.Arc (arc_no k)) (arc_field f)) (index_of cs)
+    else (if bytes_eq (c ∷ cs) (codes "G") then option_map places.Graph (graph_field f)
+    else None))
+
+abbrev pub the_place : Word → Word → Option Place
+the_place (Plain p) (Plain f) = place_in p f
+the_place (Plain p) (Quoted t) = None
+the_place (Quoted t) f = None
+
+-- Vk, Ak, or a number
+abbrev pub value_in : List ℕ → Option Util
+value_in [] = None
+value_in (c ∷ cs) =
+    if c == 86 then option_map (λ k. utils.Vertex (vertex_no k)) (index_of cs)
+    else (if c == 65 then option_map (λ k. utils.Arc (arc_no k)) (index_of cs)
+    else option_map utils.Int (number_of (c ∷ cs)))
+
+abbrev pub the_value : Word → Option Util
+the_value (Plain w) = value_in w
+the_value (Quoted t) = Some (utils.Text t)
+
+abbrev pub is_text : Option Util → Bool
+is_text None = false
+is_text (Some utils.Zero) = false
+is_text (Some (utils.Int z)) = false
+is_text (Some (utils.Vertex k)) = false
+is_text (Some (utils.Arc k)) = false
+is_text (Some (utils.Text t)) = true

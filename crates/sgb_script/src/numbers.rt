@@ -1,0 +1,50 @@
+//! The numbers of a line.
+ghost use Rattle.std.specs.Prelude.{◌≡◌, ◌==◌, slice_index};
+ghost use Rattle.sgb_script.specs.Numbers.{number_of, index_of, in_32_bits};
+
+use std::str::from_utf8;
+
+/// A whole number: digits, and a minus before them.
+pub(crate) fn number(word: &[u8]) -> Option<i64>
+    ensures { result ≡ number_of word.now }
+{
+    if has_plus(word) {
+        return None;
+    }
+    match from_utf8(word) {
+        Ok(text) => text.parse().ok(),
+        Err(_) => None,
+    }
+}
+
+/// The k of `Vk` or `Ak`: digits alone.
+pub(crate) fn index(digits: &[u8]) -> Option<i64>
+    ensures { result ≡ index_of digits.now }
+{
+    if has_minus(digits) {
+        return None;
+    }
+    number(digits)
+}
+
+/// The number as one of 32 bits. What is none of them becomes the greatest.
+pub(crate) fn in_32_bits(number: i64) -> u32
+    ensures { result ≡ in_32_bits number }
+{
+    match u32::try_from(number) {
+        Ok(small) => small,
+        Err(_) => u32::MAX,
+    }
+}
+
+fn has_plus(word: &[u8]) -> bool
+    ensures { result ≡ (slice_index word.now 0 == 43) }
+{
+    word.first() == Some(&b'+')
+}
+
+fn has_minus(word: &[u8]) -> bool
+    ensures { result ≡ (slice_index word.now 0 == 45) }
+{
+    word.first() == Some(&b'-')
+}

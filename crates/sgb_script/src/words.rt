@@ -1,0 +1,151 @@
+//! The words of a line, taken off from the left.
+ghost use Rattle.std.specs.Prelude.{◌≡◌, ◌<◌, ◌≤◌, ◌==◌, ◌∷◌, ◌&&◌, ◌||◌, not, length, slice_index, Some, None};
+ghost use Rattle.std.specs.Option.{option_map};
+ghost use Rattle.std.specs.List.{prefix_len, list_any};
+ghost use Rattle.sgb_script.specs.Words.{words_of, seen, Splits, is_nothing, one_of, two_of, three_of, four_of, is_quotable};
+
+const SPACE: u8 = b' ';
+
+const QUOTE: u8 = b'"';
+
+const BACKSLASH: u8 = b'\\';
+
+/// The most bytes of a text.
+const TEXT_LIMIT: usize = 4095;
+
+/// A word of a line.
+#[derive(Clone, Copy, Debug, PartialEq, Eq)]
+pub(crate) enum Word<'a> {
+    /// A run of bytes, none of them a space or a quote.
+    Plain(&'a [u8]),
+    /// What stands between two quotes.
+    Quoted(&'a [u8]),
+}
+
+/// Whether no word is left.
+pub(crate) fn is_blank(line: &[u8]) -> bool
+    ensures { result ≡ is_nothing (words_of line.now) }
+{
+    count_spaces(line) == line.len()
+}
+
+/// The word, where there is one and no more.
+pub(crate) fn one_word(line: &[u8]) -> Option<Word<'_>>
+    ensures { option_map seen result ≡ one_of (words_of line.now) }
+{
+    let (word, rest) = split_word(line)?;
+    if is_blank(rest) { Some(word) } else { None }
+}
+
+/// The words, where there are two.
+pub(crate) fn two_words(line: &[u8]) -> Option<(Word<'_>, Word<'_>)>
+    ensures { option_map (λ p. (seen p.0, seen p.1)) result ≡ two_of (words_of line.now) }
+{
+    let (first, rest) = split_word(line)?;
+    let second = one_word(rest)?;
+    Some((first, second))
+}
+
+/// The words, where there are three.
+pub(crate) fn three_words(line: &[u8]) -> Option<(Word<'_>, Word<'_>, Word<'_>)>
+    ensures { option_map (λ p. (seen p.0, seen p.1, seen p.2)) result ≡ three_of (words_of line.now) }
+{
+    let (first, rest) = split_word(line)?;
+    let (second, third) = two_words(rest)?;
+    Some((first, second, third))
+}
+
+/// The words, where there are four.
+pub(crate) fn four_words(line: &[u8]) -> Option<(Word<'_>, Word<'_>, Word<'_>, Word<'_>)>
+    ensures { option_map (λ p. (seen p.0, seen p.1, seen p.2, seen p.3)) result ≡ four_of (words_of line.now) }
+{
+    let (first, rest) = split_word(line)?;
+    let (second, third, fourth) = three_words(rest)?;
+    Some((first, second, third, fourth))
+}
+
+/// The first word and what follows it, where the line begins with one.
+pub(crate) fn split_word(line: &[u8]) -> Option<(Word<'_>, &[u8])>
+    ensures { Splits (words_of line.now) result }
+{
+    let (_, text) = line.split_at(count_spaces(line));
+    if text.is_empty() {
+        return None;
+    }
+    if text[0] == QUOTE {
+        return split_quoted(&text[1..]);
+    }
+    split_plain(text)
+}
+
+// The text between the quotes, of which one stands before `inside`, and what follows.
+fn split_quoted(inside: &[u8]) -> Option<(Word<'_>, &[u8])>
+    ensures { Splits (words_of (34 ∷ inside.now)) result }
+{
+    let (text, behind) = inside.split_at(count_inside(inside));
+    if behind.is_empty() {
+        return None;
+    }
+    let rest = &behind[1..];
+    if !is_quotable(text) {
+        return None;
+    }
+    if !ends_word(rest) {
+        return None;
+    }
+    Some((Word::Quoted(text), rest))
+}
+
+// The first word and what follows it, where the text begins with a byte of a plain word.
+fn split_plain(text: &[u8]) -> Option<(Word<'_>, &[u8])>
+    requires { 0 < prefix_len (λ b. not (b == 32 || b == 34)) text.now }
+    ensures { Splits (words_of text.now) result }
+{
+    let (word, rest) = text.split_at(count_letters(text));
+    if !ends_word(rest) {
+        return None;
+    }
+    Some((Word::Plain(word), rest))
+}
+
+// Whether a word can end before these bytes.
+fn ends_word(rest: &[u8]) -> bool
+    ensures { result ≡ (slice_index rest.now 0 == 32 || length rest.now == 0) }
+{
+    rest.is_empty() || rest[0] == SPACE
+}
+
+fn is_quotable(text: &[u8]) -> bool
+    ensures { result ≡ is_quotable text.now }
+{
+    text.len() <= TEXT_LIMIT && !has_backslash(text)
+}
+
+fn has_backslash(text: &[u8]) -> bool
+    ensures { result ≡ list_any (λ b. b == 92) text.now }
+{
+    text.iter().any(|b| *b == BACKSLASH)
+}
+
+fn count_spaces(line: &[u8]) -> usize
+    ensures count { result ≡ prefix_len (λ b. b == 32) line.now }
+    ensures within { result ≤ length line.now }
+{
+    line.iter().take_while(|b| **b == SPACE).count()
+}
+
+fn count_letters(text: &[u8]) -> usize
+    ensures count { result ≡ prefix_len (λ b. not (b == 32 || b == 34)) text.now }
+    ensures within { result ≤ length text.now }
+{
+    text.iter()
+        .take_while(|b| **b != SPACE && **b != QUOTE)
+        .count()
+}
+
+fn count_inside(inside: &[u8]) -> usize
+    ensures count { result ≡ prefix_len (λ b. not (b == 34)) inside.now }
+    ensures within { result ≤ length inside.now }
+{
+    inside.iter().take_while(|b| **b != QUOTE).count()
+}
