@@ -1,2 +1,2 @@
-mod Printing
+pub mod Printing
 mod Showing

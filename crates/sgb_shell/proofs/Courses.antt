@@ -46,7 +46,9 @@ refusals-few : (answer : Answer) → refusals answer ≤ 1
 refusals-few answers.Silent = omega arith
 refusals-few answers.Undone = omega arith
 refusals-few (answers.Replied reply) = omega arith
-refusals-few (answers.Asked q) = omega arith
+refusals-few answers.Generator = omega arith
+refusals-few answers.Graphs = omega arith
+refusals-few (answers.Graph i) = omega arith
 refusals-few (answers.Refused r) = omega arith
 
 course_from-refused : (no_room : List ℕ) (c : Course) (ls : List (List ℕ)) → (course_from no_room c ls).refused ≤ c.refused + length ls

@@ -1,4 +1,6 @@
 mod Drawings
+mod Tables
+mod Sessions
 mod Performing
 mod LineEnds
 mod Courses

@@ -1,7 +1,6 @@
 -- What the journal's calls do to the lists of a script's course.
-use Rattle.std.proofs.Common.{◌≡◌, ◌↔◌, ◌⊎◌, true, false, ◌==◌, List, [], ◌∷◌, ◌++◌, length, Option, None, Some, Result, Ok, Err, refl, sym, ap, ◌∙◌, subst, inl, inr}
+use Rattle.std.proofs.Common.{◌≡◌, ◌↔◌, ◌⊎◌, Bool, true, false, cond, IsTrue, ◌==◌, List, [], ◌∷◌, ◌++◌, length, Option, None, Some, Result, Ok, Err, refl, sym, ap, ◌∙◌, subst, inl, inr}
 use Rattle.std.specs.Prelude.{unwrap_or, IfOk, OnErr, IsErrOf}
-use Rattle.std.specs.Option.{ok_or}
 use Rattle.std.proofs.lemmas.Bool.{ne_eqb, eq-eqb}
 use Rattle.sgb_undo.specs.History.{IsJournal, Applies, Undoes, Redoes}
 use Rattle.sgb_undo.specs.Outcome.{Refused}
@@ -12,15 +11,17 @@ use Rattle.sgb_shell.specs.declared.answer.Answer.{Answer}
 use Rattle.sgb_shell.specs.declared.answer.Answer.TheVariants as answers
 use Rattle.sgb_script.specs.declared.command.Command.{Command}
 use Rattle.sgb_script.specs.declared.command.Line.{Line}
-use Rattle.sgb_script.specs.declared.command.Line.TheVariants.{Change, Undo, Redo}
+use Rattle.sgb_script.specs.declared.command.Line.TheVariants.{Nothing, Change, Undo, Redo, Ask}
+use Rattle.sgb_script.specs.declared.command.Query.{Query}
+use Rattle.sgb_script.specs.Line.{has_text, takes_memory}
 use Rattle.sgb_shell.specs.declared.reply.Reply.{Reply}
 use Rattle.sgb_script.specs.declared.refusal.ShellRefusal.{ShellRefusal}
-use Rattle.sgb_script.specs.declared.refusal.ShellRefusal.TheVariants.{NoRoom, BadSpecs, TooLarge, ScriptSyntax, NothingToUndo, NothingToRedo, JournalFull}
+use Rattle.sgb_script.specs.declared.refusal.ShellRefusal.TheVariants.{NoRoom, BadSpecs, TooLarge, NoGraph, BadOperand, ScriptSyntax, TableFull, NameTaken, NothingToUndo, NothingToRedo, JournalFull}
 use Rattle.sgb_shell.specs.Lines.{all_but_last}
 use Rattle.sgb_shell.specs.Performing.{Kept, IsBegun, Does, lists_of, answer_from}
 use Rattle.sgb_script.specs.Refusal.{is_no_room}
 use Rattle.sgb_shell.specs.State.{empty, step, before}
-use Rattle.sgb_shell.specs.Transcript.{Lists, Told, state_of, answered, with_command, last_command, undoing, redoing}
+use Rattle.sgb_shell.specs.Transcript.{Lists, Told, asked_of, state_of, answered, with_command, last_command, undoing, redoing}
 
 pub all_but_last-push : {X : Type 0} (xs : List X) (x : X) → all_but_last (xs ++ x ∷ []) ≡ xs
 all_but_last-push [] x = refl
@@ -53,10 +54,19 @@ no_room_is : (r : ShellRefusal) → is_no_room r ≡ true → r ≡ NoRoom
 no_room_is NoRoom e = refl
 no_room_is BadSpecs e = cc
 no_room_is TooLarge e = cc
+no_room_is NoGraph e = cc
+no_room_is BadOperand e = cc
+no_room_is TableFull e = cc
+no_room_is NameTaken e = cc
 no_room_is ScriptSyntax e = cc
 no_room_is NothingToUndo e = cc
 no_room_is NothingToRedo e = cc
 no_room_is JournalFull e = cc
+
+-- whatever the test says
+either_way : {X : Type 0} (b : Bool) (x : X) → cond b x x ≡ x
+either_way true x = refl
+either_way false x = refl
 
 -- a change that the journal answered
 pub changed : (old new : Kept) (c : Command) (r : Result Reply (JournalRefusal ShellRefusal)) → IsBegun old
@@ -75,7 +85,7 @@ changed old new c (Ok reply) b a full nothing refused same sound =
 changed old new c (Err journals.NoRoom) b a full nothing refused same sound =
     let not_full : (length old.standing == 65535) ≡ false = ne_eqb _ _ (λ e. let bad = full.1 e in cc) in record {
       no_room = true;
-      told = rw not_full (stays old new (answers.Refused NoRoom) same);
+      told = rw not_full (either_way (has_text (Change c)) (tells (lists_of old) (answers.Refused NoRoom)) ∙ stays old new (answers.Refused NoRoom) same);
       begun = subst IsBegun (sym same) b;
     }
 changed old new c (Err journals.Full) b a full nothing refused same sound = record {
@@ -89,7 +99,7 @@ changed old new c (Err (journals.Machine f)) b a full nothing refused same sound
     elim (refused f refl) [
       | inl wants ↦ record {
         no_room = true;
-        told = rw not_full (stays old new (answers.Refused NoRoom) same ∙ ap (λ g. tells (lists_of new) (answers.Refused g)) (sym (no_room_is f wants)));
+        told = rw not_full (either_way (has_text (Change c)) (tells (lists_of old) (answers.Refused NoRoom)) ∙ stays old new (answers.Refused NoRoom) same ∙ ap (λ g. tells (lists_of new) (answers.Refused g)) (sym (no_room_is f wants)));
         begun = subst IsBegun (sym same) b;
       }
       | inr refuses ↦ record {
@@ -142,14 +152,26 @@ redid old new (Err (journals.Machine f)) b d nothing no_room full refused same s
 
 -- ---- the line that was read
 
-line_read : (o : Option Line) (l : Line) → Prim.Path (Result Line ShellRefusal) (Ok l) (ok_or o ScriptSyntax) → o ≡ Some l
-line_read None l e = cc
-line_read (Some x) l e = cc
+pub read_does : (old new : Kept) (o : Option Line) (l l' : Line) (answer : Answer) → o ≡ Some l → l ≡ l' → Does old new (Some l') answer → Does old new o answer
+read_does old new o l l' answer e same d = subst (λ p. Does old new p answer) (sym (e ∙ ap Some same)) d
 
-pub read_does : (old new : Kept) (o : Option Line) (l l' : Line) (answer : Answer) → Prim.Path (Result Line ShellRefusal) (Ok l) (ok_or o ScriptSyntax) → l ≡ l'
-    → Does old new (Some l') answer → Does old new o answer
-read_does old new o l l' answer e same d = subst (λ p. Does old new p answer) (sym (line_read o l e ∙ ap Some same)) d
+pub asked_does : (j : Kept) (q : Query) (answer : Answer) → IsBegun j → answer ≡ asked_of j.machine q → Does j j (Some (Ask q)) answer
+asked_does j q answer b e = record {
+  no_room = false;
+  told = ap (λ s. tells (lists_of j) (asked_of s q)) (machine_is j b) ∙ ap (tells (lists_of j)) (sym e);
+  begun = b;
+}
 
-pub refused_does : (j : Kept) (o : Option Line) (r : ShellRefusal) → IsBegun j → Prim.Path (Result Line ShellRefusal) (Err r) (ok_or o ScriptSyntax) → Does j j o (answers.Refused r)
-refused_does j None r b e = let same : r ≡ ScriptSyntax = cc in record { no_room = false; told = ap (λ g. tells (lists_of j) (answers.Refused g)) (sym same); begun = b }
-refused_does j (Some x) r b e = absurd (cc)
+-- a text that found no room
+wanted : (j : Kept) (o : Option Line) → IsBegun j → takes_memory o ≡ true → Does j j o (answers.Refused NoRoom)
+wanted j None b e = absurd cc
+wanted j (Some Nothing) b e = absurd cc
+wanted j (Some Undo) b e = absurd cc
+wanted j (Some Redo) b e = absurd cc
+wanted j (Some (Ask q)) b e = absurd cc
+wanted j (Some (Change c)) b e = record { no_room = true; told = rw e refl; begun = b }
+
+pub refused_does : (j : Kept) (o : Option Line) (r : ShellRefusal) → IsBegun j → ((r ≡ ScriptSyntax) × (o ≡ None)) ⊎ ((r ≡ NoRoom) × IsTrue (takes_memory o)) → Does j j o (answers.Refused r)
+refused_does j o r b (inl none) =
+    subst (λ p. Does j j p (answers.Refused r)) (sym none.1) (subst (λ f. Does j j None (answers.Refused f)) (sym none.0) (record { no_room = false; told = refl; begun = b }))
+refused_does j o r b (inr room) = subst (λ f. Does j j o (answers.Refused f)) (sym room.0) (wanted j o b room.1)

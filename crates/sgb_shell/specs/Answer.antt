@@ -30,8 +30,11 @@ generator_text s =
 abbrev pub entry_text : Entry → List ℕ
 entry_text e = made_text e.name (n_of e.graph) (m_of e.graph)
 
+abbrev pub count_text : ℕ → List ℕ
+count_text n = decimal n ++ codes " graphs\n"
+
 abbrev pub list_text : State → List ℕ
-list_text s = (decimal (length s.table) ++ codes " graphs\n") ++ flat_map entry_text s.table
+list_text s = count_text (length s.table) ++ flat_map entry_text s.table
 
 abbrev pub shown_entry : Option Entry → List ℕ
 shown_entry None = []

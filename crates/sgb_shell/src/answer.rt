@@ -2,7 +2,7 @@
 ghost use Rattle.sgb_print.specs.Print.{Prints};
 ghost use Rattle.std.specs.Prelude.{◌<◌, length};
 ghost use Rattle.std.specs.List.{flat_map};
-ghost use Rattle.sgb_shell.specs.Answer.{answer_text, reply_text, generator_text, refusal_text, list_text, entry_text, shown_text};
+ghost use Rattle.sgb_shell.specs.Answer.{answer_text, reply_text, generator_text, refusal_text, count_text, list_text, entry_text, shown_text};
 ghost use Rattle.sgb_shell.specs.Table.{entry_in};
 
 use crate::reply::Reply;
@@ -138,12 +138,16 @@ fn print_list<W: Write>(writer: &mut MeteredWriter<W>, session: &Session) -> Res
     ensures { Prints (W.contents writer.old.inner) (W.contents writer.new.inner) writer.old.failed writer.new.failed
         result (list_text session.now) }
 {
-    let mut digits = Buffer::new();
-    put_all(
-        writer,
-        &[digits.format(session.len()).as_bytes(), b" graphs\n"],
-    )?;
+    print_count(writer, session.len())?;
     print_entries(writer, session)
+}
+
+fn print_count<W: Write>(writer: &mut MeteredWriter<W>, count: usize) -> Result<(), Failed>
+    ensures { Prints (W.contents writer.old.inner) (W.contents writer.new.inner) writer.old.failed writer.new.failed
+        result (count_text count) }
+{
+    let mut digits = Buffer::new();
+    put_all(writer, &[digits.format(count).as_bytes(), b" graphs\n"])
 }
 
 fn print_entries<W: Write>(
