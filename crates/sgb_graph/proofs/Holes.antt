@@ -1,27 +1,22 @@
 -- Lemmas on a number that is given out as a hole, and on new arcs.
-use Rattle.std.proofs.Common.{◌≡◌, ◌≢◌, ◌<◌, ◌≤◌, ◌+◌, ◌-◌, ◌*◌, ℕ, ℤ, zero, suc, List, [], ◌∷◌, ◌++◌, length, get_or, set, take, drop, Option, Some, None, is_some, IsSome, IfSome, All, Bool, true, false, ◌&&◌, refl, sym, ap, subst, ◌∙◌, arith, cond, ◌==◌, ◌⊎◌, inl, inr, lit≤, nat_lt, nat_le, nat_eq, FitsSigned}
+use Rattle.std.proofs.Common.{◌≡◌, ◌<◌, ◌+◌, ℕ, ℤ, zero, suc, List, [], ◌∷◌, ◌++◌, length, get_or, set, Option, Some, None, is_some, IfSome, All, refl, sym, ap, subst, ◌∙◌, arith, cond, inl, inr, FitsSigned}
 use Rattle.std.specs.Int.{w64}
-use Rattle.std.specs.List.{insert, remove, sum_by, count_by}
-use Rattle.std.proofs.lemmas.Bool.{cases_Bool, eq-eqb, ne_eqb, eqb-true, eqb-false, cases_eq, cases_lt, cases_order, le-leb, lt-leb, lt-ltb, le-ltb, and_parts, ltb-true, leb-true}
-use Rattle.std.proofs.lemmas.List.{get_or_past, get_or_at, get_or_append_left, length_push, get_or_push, set_at, get_or_default}
+use Rattle.std.proofs.lemmas.Bool.{cases_lt, cases_order, le-leb, lt-ltb}
+use Rattle.std.proofs.lemmas.List.{get_or_past, get_or_append_left, length_push, get_or_push, set_at, get_or_default}
 use Rattle.std.proofs.lemmas.List.Sums.{sum_by_push}
-use Rattle.sgb_graph.specs.declared.field.VertexNo.{VertexNo}
-use Rattle.sgb_graph.specs.declared.field.ArcNo.{ArcNo}
-use Rattle.sgb_graph.specs.declared.field.Util.{Util}
 use Rattle.sgb_graph.specs.declared.field.Util.TheVariants as utils
 use Rattle.sgb_graph.specs.declared.graph.Vertex.{Vertex}
-use Rattle.sgb_graph.specs.declared.graph.Slot.{Slot}
 use Rattle.sgb_graph.specs.declared.delta.CutArc.{CutArc}
-use Rattle.sgb_graph.specs.Graph.{GraphOf, VertexOf, ArcOf, IsGraph, IsVertex, IsArc, IsValue, n_of, made_of, m_of, vertex_at, no_vertex, arcs_of, arc_at, has_arc, has_vertex, occurrences, listings, names_in, names_in_entry, names_of}
-use Rattle.sgb_graph.specs.Edit.{with_entry, with_listed, with_entry_last, with_cut_arc, with_arc, with_edge, arc_of, arc_to, refusal_of_arc, refusal_of_edge, refusal_unless}
+use Rattle.sgb_graph.specs.Graph.{GraphOf, ArcOf, IsGraph, IsArc, IsValue, n_of, made_of, m_of, arcs_of, occurrences, names_in_entry, names_of}
+use Rattle.sgb_graph.specs.Edit.{with_listed, with_entry_last, with_cut_arc, with_arc, with_edge, arc_to, refusal_of_arc, refusal_of_edge}
 use Rattle.sgb_graph.specs.Insert.{new_cut}
-use Rattle.sgb_graph.specs.Arena.{Slots, Shows, ShowsVertex, arc_no, slot_at, next_of, next_at, entry_of, owner_in, names_counted}
+use Rattle.sgb_graph.specs.Arena.{Slots, Shows, arc_no, slot_at, next_of, next_at, entry_of, owner_in, names_counted}
 use Rattle.sgb_graph.specs.Link.{CanPutBack}
 use Rattle.std.proofs.Common.{min, max}
 use Rattle.std.proofs.lemmas.List.{set-append_left}
 use Rattle.sgb_graph.proofs.PutBack.{put_n, put_made, put_entry_other}
 use Rattle.sgb_graph.proofs.Chains.{Leads-agree}
-use Rattle.sgb_graph.proofs.Sound.{Keeps, IsValue-keeps, IsVertex-keeps, IsArc-keeps, IsEntry-keeps}
+use Rattle.sgb_graph.proofs.Sound.{Keeps, IsValue-keeps, IsVertex-keeps, IsEntry-keeps}
 
 -- a hole at the end is like no entry
 pub at_hole : {X : Type 0} (os : List (Option X)) (k : ℕ) → get_or (os ++ None ∷ []) k None ≡ get_or os k None

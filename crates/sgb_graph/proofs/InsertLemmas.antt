@@ -1,13 +1,10 @@
 -- Lemmas on what a new arc or edge leaves of the fields.
-use Rattle.std.proofs.Common.{◌≡◌, ◌≢◌, ◌<◌, ◌≤◌, ◌+◌, ◌-◌, ◌*◌, ℕ, ℤ, zero, suc, List, [], ◌∷◌, ◌++◌, length, Option, Some, None, refl, sym, ap, subst, ◌∙◌, arith, min, max, FitsSigned, Vec, to_z, of_z}
+use Rattle.std.proofs.Common.{◌≡◌, ◌<◌, ◌+◌, ℕ, ℤ, List, [], ◌∷◌, ◌++◌, None, sym, ap, subst, ◌∙◌, arith, min, max, FitsSigned, to_z, of_z}
 use Rattle.std.specs.Int.{w64}
-use Rattle.std.specs.Vec.{with_items}
 use Rattle.std.proofs.lemmas.Int.{to_z-of_z}
-use Rattle.std.proofs.lemmas.List.{with_items_is}
 use Rattle.sgb_graph.specs.declared.field.VertexNo.{VertexNo}
 use Rattle.sgb_graph.specs.declared.field.ArcNo.{ArcNo}
 use Rattle.sgb_graph.specs.declared.graph.Vertex.{Vertex}
-use Rattle.sgb_graph.specs.declared.graph.Slot.{Slot}
 use Rattle.sgb_graph.specs.declared.graph.Graph.TheInside.{Inside}
 use Rattle.sgb_graph.specs.declared.delta.CutArc.{CutArc}
 use Rattle.sgb_graph.specs.Graph.{GraphOf, IsGraph, n_of, made_of, m_of}
@@ -16,7 +13,7 @@ use Rattle.sgb_graph.specs.Insert.{new_cut, PutsBoth, CanBePutBoth}
 use Rattle.sgb_graph.specs.Arena.{Slots, Shows, IsArena, graph_of, arc_no}
 use Rattle.sgb_graph.specs.Link.{CanPutBack, CanBePutBack, PutsBack}
 use Rattle.sgb_graph.specs.Delta.{LeftByArc, LeftByEdge}
-use Rattle.sgb_graph.proofs.Shows.{Opened, opened, closed, closed_arena}
+use Rattle.sgb_graph.proofs.Shows.{Opened, closed, closed_arena}
 use Rattle.sgb_graph.proofs.PutBack.{put_sound, put_m}
 use Rattle.sgb_graph.proofs.Holes.{with_hole, hole_made, hole_m, hole_sound, hole_shows, with_arc_is, new_can, arc_accepted, first_cut, second_cut, first_can, second_can, with_edge_is, edge_accepted}
 

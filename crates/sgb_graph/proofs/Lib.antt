@@ -10,6 +10,7 @@ pub mod HonestLemmas
 pub mod InsertLemmas
 pub mod Laws
 pub mod NewLemmas
+pub mod PairedLemmas
 pub mod PutBack
 pub mod SetLemmas
 pub mod Shows

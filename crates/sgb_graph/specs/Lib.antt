@@ -11,6 +11,7 @@ pub mod Honest
 pub mod Insert
 pub mod Link
 pub mod New
+pub mod Paired
 pub mod Read
 pub mod Refusal
 pub mod Revert

@@ -8,6 +8,7 @@ mod honest;
 mod insert;
 mod link;
 mod new;
+mod paired;
 mod read;
 mod revert;
 mod set;

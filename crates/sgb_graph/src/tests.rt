@@ -239,6 +239,28 @@ fn built(rt: HostRuntime) -> Result<(), Fail> {
 }
 
 #[test]
+fn paired(rt: HostRuntime) -> Result<(), Fail> {
+    let mut graph = Graph::new(rt.alloc(), 2)?;
+    assert_eq!(rt; graph.is_paired(), true);
+    let (edge, _delta) = graph.new_edge(VertexNo(1), VertexNo(0), 1)?;
+    assert_eq!(rt; graph.is_paired(), true);
+    for _ in 0..2u32 {
+        let (_number, _delta) = graph.new_edge(VertexNo(1), VertexNo(1), 1)?;
+        assert_eq!(rt; graph.is_paired(), true);
+    }
+    let cut = graph.cut(edge)?;
+    assert_eq!(rt; graph.is_paired(), false);
+    graph.revert(cut);
+    assert_eq!(rt; graph.is_paired(), true);
+    let (_number, alone) = graph.new_arc(VertexNo(0), VertexNo(0), 1)?;
+    assert_eq!(rt; graph.is_paired(), false);
+    graph.revert(alone);
+    let (_number, _delta) = graph.new_arc(VertexNo(0), VertexNo(1), 1)?;
+    assert_eq!(rt; graph.is_paired(), false);
+    Ok(())
+}
+
+#[test]
 fn sizes(rt: HostRuntime) -> Result<(), Fail> {
     assert_eq!(rt; size_of::<Text>(), 8);
     assert_eq!(rt; size_of::<Util>(), 16);
