@@ -19,7 +19,8 @@ use Rattle.sgb_graph.specs.Graph.{arcs_of, occurrences}
 use Rattle.sgb_graph.specs.Edit.{refusal_unless}
 use Rattle.sgb_graph.specs.Arena.{next_of, next_at, names_counted}
 use Rattle.sgb_graph.proofs.Chains.{Leads-agree}
-use Rattle.sgb_graph.proofs.Holes.{with_hole, at_hole, hole_made, hole_names, hole_m, hole_sound, new_can, with_arc_is, with_edge_is, first_cut, second_cut, first_can, second_can}
+use Rattle.sgb_graph.specs.Holes.{with_hole}
+use Rattle.sgb_graph.proofs.Holes.{at_hole, hole_made, hole_names, hole_m, hole_sound, new_can, with_arc_is, with_edge_is, first_cut, second_cut, first_can, second_can}
 use Rattle.std.proofs.Common.{min, max}
 use Rattle.std.proofs.lemmas.List.{take-take}
 use Rattle.sgb_graph.specs.Edit.{refusal_of_edge, with_edge}

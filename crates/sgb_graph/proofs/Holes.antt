@@ -9,6 +9,7 @@ use Rattle.sgb_graph.specs.declared.graph.Vertex.{Vertex}
 use Rattle.sgb_graph.specs.declared.delta.CutArc.{CutArc}
 use Rattle.sgb_graph.specs.Graph.{GraphOf, ArcOf, IsGraph, IsArc, IsValue, n_of, made_of, m_of, arcs_of, occurrences, names_in_entry, names_of}
 use Rattle.sgb_graph.specs.Edit.{with_listed, with_entry_last, with_cut_arc, with_arc, with_edge, arc_to, refusal_of_arc, refusal_of_edge}
+use Rattle.sgb_graph.specs.Holes.{with_hole}
 use Rattle.sgb_graph.specs.Insert.{new_cut}
 use Rattle.sgb_graph.specs.Arena.{Slots, Shows, arc_no, slot_at, next_of, next_at, entry_of, owner_in, names_counted}
 use Rattle.sgb_graph.specs.Link.{CanPutBack}
@@ -26,9 +27,6 @@ at_hole {X} os k =
       | inr (inl low) ↦ get_or_append_left os (None ∷ []) None k low
       | inr (inr high) ↦ get_or_past (os ++ None ∷ []) k None (omega (arith, length_push os None)) ∙ sym (get_or_past os k None (omega arith))
     ]
-
-abbrev pub with_hole : GraphOf → GraphOf
-with_hole g = record g { entries = g.entries ++ None ∷ [] }
 
 pub hole_made : (g : GraphOf) → made_of (with_hole g) ≡ made_of g + 1
 hole_made g = length_push g.entries None

@@ -15,7 +15,8 @@ use Rattle.sgb_graph.specs.Link.{CanPutBack, CanBePutBack, PutsBack}
 use Rattle.sgb_graph.specs.Delta.{LeftByArc, LeftByEdge}
 use Rattle.sgb_graph.proofs.Shows.{Opened, closed, closed_arena}
 use Rattle.sgb_graph.proofs.PutBack.{put_sound, put_m}
-use Rattle.sgb_graph.proofs.Holes.{with_hole, hole_made, hole_m, hole_sound, hole_shows, with_arc_is, new_can, arc_accepted, first_cut, second_cut, first_can, second_can, with_edge_is, edge_accepted}
+use Rattle.sgb_graph.specs.Holes.{with_hole}
+use Rattle.sgb_graph.proofs.Holes.{hole_made, hole_m, hole_sound, hole_shows, with_arc_is, new_can, arc_accepted, first_cut, second_cut, first_can, second_can, with_edge_is, edge_accepted}
 
 -- the fields before and after a step between two graphs of one id, types and own fields
 pub record SameOwn (a b : Inside) : Type 0 where

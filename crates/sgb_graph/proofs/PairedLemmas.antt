@@ -2,7 +2,8 @@
 use Rattle.std.proofs.Common.{◌≡◌, ◌<◌, ◌≤◌, ◌+◌, ℕ, zero, suc, List, [], ◌∷◌, Option, Some, None, is_some, IfSome, Bool, true, false, not, refl, sym, ap, ◌∙◌, arith, subst}
 use Rattle.std.proofs.Common.{add-one, zero-add}
 use Rattle.std.specs.List.{list_all, range_with_len}
-use Rattle.std.proofs.lemmas.Bool.{and_parts, and_from}
+use Rattle.std.proofs.Common.{◌⊎◌, inl, inr}
+use Rattle.std.proofs.lemmas.Bool.{and_parts, and_from, cases_Bool}
 use Rattle.std.proofs.lemmas.List.Folds.{list_all_at}
 use Rattle.std.proofs.lemmas.List.FromFn.{length-range_with_len, get_or-range_with_len}
 use Rattle.sgb_graph.specs.declared.field.ArcNo.{ArcNo}
@@ -108,3 +109,11 @@ loops_ended g v (Some j) left all same loops ends = sym (alone_last g v j.0 loop
 pub loops_end : (g : GraphOf) (v : ℕ) (alone : Option ArcNo) (left all : List ℕ) (r : Bool) → are_loops_paired g v (behind alone left) ≡ are_loops_paired g v all → IfSome alone (λ j. is_loop g v j.0 ≡ true)
     → left ≡ [] → is_some alone ≡ not r → r ≡ are_loops_paired g v all
 loops_end g v alone left all r same loops ends is = unflip (is_some alone) r is ∙ loops_ended g v alone left all same loops ends
+
+-- the test at one of the numbers
+pub below_all : (p : ℕ → Bool) (n k : ℕ) → list_all p (range_with_len 0 n) ≡ true → k < n → p k ≡ true
+below_all p n k all h =
+    elim (cases_Bool (p k)) [
+      | inl yes' ↦ yes'
+      | inr no' ↦ absurd (let none = below_all_not p n k h no' in cc)
+    ]

@@ -1,11 +1,14 @@
 //! Graphs.
 
 mod arcs;
+mod build;
 mod cut;
 mod exchange;
+mod fill;
 mod grow;
 mod honest;
 mod insert;
+mod lay;
 mod link;
 mod new;
 mod paired;

@@ -260,6 +260,80 @@ fn paired(rt: HostRuntime) -> Result<(), Fail> {
     Ok(())
 }
 
+// Two vertices, an edge between them that names its second arc, and a record that no chain reaches.
+fn two_vertices(alloc: Global, first: Option<ArcNo>, second: Option<ArcNo>) -> Result<Parts, Fail> {
+    let mut vertices = Vec::new(alloc);
+    for (label, first) in [(b"a", first), (b"b", second)] {
+        vertices.push(VertexPart {
+            label: Text::new(alloc, label.as_slice())?,
+            fields: [
+                Util::Int(0),
+                Util::Zero,
+                Util::Zero,
+                Util::Zero,
+                Util::Zero,
+                Util::Int(7),
+            ],
+            first,
+        })?;
+    }
+    let mut arcs = Vec::new(alloc);
+    for (tip, value) in [
+        (1u32, Util::Arc(ArcNo(1))),
+        (0, Util::Zero),
+        (9, Util::Arc(ArcNo(9))),
+    ] {
+        arcs.push(ArcPart {
+            tip: Tip::To(VertexNo(tip)),
+            len: 5,
+            fields: [value, Util::Vertex(VertexNo(1))],
+            next: None,
+        })?;
+    }
+    Ok(Parts {
+        id: Text::new(alloc, b"two")?,
+        types: Types::none(),
+        fields: [
+            Util::Zero,
+            Util::Zero,
+            Util::Zero,
+            Util::Zero,
+            Util::Zero,
+            Util::Zero,
+        ],
+        vertices,
+        arcs,
+    })
+}
+
+#[test]
+fn graphs_of_parts(rt: HostRuntime) -> Result<(), Fail> {
+    let alloc = rt.alloc();
+    let graph = Graph::build(alloc, two_vertices(alloc, Some(ArcNo(0)), Some(ArcNo(1)))?)?;
+    assert_eq!(rt; graph.id(), b"two".as_slice());
+    assert_eq!(rt; graph.made(), 3);
+    assert_eq!(rt; graph.m(), 2);
+    assert_eq!(rt; listed(alloc, &graph, 0)?.as_slice(), [0].as_slice());
+    assert_eq!(rt; arc_at(&graph, 0), view(0, 1, 5));
+    assert_eq!(rt; arc_at(&graph, 1), view(1, 0, 5));
+    assert_eq!(rt; arc_at(&graph, 2), None);
+    assert_eq!(rt; graph.is_paired(), true);
+    for (first, second) in [(0, 0), (0, 3), (2, 1), (1, 2)] {
+        let parts = two_vertices(alloc, Some(ArcNo(first)), Some(ArcNo(second)))?;
+        let refused = Graph::build(alloc, parts).err();
+        assert_eq!(rt; refused, Some(Refusal::BadOperand));
+    }
+    let unnamed = Graph::build(alloc, two_vertices(alloc, Some(ArcNo(0)), None)?).err();
+    assert_eq!(rt; unnamed, Some(Refusal::BadOperand));
+    let mut parts = two_vertices(alloc, Some(ArcNo(0)), Some(ArcNo(1)))?;
+    for part in parts.arcs.iter_mut() {
+        part.next = Some(ArcNo(0));
+    }
+    let returns = Graph::build(alloc, parts).err();
+    assert_eq!(rt; returns, Some(Refusal::BadOperand));
+    Ok(())
+}
+
 #[test]
 fn sizes(rt: HostRuntime) -> Result<(), Fail> {
     assert_eq!(rt; size_of::<Text>(), 8);
