@@ -1,5 +1,5 @@
 -- Lemmas on graphs that are built from their parts.
-use Rattle.std.proofs.Common.{◌≡◌, ◌≢◌, ◌<◌, ◌≤◌, ◌+◌, ℕ, zero, suc, List, [], ◌∷◌, ◌++◌, length, get_or, map, replicate, Option, Some, None, is_some, IsSome, IfSome, All, Bool, true, false, not, ◌&&◌, refl, sym, ap, subst, ◌∙◌, arith, cond, ◌⊎◌, inl, inr, nat_le}
+use Rattle.std.proofs.Common.{◌≡◌, ◌<◌, ◌≤◌, ◌+◌, ℕ, zero, suc, List, [], ◌∷◌, length, get_or, map, replicate, Option, Some, None, is_some, IfSome, All, Bool, true, false, ◌&&◌, refl, sym, ap, subst, ◌∙◌, arith, cond, ◌⊎◌, inl, inr, nat_le}
 use Rattle.std.specs.List.{list_all, range_with_len}
 use Rattle.std.proofs.lemmas.Bool.{cases_Bool, cases_lt, lt-ltb, and_from, and_parts, le-leb, leb-false}
 use Rattle.std.proofs.lemmas.List.{length-replicate, get_or-replicate, get_or_past, replicate_more}
@@ -10,7 +10,7 @@ use Rattle.sgb_graph.specs.declared.parts.VertexPart.{VertexPart}
 use Rattle.sgb_graph.specs.declared.parts.Parts.{Parts}
 use Rattle.sgb_graph.specs.declared.refusal.Refusal.{Refusal}
 use Rattle.sgb_graph.specs.declared.refusal.Refusal.TheVariants.{NoRoom, TooLarge, BadOperand}
-use Rattle.sgb_graph.specs.Graph.{GraphOf, VertexOf, ArcOf, IsGraph, IsVertex, IsArc, IsValue, n_of, made_of, vertex_at, no_vertex, arcs_of, arc_at, has_arc}
+use Rattle.sgb_graph.specs.Graph.{GraphOf, VertexOf, ArcOf, IsGraph, IsArc, IsValue, n_of, made_of, vertex_at, no_vertex, arcs_of, arc_at, has_arc}
 use Rattle.sgb_graph.specs.Edit.{stored, can_name, arc_or, no_arc, refusal_of_new, refusal_unless, refusal_of_id}
 use Rattle.sgb_graph.specs.New.{new_graph, blank_vertex}
 use Rattle.sgb_graph.specs.Holes.{with_hole, blank_graph}
@@ -18,10 +18,10 @@ use Rattle.sgb_graph.specs.Parts.{vertex_part, arc_part, IsVertexOf, IsArcOf, Bu
 use Rattle.sgb_graph.specs.Lay.{IsLaid, Lays, Laying, RefusesToLay}
 use Rattle.sgb_graph.specs.Fill.{SameNames, can_name_each, can_name_at, can_name_vertices, can_name_arcs, can_name_all, filled_vertex, filled_entry, FillsVertices, FillsArcs}
 use Rattle.std.proofs.lemmas.List.{same_lists, get_or_default}
-use Rattle.sgb_graph.proofs.Graphs.{made_of_live, no_arcs_past, same_graph, same_vertex}
+use Rattle.sgb_graph.proofs.Graphs.{made_of_live, same_graph, same_vertex}
 use Rattle.sgb_graph.proofs.TakeOut.{some_entry}
 use Rattle.sgb_graph.proofs.Chaining.{lays_same, lists_same}
-use Rattle.sgb_graph.proofs.Filling.{can_name-same, each-same}
+use Rattle.sgb_graph.proofs.Filling.{each-same}
 
 -- blank graphs
 pub blank_begins : (n : ℕ) → new_graph n ≡ blank_graph n 0

@@ -1,8 +1,7 @@
 -- Lemmas on chains of records, and on what is laid of them.
-use Rattle.std.proofs.Common.{◌≡◌, ◌≢◌, ◌<◌, ◌≤◌, ◌+◌, ℕ, zero, suc, List, [], ◌∷◌, ◌++◌, length, get_or, Option, Some, None, is_some, IsSome, IfSome, All, Bool, true, false, not, ◌&&◌, refl, sym, ap, subst, ◌∙◌, arith, cond, ◌⊎◌, inl, inr, nat_lt, FitsSigned, ◌==◌}
+use Rattle.std.proofs.Common.{◌≡◌, ◌≢◌, ◌<◌, ◌≤◌, ◌+◌, ℕ, zero, suc, List, [], ◌∷◌, ◌++◌, length, get_or, Option, Some, None, is_some, IfSome, All, true, false, not, ◌&&◌, refl, sym, ap, subst, ◌∙◌, arith, cond, ◌⊎◌, inl, inr, FitsSigned, ◌==◌}
 use Rattle.std.specs.Int.{w64}
-use Rattle.std.specs.List.{insert, sum_by, count_by}
-use Rattle.std.proofs.lemmas.Bool.{cases_Bool, cases_order, cases_lt, cases_eq, ltb-true, lt-ltb, and_parts}
+use Rattle.std.proofs.lemmas.Bool.{cases_Bool, cases_order, cases_eq, ltb-true, lt-ltb, and_parts}
 use Rattle.std.proofs.lemmas.List.{get_or_at, append_assoc, append-nil, length_push, get_or_default, length-append, get_or_append_left}
 use Rattle.std.proofs.lemmas.List.Sums.{sum_by-append}
 use Rattle.sgb_graph.specs.declared.field.ArcNo.{ArcNo}
@@ -12,9 +11,8 @@ use Rattle.sgb_graph.specs.declared.field.Tip.TheVariants as tips
 use Rattle.sgb_graph.specs.declared.field.Util.TheVariants as utils
 use Rattle.sgb_graph.specs.declared.parts.ArcPart.{ArcPart}
 use Rattle.sgb_graph.specs.declared.parts.VertexPart.{VertexPart}
-use Rattle.sgb_graph.specs.declared.delta.CutArc.{CutArc}
-use Rattle.sgb_graph.specs.Chain.{Leads, chain}
-use Rattle.sgb_graph.specs.Graph.{GraphOf, ArcOf, IsGraph, IsArc, IsTip, IsValue, n_of, made_of, vertex_at, no_vertex, arcs_of, arc_at, has_arc, occurrences, listings}
+use Rattle.sgb_graph.specs.Chain.{Leads}
+use Rattle.sgb_graph.specs.Graph.{GraphOf, ArcOf, IsGraph, IsArc, IsTip, IsValue, n_of, made_of, no_vertex, arcs_of, arc_at, has_arc, occurrences, listings}
 use Rattle.sgb_graph.specs.Edit.{with_cut_arc, arc_of, arc_or, no_arc}
 use Rattle.sgb_graph.specs.Link.{CanPutBack}
 use Rattle.sgb_graph.specs.Parts.{vertex_part, arc_part, next_part}
@@ -25,8 +23,8 @@ use Rattle.sgb_graph.specs.Lay.{RefusesToLay, IsChain, IsLaid, Lays, Laying, Lay
 use Rattle.sgb_graph.specs.Arena.{arc_no}
 use Rattle.sgb_graph.specs.Fill.{SameNames}
 use Rattle.sgb_graph.proofs.Chains.{chain_is}
-use Rattle.sgb_graph.proofs.Counts.{occurs_yes, occurs_at, sum_some}
-use Rattle.sgb_graph.proofs.Graphs.{Listed, listed_live, one_owner, arcs_live, few_arcs_of, made_of_live}
+use Rattle.sgb_graph.proofs.Counts.{occurs_yes, sum_some}
+use Rattle.sgb_graph.proofs.Graphs.{listed_live, one_owner, arcs_live, few_arcs_of, made_of_live}
 use Rattle.sgb_graph.proofs.PutBack.{put_n, put_made, put_vertex_same, put_vertex_other, put_entry_same, put_entry_other}
 use Rattle.sgb_graph.proofs.TakeOut.{some_entry}
 

@@ -1,9 +1,8 @@
 -- Lemmas on the values that are put into the fields of a graph.
-use Rattle.std.proofs.Common.{◌≡◌, ◌≢◌, ◌<◌, ◌≤◌, ◌+◌, ℕ, zero, suc, List, [], ◌∷◌, ◌++◌, length, get_or, set, map, Option, Some, None, is_some, IsSome, IfSome, All, Bool, true, false, not, ◌&&◌, refl, sym, ap, subst, ◌∙◌, arith, cond, ◌⊎◌, inl, inr}
+use Rattle.std.proofs.Common.{◌≡◌, ◌<◌, ℕ, List, [], ◌∷◌, length, get_or, set, map, Option, Some, None, is_some, IfSome, true, ◌&&◌, refl, sym, ap, subst, ◌∙◌, arith, inl, inr}
 use Rattle.std.proofs.Common.{Result, Ok, Err, is_ok, OnOk}
-use Rattle.std.specs.List.{list_all}
-use Rattle.std.proofs.lemmas.Bool.{cases_Bool, cases_order, cases_lt, cases_eq, ltb-true, lt-ltb, and_parts}
-use Rattle.std.proofs.lemmas.List.{get_or-set_same, get_or-set_other, set-set, length-set}
+use Rattle.std.proofs.lemmas.Bool.{cases_Bool, cases_eq, lt-ltb, and_parts}
+use Rattle.std.proofs.lemmas.List.{get_or-set_same, set-set, length-set}
 use Rattle.sgb_graph.specs.declared.field.ArcNo.{ArcNo}
 use Rattle.sgb_graph.specs.declared.field.VertexNo.{VertexNo}
 use Rattle.sgb_graph.specs.declared.field.Util.{Util}
@@ -11,11 +10,10 @@ use Rattle.sgb_graph.specs.declared.field.Util.TheVariants as utils
 use Rattle.sgb_graph.specs.declared.field.Place.{Place}
 use Rattle.sgb_graph.specs.declared.field.Place.TheVariants as places
 use Rattle.sgb_graph.specs.declared.refusal.Refusal.TheVariants.{BadOperand}
-use Rattle.sgb_graph.specs.declared.refusal.Refusal.{Refusal}
 use Rattle.sgb_graph.proofs.TakeOut.{some_entry}
-use Rattle.sgb_graph.specs.Graph.{GraphOf, VertexOf, ArcOf, IsGraph, IsArc, n_of, made_of, vertex_at, no_vertex, arc_at, has_arc, has_vertex}
+use Rattle.sgb_graph.specs.Graph.{GraphOf, VertexOf, ArcOf, IsGraph, IsArc, n_of, vertex_at, no_vertex, arc_at, has_arc}
 use Rattle.sgb_graph.specs.Edit.{with_util, with_label, with_vertex, with_entry, can_name, has_place, refusal_of_util, refusal_unless, entry_at, arc_or, no_arc, stored}
-use Rattle.sgb_graph.specs.Field.{vertex_place, arc_place, graph_place}
+use Rattle.sgb_graph.specs.Field.{vertex_place}
 use Rattle.sgb_graph.specs.declared.field.VertexField.{VertexField}
 use Rattle.sgb_graph.specs.declared.field.VertexField.TheVariants as fields
 use Rattle.sgb_graph.specs.declared.field.GraphField.TheVariants as own

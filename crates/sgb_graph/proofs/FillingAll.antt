@@ -1,16 +1,12 @@
 -- Lemmas on filling all vertices and all arcs.
-use Rattle.std.proofs.Common.{◌≡◌, ◌≢◌, ◌<◌, ◌≤◌, ◌+◌, ℕ, zero, suc, List, [], ◌∷◌, ◌++◌, length, get_or, set, map, Option, Some, None, is_some, IsSome, IfSome, All, Bool, true, false, not, ◌&&◌, refl, sym, ap, subst, ◌∙◌, arith, cond, ◌⊎◌, inl, inr}
-use Rattle.std.specs.List.{list_all, range_with_len}
-use Rattle.std.proofs.lemmas.Bool.{cases_Bool, cases_order, cases_lt, cases_eq, and_parts}
-use Rattle.std.proofs.lemmas.List.{append-nil, get_or-set_same, get_or-set_other, set-set, length-set, get_or_at, get_or_append_left, length_push, append_assoc, length-append, set_past}
-use Rattle.std.proofs.lemmas.List.Folds.{list_all-append}
-use Rattle.sgb_graph.specs.declared.field.VertexNo.{VertexNo}
-use Rattle.sgb_graph.specs.declared.field.ArcNo.{ArcNo}
+use Rattle.std.proofs.Common.{◌≡◌, ◌≢◌, ◌<◌, ◌≤◌, ◌+◌, ℕ, zero, suc, List, [], ◌∷◌, ◌++◌, length, get_or, set, map, Option, Some, None, is_some, true, false, refl, sym, ap, ◌∙◌, arith, cond, inl, inr}
+use Rattle.std.proofs.lemmas.Bool.{cases_lt, cases_eq, and_parts}
+use Rattle.std.proofs.lemmas.List.{append-nil, get_or-set_same, get_or-set_other, set-set, length-set, get_or_at, length_push, append_assoc, length-append}
 use Rattle.sgb_graph.specs.declared.field.Util.{Util}
 use Rattle.sgb_graph.specs.declared.parts.ArcPart.{ArcPart}
 use Rattle.sgb_graph.specs.declared.parts.VertexPart.{VertexPart}
 use Rattle.sgb_graph.specs.Graph.{GraphOf, VertexOf, ArcOf, IsGraph, n_of, made_of, vertex_at, no_vertex, arc_at, has_arc}
-use Rattle.sgb_graph.specs.Edit.{with_label, with_vertex, with_entry, stored}
+use Rattle.sgb_graph.specs.Edit.{with_label, stored}
 use Rattle.sgb_graph.specs.Parts.{vertex_part, arc_part, any_vertex_part, any_arc_part}
 use Rattle.sgb_graph.specs.Fill.{SameNames, can_name_each, can_name_vertices, can_name_at, can_name_arcs, filled_vertex, filled_entry, with_filled_vertex, with_filled_arc, FillsVertices, FillsArcs}
 use Rattle.sgb_graph.proofs.Graphs.{no_arc_past}

@@ -4,7 +4,7 @@ use Rattle.std.specs.List.{list_all, range_with_len}
 use Rattle.sgb_graph.specs.declared.field.Util.{Util}
 use Rattle.sgb_graph.specs.declared.parts.ArcPart.{ArcPart}
 use Rattle.sgb_graph.specs.declared.parts.VertexPart.{VertexPart}
-use Rattle.sgb_graph.specs.Edit.{with_vertex, with_entry, entry_at, can_name, stored}
+use Rattle.sgb_graph.specs.Edit.{with_vertex, with_entry, can_name, stored}
 use Rattle.sgb_graph.specs.Graph.{GraphOf, VertexOf, ArcOf, IsGraph, n_of, made_of, vertex_at, arc_at, has_arc}
 use Rattle.sgb_graph.specs.Parts.{vertex_part, arc_part}
 

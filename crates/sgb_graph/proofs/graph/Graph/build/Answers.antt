@@ -1,6 +1,5 @@
-use Rattle.std.proofs.Common.{◌≡◌, refl, sym, ap, ◌∙◌, arith, inr, length}
+use Rattle.std.proofs.Common.{refl, sym, ◌∙◌, inr}
 use Rattle.std.proofs.lemmas.Result.{err_from_is_err_and}
-use Rattle.sgb_graph.specs.Graph.{made_of}
 use Rattle.sgb_graph.proofs.Filling.{names_then, each-same}
 use Rattle.sgb_graph.proofs.Building.{blank_lays, lays_moved, unnamed_refused, named_parts, arcs-same, filled_names, arcs_filled_names, builds, too_many, not_laid, long_id}
 use Rattle.sgb_graph.proofs.graph.Graph.build.Goals as goal

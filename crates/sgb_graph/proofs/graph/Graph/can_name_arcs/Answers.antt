@@ -1,6 +1,4 @@
-use Rattle.std.proofs.Common.{◌≡◌, ◌∙◌, ap, sym, refl, arith, false, true}
-use Rattle.std.specs.List.{list_all, range_with_len}
-use Rattle.sgb_graph.specs.Graph.{made_of}
+use Rattle.std.proofs.Common.{◌∙◌, sym, arith}
 use Rattle.sgb_graph.specs.Fill.{can_name_at}
 use Rattle.std.proofs.Common.{length}
 use Rattle.sgb_graph.proofs.PairedLemmas.{below_all_more, below_all_not}

@@ -1,7 +1,6 @@
-use Rattle.std.proofs.Common.{◌≡◌, refl, sym, ap, ◌∙◌, arith}
 use Rattle.sgb_graph.specs.declared.field.ArcField.TheVariants as arcs
 use Rattle.sgb_graph.specs.declared.field.Place.TheVariants as places
-use Rattle.sgb_graph.proofs.Filling.{each_first, each_rest, names_refl, accepted, arc_filled, two_named, arc_two}
+use Rattle.sgb_graph.proofs.Filling.{names_refl, accepted, arc_filled, two_named, arc_two}
 use Rattle.sgb_graph.proofs.graph.Graph.fill_arc.Goals as goal
 
 pub fill-requires : goal.fill-requires

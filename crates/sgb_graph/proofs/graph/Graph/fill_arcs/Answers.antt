@@ -1,4 +1,4 @@
-use Rattle.std.proofs.Common.{◌≡◌, refl, sym, ap, ◌∙◌, arith}
+use Rattle.std.proofs.Common.{◌≡◌, sym, ap, ◌∙◌, arith}
 use Rattle.sgb_graph.proofs.FillingAll.{arcs_filling_begins, arc_filled_more, arc_passed, arcs_filling_ends, arc_turn_names, empty_of}
 use Rattle.std.proofs.Common.{length}
 use Rattle.sgb_graph.specs.Graph.{has_arc}

@@ -1,4 +1,4 @@
-use Rattle.std.proofs.Common.{◌≡◌, subst, sym}
+use Rattle.std.proofs.Common.{subst, sym}
 use Rattle.sgb_graph.specs.Fill.{SameNames}
 use Rattle.sgb_graph.proofs.Filling.{names-with_label, on_ok}
 use Rattle.sgb_graph.proofs.graph.Graph.fill_label.Goals as goal

@@ -1,5 +1,4 @@
-use Rattle.std.proofs.Common.{◌≡◌, refl, sym, ap, ◌∙◌, arith, length}
-use Rattle.std.proofs.lemmas.List.{append-nil}
+use Rattle.std.proofs.Common.{◌≡◌, ap, ◌∙◌, arith, length}
 use Rattle.sgb_graph.proofs.FillingAll.{filling_begins, filled_more, filling_ends, turn_names, turn_low, empty_of}
 use Rattle.sgb_graph.specs.Edit.{with_label}
 use Rattle.sgb_graph.specs.Fill.{with_filled_vertex}

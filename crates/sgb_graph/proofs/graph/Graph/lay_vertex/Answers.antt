@@ -1,11 +1,9 @@
-use Rattle.std.proofs.Common.{◌≡◌, ◌<◌, refl, sym, ap, ◌∙◌, arith, length}
+use Rattle.std.proofs.Common.{◌<◌, ap, arith, length}
 use Rattle.std.proofs.lemmas.List.{get_or_default}
 use Rattle.std.proofs.lemmas.Result.{err_from_is_err_and}
-use Rattle.sgb_graph.specs.declared.parts.ArcPart.{ArcPart}
 use Rattle.sgb_graph.specs.declared.parts.VertexPart.{VertexPart}
 use Rattle.sgb_graph.specs.Parts.{any_arc_part, any_vertex_part}
-use Rattle.sgb_graph.specs.Lay.{laid_arc}
-use Rattle.sgb_graph.proofs.Chaining.{collect_refused, laying_begins, laying_ends, laid_more, part_at, last_within, last_left, record_refused}
+use Rattle.sgb_graph.proofs.Chaining.{collect_refused, laid_more, part_at, last_within, last_left, record_refused}
 use Rattle.sgb_graph.proofs.graph.Graph.lay_vertex.Goals as goal
 
 pub returns-in_err-collect_chain-clause-err : goal.returns-in_err-collect_chain-clause-err

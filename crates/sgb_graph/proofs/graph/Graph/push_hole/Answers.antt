@@ -1,4 +1,4 @@
-use Rattle.std.proofs.Common.{refl, arith}
+use Rattle.std.proofs.Common.{refl}
 use Rattle.sgb_graph.specs.declared.graph.Graph.TheInside.{Inside}
 use Rattle.sgb_graph.specs.Holes.{with_hole}
 use Rattle.sgb_graph.proofs.Shows.{opened, closed, closed_arena}

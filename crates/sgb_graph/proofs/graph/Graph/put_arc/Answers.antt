@@ -1,9 +1,9 @@
-use Rattle.std.proofs.Common.{◌∙◌, refl, ◌+◌, ap}
+use Rattle.std.proofs.Common.{◌∙◌, refl, ◌+◌}
 use Rattle.std.specs.Vec.{with_items}
 use Rattle.std.proofs.lemmas.List.{with_items_is}
 use Rattle.sgb_graph.specs.declared.graph.Graph.TheInside.{Inside}
 use Rattle.sgb_graph.specs.Edit.{with_cut_arc}
-use Rattle.sgb_graph.proofs.Shows.{Opened, opened, closed, closed_arena}
+use Rattle.sgb_graph.proofs.Shows.{opened, closed, closed_arena}
 use Rattle.sgb_graph.proofs.Laid.{put_requires, put_opened}
 use Rattle.sgb_graph.proofs.graph.Graph.put_arc.Goals as goal
 
