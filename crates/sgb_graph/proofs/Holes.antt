@@ -120,17 +120,17 @@ first_cut g low high len = new_cut (arc_no (made_of g)) (record { 0 = low }) (re
 abbrev pub second_cut : GraphOf → ℕ → ℕ → ℤ → CutArc
 second_cut g low high len = new_cut (arc_no (made_of g + 1)) (record { 0 = high }) (record { 0 = low }) len
 
-edge_entries : (es : List (Option ArcOf)) (a b : Option ArcOf) → set (set (es ++ None ∷ [] ++ None ∷ []) (length es + 1) b) (length es) a ≡ es ++ a ∷ [] ++ b ∷ []
-edge_entries es a b =
-    ap (λ fs. set fs (length es) a) (set_at (es ++ None ∷ []) None [] b (length es + 1) (length_push es None))
-    ∙ (set-append_left (es ++ None ∷ []) (b ∷ []) (length es) a (omega (arith, length_push es None))
-    ∙ ap (λ fs. fs ++ b ∷ []) (set_at es None [] a (length es) refl))
+pub two_set_last : {X : Type 0} (xs : List X) (x a b : X) → set (set (xs ++ x ∷ [] ++ x ∷ []) (length xs + 1) b) (length xs) a ≡ xs ++ a ∷ [] ++ b ∷ []
+two_set_last xs x a b =
+    ap (λ ys. set ys (length xs) a) (set_at (xs ++ x ∷ []) x [] b (length xs + 1) (length_push xs x))
+    ∙ (set-append_left (xs ++ x ∷ []) (b ∷ []) (length xs) a (omega (arith, length_push xs x))
+    ∙ ap (λ ys. ys ++ b ∷ []) (set_at xs x [] a (length xs) refl))
 
 pub with_edge_is : (g : GraphOf) (u v : ℕ) (len : ℤ) → with_edge g u v len ≡ with_cut_arc (with_cut_arc (with_hole (with_hole g)) (second_cut g (min u v) (max u v) len)) (first_cut g (min u v) (max u v) len)
 unfolding with_edge with_entry_last with_listed with_cut_arc
 with_edge_is g u v len =
     let h = with_listed (with_listed g (max u v) 0 (made_of g + 1)) (min u v) 0 (made_of g) in
-    ap (λ es. record h { entries = es }) (sym (edge_entries g.entries (Some (arc_to (max u v) len)) (Some (arc_to (min u v) len))))
+    ap (λ es. record h { entries = es }) (sym (two_set_last g.entries None (Some (arc_to (max u v) len)) (Some (arc_to (min u v) len))))
 
 pub second_can : (g : GraphOf) (low high : ℕ) (len : ℤ) → IsGraph g → low < n_of g → high < n_of g → FitsSigned w64 len → CanPutBack (with_hole (with_hole g)) (second_cut g low high len)
 second_can g low high len sound from to fits =

@@ -16,6 +16,7 @@ pub mod Laid
 pub mod Laws
 pub mod NewLemmas
 pub mod PairedLemmas
+pub mod Pushing
 pub mod PutBack
 pub mod SetLemmas
 pub mod Shows

@@ -49,7 +49,7 @@ struct Vertex {
 }
 
 #[derive(Drop)]
-struct Slot {
+pub(crate) struct Slot {
     owner: VertexNo,
     tip: Tip,
     // The arc that follows in the owner's list.
