@@ -1,10 +1,9 @@
 -- Lemmas on lists that are linked by number.
-use Rattle.std.proofs.Common.{◌≡◌, ◌≢◌, ◌<◌, ◌≤◌, ◌+◌, ◌-◌, ℕ, zero, suc, List, [], ◌∷◌, ◌++◌, length, get_or, take, drop, Option, Some, None, All, refl, sym, ap, subst, ◌∙◌, arith, cond, ◌==◌}
-use Rattle.std.specs.List.{insert, remove, sum_by, count_by}
-use Rattle.std.proofs.lemmas.List.Sums.{sum_by-cons}
+use Rattle.std.proofs.Common.{◌≡◌, ◌≢◌, ◌<◌, ◌≤◌, ◌+◌, ℕ, zero, suc, List, [], ◌∷◌, length, get_or, Option, Some, None, All, refl, sym, ap, subst, ◌∙◌, arith}
+use Rattle.std.specs.List.{insert, remove}
 use Rattle.sgb_graph.specs.declared.field.ArcNo.{ArcNo}
 use Rattle.sgb_graph.specs.Graph.{occurrences}
-use Rattle.sgb_graph.proofs.Counts.{occurs_yes, occurs_no, occurs_more, occurs_at}
+use Rattle.sgb_graph.proofs.Counts.{occurs_yes, occurs_more, occurs_at}
 use Rattle.sgb_graph.specs.Chain.{Leads, chain}
 use Rattle.sgb_graph.specs.Arena.{Slots, next_at, numbers, IsLinked}
 

@@ -1,8 +1,7 @@
 -- Lemmas on a value that is put into a field.
-use Rattle.std.proofs.Common.{◌≡◌, ◌≢◌, ◌<◌, ◌≤◌, ◌+◌, ◌-◌, ◌*◌, ◌^◌, ℕ, zero, suc, List, [], ◌∷◌, length, get_or, set, Option, Some, None, is_some, IsSome, IfSome, All, Bool, true, false, refl, sym, ap, subst, ◌∙◌, arith, cond, ◌==◌, ◌⊎◌, inl, inr, lit≤}
-use Rattle.std.specs.List.{sum_by, count_by}
-use Rattle.std.proofs.lemmas.Bool.{cases_Bool, eq-eqb, ne_eqb, cases_eq, cases_lt, ltb-true}
-use Rattle.std.proofs.lemmas.List.{get_or_past, get_or-set_same, get_or-set_other, get_or_default, length-set, set-set, set-get_or}
+use Rattle.std.proofs.Common.{◌≡◌, ◌<◌, ◌+◌, ◌^◌, ℕ, List, length, get_or, set, Option, Some, None, is_some, IfSome, true, refl, sym, ap, subst, ◌∙◌, arith, cond, inl, inr}
+use Rattle.std.proofs.lemmas.Bool.{cases_eq, ltb-true}
+use Rattle.std.proofs.lemmas.List.{get_or-set_same, get_or-set_other, length-set}
 use Rattle.std.proofs.lemmas.List.Sums.{sum_by-set}
 use Rattle.sgb_graph.specs.declared.field.VertexNo.{VertexNo}
 use Rattle.sgb_graph.specs.declared.field.ArcNo.{ArcNo}
@@ -19,18 +18,18 @@ use Rattle.sgb_graph.specs.declared.field.Place.TheVariants.{Vertex, Arc, Graph}
 use Rattle.sgb_graph.specs.declared.graph.Vertex as vertex
 use Rattle.sgb_graph.specs.declared.graph.Slot.{Slot}
 use Rattle.sgb_graph.specs.Field.{vertex_place, arc_place, graph_place}
-use Rattle.sgb_graph.specs.Graph.{GraphOf, VertexOf, ArcOf, IsGraph, IsVertex, IsArc, IsValue, n_of, made_of, m_of, vertex_at, no_vertex, arcs_of, arc_at, has_arc, has_vertex, occurrences, listings, is_name, names_in, names_in_entry, names_of}
-use Rattle.sgb_graph.specs.Edit.{with_vertex, with_entry, with_util, util_at, has_place, entry_at, arc_or, no_arc}
+use Rattle.sgb_graph.specs.Graph.{GraphOf, VertexOf, ArcOf, IsGraph, IsVertex, IsArc, IsValue, n_of, made_of, m_of, vertex_at, no_vertex, arcs_of, arc_at, has_arc, occurrences, listings, is_name, names_in, names_in_entry, names_of}
+use Rattle.sgb_graph.specs.Edit.{with_util, util_at, has_place, entry_at, arc_or, no_arc}
 use Rattle.sgb_graph.specs.Arena.{Slots, Shows, ShowsVertex, slot_at, next_of, next_at, entry_of, owner_in, names_counted}
 use Rattle.sgb_graph.specs.Link.{any_vertex, vertex_in, IsCounted, slots_gaining, slots_losing}
 use Rattle.sgb_graph.specs.Exchange.{fields_in, with_field, value_in, fields_with, vertices_with, slots_with, CanExchange, Exchanged}
 use Rattle.sgb_graph.specs.Chain.{Leads}
 use Rattle.sgb_graph.proofs.Chains.{Leads-agree}
-use Rattle.sgb_graph.proofs.Graphs.{same_graph, same_vertex, made_of_live}
-use Rattle.sgb_graph.proofs.Slots.{one_name, slot_same, slot_other, slot_unseen, length-gaining, length-losing, counted_more, counted_less}
+use Rattle.sgb_graph.proofs.Graphs.{made_of_live}
+use Rattle.sgb_graph.proofs.Slots.{one_name, slot_same, slot_other, slot_unseen, length-gaining, counted_more, counted_less}
 use Rattle.sgb_graph.proofs.Sound.{Keeps, IsValue-keeps, IsVertex-keeps, IsArc-keeps, IsEntry-keeps, All-set, entry_same, entry_other, few_names}
 use Rattle.sgb_graph.proofs.Shows.{ShowsBut, but_of}
-use Rattle.sgb_graph.proofs.ShowsPut.{gaining_but, losing_but, first_room, one_at_most}
+use Rattle.sgb_graph.proofs.ShowsPut.{gaining_but, losing_but, one_at_most}
 use Rattle.sgb_graph.proofs.ShowsTake.{counted_enough}
 use Rattle.sgb_graph.proofs.TakeOut.{some_entry}
 

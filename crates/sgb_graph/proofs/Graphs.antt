@@ -1,12 +1,11 @@
 -- Lemmas on graphs alone.
-use Rattle.std.proofs.Common.{◌≡◌, ◌≢◌, ◌<◌, ◌≤◌, ◌+◌, ◌-◌, ◌*◌, ℕ, zero, suc, List, [], ◌∷◌, ◌++◌, length, get_or, set, take, drop, Option, Some, None, is_some, IsSome, IfSome, All, Bool, true, false, refl, sym, ap, subst, ◌∙◌, arith, cond, ◌==◌, ◌⊎◌, inl, inr, nat_lt, ltb}
-use Rattle.std.specs.List.{insert, remove, sum_by, count_by, list_any, position_or_len}
-use Rattle.std.proofs.lemmas.Bool.{cases_Bool, eq-eqb, ne_eqb, eqb-true, eqb-false, cases_order, cases_lt}
+use Rattle.std.proofs.Common.{◌≡◌, ◌<◌, ◌≤◌, ℕ, [], length, get_or, None, is_some, All, true, false, ap, ◌∙◌, arith, cond, ◌==◌, inl, inr}
+use Rattle.std.specs.List.{list_any}
+use Rattle.std.proofs.lemmas.Bool.{cases_Bool, cases_order, cases_lt}
 use Rattle.std.proofs.lemmas.List.{get_or_past}
 use Rattle.std.proofs.lemmas.List.Sums.{get_or-le-sum_by, position_or_len_is}
-use Rattle.std.proofs.lemmas.Bool.{cases_eq}
-use Rattle.sgb_graph.specs.Graph.{GraphOf, VertexOf, ArcOf, IsGraph, n_of, made_of, vertex_at, no_vertex, arcs_of, arc_at, has_arc, occurrences, listings}
-use Rattle.sgb_graph.specs.Edit.{owner_of, place_of}
+use Rattle.sgb_graph.specs.Graph.{GraphOf, VertexOf, IsGraph, n_of, made_of, no_vertex, arcs_of, arc_at, has_arc, occurrences, listings}
+use Rattle.sgb_graph.specs.Edit.{owner_of}
 use Rattle.sgb_graph.proofs.Counts.{any_none, any_some, sum_two, few_numbers, occurs_at}
 
 pub same_vertex : (x y : VertexOf) → x.label ≡ y.label → x.fields ≡ y.fields → x.arcs ≡ y.arcs → x ≡ y

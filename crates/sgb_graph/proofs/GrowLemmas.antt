@@ -1,26 +1,24 @@
 -- Lemmas on a new vertex.
-use Rattle.std.proofs.Common.{◌≡◌, ◌≢◌, ◌<◌, ◌≤◌, ◌+◌, ◌-◌, ℕ, zero, suc, List, [], ◌∷◌, ◌++◌, length, get_or, map, Option, Some, None, is_some, IsSome, IfSome, All, Bool, true, false, refl, sym, ap, subst, ◌∙◌, arith, cond, ◌⊎◌, inl, inr}
-use Rattle.std.specs.List.{sum_by, count_by}
+use Rattle.std.proofs.Common.{◌≡◌, ◌<◌, ◌+◌, ℕ, zero, suc, List, [], ◌∷◌, ◌++◌, length, get_or, map, Option, None, IfSome, All, false, refl, sym, ap, subst, ◌∙◌, arith, cond, inl, inr}
 use Rattle.std.proofs.Common.{ℤ, pos, ◌==◌}
 use Rattle.std.specs.Ordering.{int_eq}
-use Rattle.std.proofs.lemmas.Bool.{cases_lt, cases_eq, cases_Bool, cases_order}
-use Rattle.std.proofs.lemmas.List.{get_or_past, get_or_append_left, get_or_push, length_push, get_or_default, length-map, get_or-map}
+use Rattle.std.proofs.lemmas.Bool.{cases_lt, cases_Bool, cases_order}
+use Rattle.std.proofs.lemmas.List.{get_or_past, get_or_append_left, get_or_push, length_push, length-map, get_or-map}
 use Rattle.std.proofs.lemmas.List.Sums.{sum_by_push}
 use Rattle.std.proofs.lemmas.List.Elements.{All-append}
-use Rattle.sgb_graph.specs.declared.field.VertexNo.{VertexNo}
 use Rattle.sgb_graph.specs.declared.field.Util.{Util}
 use Rattle.sgb_graph.specs.declared.field.Util.TheVariants.{Zero, Int, Vertex, Arc, Text}
 use Rattle.sgb_graph.specs.declared.graph.Vertex as vertex
 use Rattle.sgb_graph.specs.declared.graph.Graph.TheInside.{Inside}
 use Rattle.sgb_graph.specs.Text.{IsText}
-use Rattle.sgb_graph.specs.Graph.{GraphOf, VertexOf, ArcOf, IsGraph, IsVertex, IsArc, IsValue, n_of, made_of, m_of, vertex_at, no_vertex, arcs_of, occurrences, listings, is_name, names_in, names_of}
+use Rattle.sgb_graph.specs.Graph.{GraphOf, VertexOf, ArcOf, IsVertex, IsValue, n_of, vertex_at, no_vertex, arcs_of, occurrences, listings, is_name, names_in, names_of}
 use Rattle.sgb_graph.specs.Edit.{stored}
 use Rattle.sgb_graph.specs.Set.{IsStorable}
 use Rattle.sgb_graph.specs.Vertex.{NamesNothing, new_vertex, with_vertex_last}
 use Rattle.sgb_graph.specs.Chain.{Leads}
-use Rattle.sgb_graph.specs.Arena.{Slots, Shows, ShowsVertex, next_at, slot_at, owner_in, names_counted}
+use Rattle.sgb_graph.specs.Arena.{Shows, ShowsVertex, slot_at, owner_in, names_counted}
 use Rattle.sgb_graph.proofs.Counts.{sum_zero}
-use Rattle.sgb_graph.proofs.Sound.{Keeps, IsValue-keeps, IsVertex-keeps, IsArc-keeps, IsEntry-keeps}
+use Rattle.sgb_graph.proofs.Sound.{Keeps, IsValue-keeps, IsVertex-keeps, IsEntry-keeps}
 use Rattle.sgb_graph.proofs.Shows.{Opened}
 use Rattle.sgb_graph.proofs.ExchangeLemmas.{owned_as}
 

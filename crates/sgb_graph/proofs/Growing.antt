@@ -1,8 +1,8 @@
 -- Lemmas on graphs that are built by insertions.
-use Rattle.std.proofs.Common.{◌≡◌, ◌<◌, ◌≤◌, ◌+◌, ◌*◌, ℕ, ℤ, List, [], ◌∷◌, ◌++◌, length, Bool, true, false, fold, Result, Ok, Err, None, Some, Option, ◌⊎◌, inl, inr, refl, sym, ap, subst, ◌∙◌, arith, set, nat_le, ◌&&◌, IfErr, min, max}
+use Rattle.std.proofs.Common.{◌≡◌, ◌<◌, ◌+◌, ◌*◌, ℕ, ℤ, List, [], ◌∷◌, ◌++◌, length, Bool, true, false, Result, Ok, Err, None, Some, ◌⊎◌, inl, inr, refl, sym, ap, ◌∙◌, arith, set, nat_le, ◌&&◌, min, max}
 use Rattle.std.proofs.lemmas.List.{length-set, length_push}
 use Rattle.std.proofs.lemmas.List.Sums.{fold-append}
-use Rattle.std.proofs.lemmas.Bool.{cases_Bool, lt-ltb, leb-false, leb-true, and_from}
+use Rattle.std.proofs.lemmas.Bool.{cases_Bool, lt-ltb, leb-false, and_from}
 use Rattle.sgb_graph.specs.declared.builder.Builder.{Builder}
 use Rattle.sgb_graph.specs.declared.refusal.Refusal.{Refusal}
 use Rattle.sgb_graph.specs.declared.refusal.Refusal.TheVariants.{NoRoom, TooLarge, BadOperand}

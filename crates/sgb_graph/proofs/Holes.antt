@@ -1,27 +1,23 @@
 -- Lemmas on a number that is given out as a hole, and on new arcs.
-use Rattle.std.proofs.Common.{◌≡◌, ◌≢◌, ◌<◌, ◌≤◌, ◌+◌, ◌-◌, ◌*◌, ℕ, ℤ, zero, suc, List, [], ◌∷◌, ◌++◌, length, get_or, set, take, drop, Option, Some, None, is_some, IsSome, IfSome, All, Bool, true, false, ◌&&◌, refl, sym, ap, subst, ◌∙◌, arith, cond, ◌==◌, ◌⊎◌, inl, inr, lit≤, nat_lt, nat_le, nat_eq, FitsSigned}
+use Rattle.std.proofs.Common.{◌≡◌, ◌<◌, ◌+◌, ℕ, ℤ, zero, suc, List, [], ◌∷◌, ◌++◌, length, get_or, set, Option, Some, None, is_some, IfSome, All, refl, sym, ap, subst, ◌∙◌, arith, cond, inl, inr, FitsSigned}
 use Rattle.std.specs.Int.{w64}
-use Rattle.std.specs.List.{insert, remove, sum_by, count_by}
-use Rattle.std.proofs.lemmas.Bool.{cases_Bool, eq-eqb, ne_eqb, eqb-true, eqb-false, cases_eq, cases_lt, cases_order, le-leb, lt-leb, lt-ltb, le-ltb, and_parts, ltb-true, leb-true}
-use Rattle.std.proofs.lemmas.List.{get_or_past, get_or_at, get_or_append_left, length_push, get_or_push, set_at, get_or_default}
+use Rattle.std.proofs.lemmas.Bool.{cases_lt, cases_order, le-leb, lt-ltb}
+use Rattle.std.proofs.lemmas.List.{get_or_past, get_or_append_left, length_push, get_or_push, set_at, get_or_default}
 use Rattle.std.proofs.lemmas.List.Sums.{sum_by_push}
-use Rattle.sgb_graph.specs.declared.field.VertexNo.{VertexNo}
-use Rattle.sgb_graph.specs.declared.field.ArcNo.{ArcNo}
-use Rattle.sgb_graph.specs.declared.field.Util.{Util}
 use Rattle.sgb_graph.specs.declared.field.Util.TheVariants as utils
 use Rattle.sgb_graph.specs.declared.graph.Vertex.{Vertex}
-use Rattle.sgb_graph.specs.declared.graph.Slot.{Slot}
 use Rattle.sgb_graph.specs.declared.delta.CutArc.{CutArc}
-use Rattle.sgb_graph.specs.Graph.{GraphOf, VertexOf, ArcOf, IsGraph, IsVertex, IsArc, IsValue, n_of, made_of, m_of, vertex_at, no_vertex, arcs_of, arc_at, has_arc, has_vertex, occurrences, listings, names_in, names_in_entry, names_of}
-use Rattle.sgb_graph.specs.Edit.{with_entry, with_listed, with_entry_last, with_cut_arc, with_arc, with_edge, arc_of, arc_to, refusal_of_arc, refusal_of_edge, refusal_unless}
+use Rattle.sgb_graph.specs.Graph.{GraphOf, ArcOf, IsGraph, IsArc, IsValue, n_of, made_of, m_of, arcs_of, occurrences, names_in_entry, names_of}
+use Rattle.sgb_graph.specs.Edit.{with_listed, with_entry_last, with_cut_arc, with_arc, with_edge, arc_to, refusal_of_arc, refusal_of_edge}
+use Rattle.sgb_graph.specs.Holes.{with_hole}
 use Rattle.sgb_graph.specs.Insert.{new_cut}
-use Rattle.sgb_graph.specs.Arena.{Slots, Shows, ShowsVertex, arc_no, slot_at, next_of, next_at, entry_of, owner_in, names_counted}
+use Rattle.sgb_graph.specs.Arena.{Slots, Shows, arc_no, slot_at, next_of, next_at, entry_of, owner_in, names_counted}
 use Rattle.sgb_graph.specs.Link.{CanPutBack}
 use Rattle.std.proofs.Common.{min, max}
 use Rattle.std.proofs.lemmas.List.{set-append_left}
 use Rattle.sgb_graph.proofs.PutBack.{put_n, put_made, put_entry_other}
 use Rattle.sgb_graph.proofs.Chains.{Leads-agree}
-use Rattle.sgb_graph.proofs.Sound.{Keeps, IsValue-keeps, IsVertex-keeps, IsArc-keeps, IsEntry-keeps}
+use Rattle.sgb_graph.proofs.Sound.{Keeps, IsValue-keeps, IsVertex-keeps, IsEntry-keeps}
 
 -- a hole at the end is like no entry
 pub at_hole : {X : Type 0} (os : List (Option X)) (k : ℕ) → get_or (os ++ None ∷ []) k None ≡ get_or os k None
@@ -31,9 +27,6 @@ at_hole {X} os k =
       | inr (inl low) ↦ get_or_append_left os (None ∷ []) None k low
       | inr (inr high) ↦ get_or_past (os ++ None ∷ []) k None (omega (arith, length_push os None)) ∙ sym (get_or_past os k None (omega arith))
     ]
-
-abbrev pub with_hole : GraphOf → GraphOf
-with_hole g = record g { entries = g.entries ++ None ∷ [] }
 
 pub hole_made : (g : GraphOf) → made_of (with_hole g) ≡ made_of g + 1
 hole_made g = length_push g.entries None
@@ -127,17 +120,17 @@ first_cut g low high len = new_cut (arc_no (made_of g)) (record { 0 = low }) (re
 abbrev pub second_cut : GraphOf → ℕ → ℕ → ℤ → CutArc
 second_cut g low high len = new_cut (arc_no (made_of g + 1)) (record { 0 = high }) (record { 0 = low }) len
 
-edge_entries : (es : List (Option ArcOf)) (a b : Option ArcOf) → set (set (es ++ None ∷ [] ++ None ∷ []) (length es + 1) b) (length es) a ≡ es ++ a ∷ [] ++ b ∷ []
-edge_entries es a b =
-    ap (λ fs. set fs (length es) a) (set_at (es ++ None ∷ []) None [] b (length es + 1) (length_push es None))
-    ∙ (set-append_left (es ++ None ∷ []) (b ∷ []) (length es) a (omega (arith, length_push es None))
-    ∙ ap (λ fs. fs ++ b ∷ []) (set_at es None [] a (length es) refl))
+pub two_set_last : {X : Type 0} (xs : List X) (x a b : X) → set (set (xs ++ x ∷ [] ++ x ∷ []) (length xs + 1) b) (length xs) a ≡ xs ++ a ∷ [] ++ b ∷ []
+two_set_last xs x a b =
+    ap (λ ys. set ys (length xs) a) (set_at (xs ++ x ∷ []) x [] b (length xs + 1) (length_push xs x))
+    ∙ (set-append_left (xs ++ x ∷ []) (b ∷ []) (length xs) a (omega (arith, length_push xs x))
+    ∙ ap (λ ys. ys ++ b ∷ []) (set_at xs x [] a (length xs) refl))
 
 pub with_edge_is : (g : GraphOf) (u v : ℕ) (len : ℤ) → with_edge g u v len ≡ with_cut_arc (with_cut_arc (with_hole (with_hole g)) (second_cut g (min u v) (max u v) len)) (first_cut g (min u v) (max u v) len)
 unfolding with_edge with_entry_last with_listed with_cut_arc
 with_edge_is g u v len =
     let h = with_listed (with_listed g (max u v) 0 (made_of g + 1)) (min u v) 0 (made_of g) in
-    ap (λ es. record h { entries = es }) (sym (edge_entries g.entries (Some (arc_to (max u v) len)) (Some (arc_to (min u v) len))))
+    ap (λ es. record h { entries = es }) (sym (two_set_last g.entries None (Some (arc_to (max u v) len)) (Some (arc_to (min u v) len))))
 
 pub second_can : (g : GraphOf) (low high : ℕ) (len : ℤ) → IsGraph g → low < n_of g → high < n_of g → FitsSigned w64 len → CanPutBack (with_hole (with_hole g)) (second_cut g low high len)
 second_can g low high len sound from to fits =

@@ -1,13 +1,11 @@
 -- Lemmas on honest graphs.
-use Rattle.std.proofs.Common.{◌≡◌, ℕ, List, [], ◌∷◌, map, take, drop, Option, Some, None, Bool, true, false, ◌&&◌, refl, sym, ap, subst, ◌∙◌}
+use Rattle.std.proofs.Common.{◌≡◌, ℕ, List, [], ◌∷◌, map, take, drop, Some, None, Bool, ◌&&◌, refl, sym, ap, ◌∙◌}
 use Rattle.std.specs.List.{list_all}
 use Rattle.std.proofs.lemmas.List.{drop-drop}
-use Rattle.sgb_graph.specs.declared.field.Util.{Util}
 use Rattle.sgb_graph.specs.declared.graph.Vertex.{Vertex}
-use Rattle.sgb_graph.specs.declared.graph.Slot.{Slot}
 use Rattle.sgb_graph.specs.declared.graph.Graph.TheInside.{Inside}
 use Rattle.sgb_graph.specs.Graph.{GraphOf}
-use Rattle.sgb_graph.specs.Arena.{Slots, IsArena, graph_of, vertex_of, entry_of}
+use Rattle.sgb_graph.specs.Arena.{Slots, graph_of, vertex_of, entry_of}
 use Rattle.sgb_graph.specs.Exchange.{fields_in}
 use Rattle.sgb_graph.specs.Honest.{are_allowed, vertex_letters, arc_letters, graph_letters, is_honest_vertex, is_honest_entry, is_honest}
 

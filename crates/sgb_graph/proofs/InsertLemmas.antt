@@ -1,24 +1,22 @@
 -- Lemmas on what a new arc or edge leaves of the fields.
-use Rattle.std.proofs.Common.{◌≡◌, ◌≢◌, ◌<◌, ◌≤◌, ◌+◌, ◌-◌, ◌*◌, ℕ, ℤ, zero, suc, List, [], ◌∷◌, ◌++◌, length, Option, Some, None, refl, sym, ap, subst, ◌∙◌, arith, min, max, FitsSigned, Vec, to_z, of_z}
+use Rattle.std.proofs.Common.{◌≡◌, ◌<◌, ◌+◌, ℕ, ℤ, List, [], ◌∷◌, ◌++◌, None, sym, ap, subst, ◌∙◌, arith, min, max, FitsSigned, to_z, of_z}
 use Rattle.std.specs.Int.{w64}
-use Rattle.std.specs.Vec.{with_items}
 use Rattle.std.proofs.lemmas.Int.{to_z-of_z}
-use Rattle.std.proofs.lemmas.List.{with_items_is}
 use Rattle.sgb_graph.specs.declared.field.VertexNo.{VertexNo}
 use Rattle.sgb_graph.specs.declared.field.ArcNo.{ArcNo}
 use Rattle.sgb_graph.specs.declared.graph.Vertex.{Vertex}
-use Rattle.sgb_graph.specs.declared.graph.Slot.{Slot}
 use Rattle.sgb_graph.specs.declared.graph.Graph.TheInside.{Inside}
 use Rattle.sgb_graph.specs.declared.delta.CutArc.{CutArc}
 use Rattle.sgb_graph.specs.Graph.{GraphOf, IsGraph, n_of, made_of, m_of}
 use Rattle.sgb_graph.specs.Edit.{with_arc, with_edge, with_cut_arc, with_listed}
-use Rattle.sgb_graph.specs.Insert.{new_cut, PutsBoth, CanBePutBoth}
+use Rattle.sgb_graph.specs.Insert.{new_cut, PutsBoth}
 use Rattle.sgb_graph.specs.Arena.{Slots, Shows, IsArena, graph_of, arc_no}
-use Rattle.sgb_graph.specs.Link.{CanPutBack, CanBePutBack, PutsBack}
+use Rattle.sgb_graph.specs.Link.{CanPutBack, PutsBack}
 use Rattle.sgb_graph.specs.Delta.{LeftByArc, LeftByEdge}
-use Rattle.sgb_graph.proofs.Shows.{Opened, opened, closed, closed_arena}
+use Rattle.sgb_graph.proofs.Shows.{Opened, closed, closed_arena}
 use Rattle.sgb_graph.proofs.PutBack.{put_sound, put_m}
-use Rattle.sgb_graph.proofs.Holes.{with_hole, hole_made, hole_m, hole_sound, hole_shows, with_arc_is, new_can, arc_accepted, first_cut, second_cut, first_can, second_can, with_edge_is, edge_accepted}
+use Rattle.sgb_graph.specs.Holes.{with_hole}
+use Rattle.sgb_graph.proofs.Holes.{hole_made, hole_m, hole_sound, hole_shows, with_arc_is, new_can, arc_accepted, first_cut, second_cut, first_can, second_can, with_edge_is, edge_accepted}
 
 -- the fields before and after a step between two graphs of one id, types and own fields
 pub record SameOwn (a b : Inside) : Type 0 where
@@ -71,11 +69,6 @@ new_arc_can a g u v z c vs ss k = (
   rw (k.vertices, k.slots) (hole_shows a.vertices.items a.slots.items g k.opened.shows),
   subst (CanPutBack (with_hole g)) (sym k.cut) (new_can g u.0 v.0 z k.opened.graph k.from k.to k.fits),
 )
-
-pub new_arc_requires : (a : Inside) (g : GraphOf) (u v : VertexNo) (z : ℤ) (c : CutArc) (vs : List Vertex) (ss : Slots) → NewArcCan a g u v z c vs ss → CanBePutBack vs ss c
-new_arc_requires a g u v z c vs ss k =
-    let x = new_arc_can a g u v z c vs ss k in
-    record { graph = with_hole g; sound = x.0; shows = x.1; can = x.2 }
 
 pub new_arc_after : (a b : Inside) (g : GraphOf) (u v : VertexNo) (z : ℤ) (c : CutArc) (vs ws : List Vertex) (ss ts : Slots) → NewArcCan a g u v z c vs ss
     → PutsBack vs ss c ws ts → b.vertices.items ≡ ws → b.slots.items ≡ ts → b.live ≡ a.live + 1 → SameOwn a b → Opened b (with_arc g u.0 v.0 z)
@@ -149,11 +142,6 @@ new_edge_can a g u v z c d vs ss k =
           subst (λ x. CanPutBack (with_cut_arc (with_hole h) x) d) (sym k.second)
           (subst (CanPutBack (with_cut_arc (with_hole h) (second_cut g low high z))) (sym k.first) (first_can g low high z k.opened.graph below above k.fits));
     }
-
-pub new_edge_requires : (a : Inside) (g : GraphOf) (u v : VertexNo) (z : ℤ) (c d : CutArc) (vs : List Vertex) (ss : Slots) → NewEdgeCan a g u v z c d vs ss → CanBePutBoth vs ss c d
-new_edge_requires a g u v z c d vs ss k =
-    let x = new_edge_can a g u v z c d vs ss k in
-    record { graph = with_hole (with_hole g); sound = x.sound; shows = x.shows; can = x.can; next = x.next }
 
 pub new_edge_after : (a b : Inside) (g : GraphOf) (u v : VertexNo) (z : ℤ) (c d : CutArc) (vs ws : List Vertex) (ss ts : Slots) → NewEdgeCan a g u v z c d vs ss
     → PutsBoth vs ss c d ws ts → b.vertices.items ≡ ws → b.slots.items ≡ ts → b.live ≡ a.live + 2 → SameOwn a b → Opened b (with_edge g u.0 v.0 z)

@@ -1,22 +1,18 @@
 -- Laws: an arc put back and taken out, and one taken out and put back, leave the graph as it was.
-use Rattle.std.proofs.Common.{◌≡◌, ◌≢◌, ◌<◌, ◌≤◌, ◌+◌, ◌-◌, ◌*◌, ℕ, ℤ, zero, suc, List, [], ◌∷◌, ◌++◌, length, get_or, set, take, drop, Option, Some, None, is_some, IsSome, IfSome, All, Bool, true, false, not, refl, sym, ap, subst, ◌∙◌, arith, cond, ◌==◌, ◌⊎◌, inl, inr, lit≤, FitsSigned}
-use Rattle.std.specs.Int.{w64}
-use Rattle.std.specs.List.{insert, remove, sum_by, count_by, position_or_len}
-use Rattle.std.proofs.lemmas.Bool.{cases_Bool, eq-eqb, ne_eqb, cases_eq, cases_lt}
-use Rattle.std.proofs.lemmas.List.{get_or_past, get_or-set_same, set-set, set-get_or, get_or_default}
-use Rattle.std.proofs.lemmas.List.Edits.{length-remove, length-insert}
-use Rattle.sgb_graph.specs.declared.field.VertexNo.{VertexNo}
-use Rattle.sgb_graph.specs.declared.field.ArcNo.{ArcNo}
+use Rattle.std.proofs.Common.{◌≡◌, ◌≢◌, ◌<◌, ◌≤◌, ◌+◌, ℕ, zero, suc, List, [], ◌∷◌, length, get_or, set, Some, None, is_some, IfSome, not, refl, sym, ap, subst, ◌∙◌, arith, cond, ◌==◌}
+use Rattle.std.specs.List.{insert, remove, position_or_len}
+use Rattle.std.proofs.lemmas.Bool.{eq-eqb, ne_eqb}
+use Rattle.std.proofs.lemmas.List.{set-set, set-get_or}
+use Rattle.std.proofs.lemmas.List.Edits.{length-remove}
 use Rattle.sgb_graph.specs.declared.delta.CutArc.{CutArc}
-use Rattle.sgb_graph.specs.Graph.{GraphOf, VertexOf, ArcOf, IsGraph, IsArc, n_of, made_of, m_of, vertex_at, no_vertex, arcs_of, arc_at, has_arc, occurrences, names_in, names_of}
+use Rattle.sgb_graph.specs.Graph.{GraphOf, VertexOf, IsGraph, IsArc, n_of, vertex_at, no_vertex, arcs_of, occurrences, names_in}
 use Rattle.sgb_graph.specs.Edit.{with_listed, without_listed, with_cut_arc, without_arc, arc_of, owner_of, place_of, entry_at}
 use Rattle.sgb_graph.specs.Delta.{cut_arc}
 use Rattle.sgb_graph.specs.Link.{CanPutBack, CanTakeOut}
-use Rattle.sgb_graph.proofs.Counts.{occurs_yes, occurs_no, occurs_at}
+use Rattle.sgb_graph.proofs.Counts.{occurs_yes, occurs_no}
 use Rattle.sgb_graph.proofs.Graphs.{same_graph, owner_is, hole_unlisted}
-use Rattle.sgb_graph.proofs.Sound.{entry_same, hole_unnamed, names_none}
-use Rattle.sgb_graph.proofs.PutBack.{owner_with, put_sound, put_n, put_made, put_vertex_same, put_entry_same, put_occurrences, put_names}
-use Rattle.sgb_graph.proofs.TakeOut.{Found, found, owner_without, take_n, take_made, take_vertex_same, take_entry_same, entry_without, take_names}
+use Rattle.sgb_graph.proofs.PutBack.{owner_with, put_sound, put_vertex_same, put_occurrences}
+use Rattle.sgb_graph.proofs.TakeOut.{Found, owner_without, take_n, take_made, take_vertex_same, take_entry_same, entry_without, take_names}
 
 -- of lists
 remove-insert : (ks : List ℕ) (i k : ℕ) → i ≤ length ks → remove (insert ks i k) i ≡ ks

@@ -1,21 +1,20 @@
 -- Lemmas on graphs without arcs.
-use Rattle.std.proofs.Common.{Result, Ok, Err, IfOk, ◌≡◌, ◌≢◌, ◌<◌, ◌≤◌, ◌+◌, ◌/◌, ◌%◌, ◌^◌, ℕ, zero, suc, List, [], ◌∷◌, ◌++◌, length, get_or, map, replicate, Option, Some, None, is_some, All, Bool, true, false, ◌&&◌, not, nat_le, IsTrue, codes, decimal, refl, sym, ap, subst, ◌∙◌, arith, ◌==◌, lit≤, length-append, cond}
-use Rattle.std.specs.List.{list_all, sum_by, count_by}
+use Rattle.std.proofs.Common.{Result, Ok, Err, IfOk, ◌≡◌, ◌<◌, ◌≤◌, ◌+◌, ◌%◌, ◌^◌, ℕ, zero, suc, List, [], ◌∷◌, ◌++◌, length, get_or, map, replicate, All, true, ◌&&◌, IsTrue, codes, decimal, refl, sym, ap, subst, ◌∙◌, arith, lit≤, length-append}
+use Rattle.std.specs.List.{list_all}
 use Rattle.std.proofs.lemmas.Bool.{le-leb, ne_eqb, and_from}
 use Rattle.std.proofs.lemmas.List.{get_or-map, length-map, get_or-replicate, length-replicate}
 use Rattle.std.proofs.lemmas.List.Folds.{list_all-append}
 use Rattle.std.proofs.lemmas.Fmt.{decimal_by_steps, length-decimal-le}
-use Rattle.sgb_graph.specs.declared.field.Util.{Util}
 use Rattle.sgb_graph.specs.declared.field.Util.TheVariants.{Zero}
 use Rattle.sgb_graph.specs.declared.graph.Vertex.{Vertex}
 use Rattle.sgb_graph.specs.declared.graph.Graph.TheInside.{Inside}
-use Rattle.sgb_graph.specs.Text.{IsText, is_text_byte}
+use Rattle.sgb_graph.specs.Text.{is_text_byte}
 use Rattle.sgb_graph.specs.Types.{IsTypes}
-use Rattle.sgb_graph.specs.Graph.{GraphOf, VertexOf, IsGraph, IsId, IsVertex, IsValue, n_of, made_of, m_of, vertex_at, no_vertex, arcs_of, occurrences, listings}
-use Rattle.sgb_graph.specs.New.{six_zeros, bare_graph, new_graph, new_id, blank_vertex}
+use Rattle.sgb_graph.specs.Graph.{GraphOf, VertexOf, IsId, IsVertex, IsValue, no_vertex, occurrences}
+use Rattle.sgb_graph.specs.New.{six_zeros, bare_graph, new_graph, new_id}
 use Rattle.sgb_graph.specs.Blank.{blank}
 use Rattle.sgb_graph.specs.Chain.{Leads}
-use Rattle.sgb_graph.specs.Arena.{Shows, ShowsVertex, IsBare, bare_vertex, next_at}
+use Rattle.sgb_graph.specs.Arena.{Shows, ShowsVertex, IsBare, bare_vertex}
 use Rattle.sgb_graph.proofs.Counts.{sum_zero}
 use Rattle.sgb_graph.proofs.Shows.{Opened}
 use Rattle.sgb_graph.specs.Link.{any_vertex}

@@ -1,8 +1,7 @@
 -- Lemmas on what setting a length, a label, the id or the letters leaves.
-use Rattle.std.proofs.Common.{◌≡◌, ◌≢◌, ◌<◌, ◌≤◌, ◌+◌, ◌-◌, ◌*◌, ℕ, ℤ, zero, suc, List, [], ◌∷◌, length, get_or, set, Option, Some, None, is_some, IsSome, IfSome, All, Bool, true, false, ◌&&◌, pos, refl, sym, ap, subst, ◌∙◌, arith, cond, ◌⊎◌, inl, inr, FitsSigned, to_z, of_z}
+use Rattle.std.proofs.Common.{◌≡◌, ◌<◌, ℕ, ℤ, List, get_or, set, Option, Some, None, is_some, IsSome, IfSome, Bool, true, false, refl, sym, ap, subst, ◌∙◌, arith, cond, inl, inr, FitsSigned, to_z, of_z}
 use Rattle.std.specs.Int.{w64}
-use Rattle.std.specs.List.{sum_by, count_by}
-use Rattle.std.proofs.lemmas.Bool.{cases_eq, cases_Bool, ltb-true, lt-ltb}
+use Rattle.std.proofs.lemmas.Bool.{cases_eq, ltb-true, lt-ltb}
 use Rattle.std.proofs.lemmas.Int.{to_z-of_z}
 use Rattle.std.proofs.lemmas.List.{get_or-set_same, get_or-set_other, length-set, set-set, set-get_or}
 use Rattle.std.proofs.lemmas.List.Sums.{sum_by-set}
@@ -12,13 +11,11 @@ use Rattle.sgb_graph.specs.declared.graph.Vertex as vertex
 use Rattle.sgb_graph.specs.declared.graph.Slot.{Slot}
 use Rattle.sgb_graph.specs.declared.graph.Graph.TheInside.{Inside}
 use Rattle.sgb_graph.specs.Text.{IsText}
-use Rattle.sgb_graph.specs.Types.{IsTypes}
-use Rattle.sgb_graph.specs.Graph.{GraphOf, VertexOf, ArcOf, IsGraph, IsVertex, IsArc, IsId, n_of, made_of, m_of, vertex_at, no_vertex, arcs_of, label_of, arc_at, has_arc, has_vertex, occurrences, listings, names_in, names_in_entry, names_of}
-use Rattle.sgb_graph.specs.Edit.{with_vertex, with_entry, with_len, with_label, entry_at, arc_or, no_arc}
+use Rattle.sgb_graph.specs.Graph.{GraphOf, VertexOf, ArcOf, IsGraph, IsVertex, IsArc, n_of, made_of, vertex_at, no_vertex, arcs_of, arc_at, has_arc, has_vertex, occurrences, listings, names_in, names_in_entry, names_of}
+use Rattle.sgb_graph.specs.Edit.{with_len, with_label, entry_at, arc_or, no_arc}
 use Rattle.sgb_graph.specs.Arena.{Slots, Shows, ShowsVertex, IsArena, graph_of, slot_at, next_of, next_at, entry_of, owner_in, names_counted}
 use Rattle.sgb_graph.specs.Link.{any_vertex, vertex_in}
 use Rattle.sgb_graph.specs.Set.{len_in, with_len_in}
-use Rattle.sgb_graph.specs.Chain.{Leads}
 use Rattle.sgb_graph.proofs.Chains.{Leads-agree}
 use Rattle.sgb_graph.proofs.Graphs.{same_graph, made_of_live}
 use Rattle.sgb_graph.proofs.Slots.{slot_same, slot_other, slot_unseen}

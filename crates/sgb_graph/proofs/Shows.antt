@@ -1,22 +1,19 @@
 -- Lemmas on vertices and slots that show a graph.
-use Rattle.std.proofs.Common.{◌≡◌, ◌≢◌, ◌<◌, ◌≤◌, ◌+◌, ◌-◌, ◌*◌, ℕ, ℤ, zero, suc, List, [], ◌∷◌, ◌++◌, length, get_or, set, take, drop, map, Option, Some, None, is_some, IsSome, IfSome, All, Bool, true, false, refl, sym, ap, subst, ◌∙◌, arith, cond, ◌==◌, ◌⊎◌, inl, inr, FitsSigned, to_z, of_z}
+use Rattle.std.proofs.Common.{◌≡◌, ◌<◌, ℕ, List, length, get_or, map, Option, Some, None, is_some, IfSome, All, true, refl, sym, ap, subst, ◌∙◌, arith, FitsSigned, to_z, of_z}
 use Rattle.std.specs.Int.{w64}
 use Rattle.std.proofs.lemmas.Int.{to_z-of_z}
 use Rattle.sgb_graph.specs.Read.{entry_view, arc_view}
-use Rattle.std.proofs.lemmas.Bool.{cases_Bool, cases_lt}
-use Rattle.std.proofs.lemmas.List.{get_or_past, get_or-map, length-map, same_lists, get_or_default, get_or_read}
-use Rattle.sgb_graph.specs.declared.field.VertexNo.{VertexNo}
-use Rattle.sgb_graph.specs.declared.field.ArcNo.{ArcNo}
+use Rattle.std.proofs.lemmas.List.{get_or-map, length-map, same_lists, get_or_default, get_or_read}
 use Rattle.sgb_graph.specs.declared.graph.Vertex.{Vertex}
 use Rattle.sgb_graph.specs.declared.graph.Slot.{Slot}
 use Rattle.sgb_graph.specs.declared.graph.Graph.TheInside.{Inside}
-use Rattle.sgb_graph.specs.Graph.{GraphOf, VertexOf, ArcOf, IsGraph, IsArc, n_of, made_of, m_of, vertex_at, no_vertex, arcs_of, arc_at, has_arc, occurrences, listings}
-use Rattle.sgb_graph.specs.Edit.{owner_of, place_of}
-use Rattle.sgb_graph.specs.Chain.{Leads, chain}
+use Rattle.sgb_graph.specs.Graph.{GraphOf, IsGraph, IsArc, n_of, made_of, m_of, vertex_at, no_vertex, arcs_of, arc_at, has_arc, occurrences}
+use Rattle.sgb_graph.specs.Edit.{owner_of}
+use Rattle.sgb_graph.specs.Chain.{Leads}
 use Rattle.sgb_graph.specs.Arena.{Slots, Shows, ShowsVertex, IsLinked, IsArena, slot_at, next_at, entry_of, owner_in, numbers, vertex_of, graph_of}
 use Rattle.sgb_graph.specs.Link.{any_vertex}
-use Rattle.sgb_graph.proofs.Graphs.{Listed, listed_live, owner_is, arcs_live, few_arcs_of, same_vertex, same_graph, made_of_live}
-use Rattle.sgb_graph.proofs.Chains.{chain_is, length-chain}
+use Rattle.sgb_graph.proofs.Graphs.{owner_is, arcs_live, few_arcs_of, same_vertex, same_graph, made_of_live}
+use Rattle.sgb_graph.proofs.Chains.{chain_is}
 
 -- what is known of the fields of a graph g
 pub record Opened (a : Inside) (g : GraphOf) : Type 0 where

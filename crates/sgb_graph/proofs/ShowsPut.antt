@@ -1,23 +1,23 @@
 -- Lemmas on slots into which an arc is linked.
-use Rattle.std.proofs.Common.{◌≡◌, ◌≢◌, ◌<◌, ◌≤◌, ◌+◌, ◌-◌, ◌*◌, ◌^◌, ℕ, zero, suc, List, [], ◌∷◌, ◌++◌, length, get_or, set, take, drop, Option, Some, None, is_some, IsSome, IfSome, All, Bool, true, false, refl, sym, ap, subst, ◌∙◌, arith, cond, ◌==◌, ◌⊎◌, inl, inr, lit≤, option_map, slice_get, to_z, of_z}
-use Rattle.std.specs.List.{insert, remove, sum_by, count_by}
-use Rattle.std.proofs.lemmas.Bool.{cases_Bool, eq-eqb, ne_eqb, eqb-true, eqb-false, cases_eq, cases_lt}
-use Rattle.std.proofs.lemmas.List.{get_or_past, get_or-set_same, get_or-set_other, get_or_default, length-set, set_past}
+use Rattle.std.proofs.Common.{◌≡◌, ◌≢◌, ◌<◌, ◌≤◌, ◌+◌, ◌-◌, ◌^◌, ℕ, zero, suc, List, [], ◌∷◌, length, get_or, set, Option, Some, None, is_some, IfSome, true, refl, sym, ap, subst, ◌∙◌, arith, cond, ◌⊎◌, inl, inr, option_map, slice_get, to_z, of_z}
+use Rattle.std.specs.List.{insert}
+use Rattle.std.proofs.lemmas.Bool.{cases_Bool, eq-eqb, ne_eqb, cases_eq, cases_lt}
+use Rattle.std.proofs.lemmas.List.{get_or-set_same, get_or-set_other, length-set}
 use Rattle.sgb_graph.specs.declared.field.VertexNo.{VertexNo}
 use Rattle.sgb_graph.specs.declared.field.ArcNo.{ArcNo}
 use Rattle.sgb_graph.specs.declared.field.Util.{Util}
 use Rattle.sgb_graph.specs.declared.graph.Vertex.{Vertex}
 use Rattle.sgb_graph.specs.declared.graph.Slot.{Slot}
 use Rattle.sgb_graph.specs.declared.delta.CutArc.{CutArc}
-use Rattle.sgb_graph.specs.Graph.{GraphOf, VertexOf, ArcOf, IsGraph, n_of, made_of, m_of, vertex_at, no_vertex, arcs_of, arc_at, has_arc, occurrences, names_in, names_of}
-use Rattle.sgb_graph.specs.Edit.{with_cut_arc, arc_of}
-use Rattle.sgb_graph.specs.Chain.{Leads, chain}
+use Rattle.sgb_graph.specs.Graph.{GraphOf, VertexOf, IsGraph, n_of, made_of, vertex_at, arcs_of, arc_at, occurrences, names_in, names_of}
+use Rattle.sgb_graph.specs.Edit.{with_cut_arc}
+use Rattle.sgb_graph.specs.Chain.{Leads}
 use Rattle.sgb_graph.specs.Arena.{Slots, Shows, ShowsVertex, IsLinked, arc_no, slot_at, next_of, next_at, entry_of, owner_in, names_counted, numbers}
 use Rattle.sgb_graph.specs.Link.{any_vertex, vertex_in, CanPutBack, value_at, number_before, link_after, with_next, vertices_relinked, slots_relinked, slots_gaining, slots_losing, slots_gaining_both}
 use Rattle.sgb_graph.proofs.Counts.{occurs_at}
-use Rattle.sgb_graph.proofs.Graphs.{Listed, listed_live, one_owner, hole_unlisted}
+use Rattle.sgb_graph.proofs.Graphs.{listed_live, one_owner, hole_unlisted}
 use Rattle.sgb_graph.proofs.Chains.{Leads-agree, Leads-first, Leads-behind}
-use Rattle.sgb_graph.proofs.Slots.{one_name, slot_same, slot_other, slot_unseen, relinked_unseen, next_blind_entry, next_blind_owner, next_blind_names, length-relinked, gaining_unseen, losing_unseen, more_blind_next, more_blind_entry, more_blind_owner, less_blind_next, less_blind_entry, less_blind_owner, length-gaining, length-losing, counted_more}
+use Rattle.sgb_graph.proofs.Slots.{one_name, slot_same, slot_other, relinked_unseen, next_blind_entry, next_blind_owner, next_blind_names, length-relinked, gaining_unseen, losing_unseen, more_blind_next, more_blind_entry, more_blind_owner, less_blind_next, less_blind_entry, less_blind_owner, length-gaining, length-losing, counted_more}
 use Rattle.sgb_graph.proofs.Shows.{ShowsBut, but_of, numbers_are, linked_first}
 use Rattle.std.specs.Int.{w64}
 use Rattle.std.proofs.lemmas.Int.{to_z-of_z}

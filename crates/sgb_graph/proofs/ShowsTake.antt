@@ -1,10 +1,10 @@
 -- Lemmas on slots out of which an arc is taken.
-use Rattle.std.proofs.Common.{◌≡◌, ◌≢◌, ◌<◌, ◌≤◌, ◌+◌, ◌-◌, ◌*◌, ◌^◌, ℕ, zero, suc, List, [], ◌∷◌, ◌++◌, length, get_or, set, take, drop, Option, Some, None, is_some, IsSome, IfSome, All, Bool, true, false, refl, sym, ap, subst, ◌∙◌, arith, cond, ◌==◌, ◌⊎◌, inl, inr, lit≤, to_z, of_z, ℤ}
+use Rattle.std.proofs.Common.{◌≡◌, ◌≢◌, ◌<◌, ◌≤◌, ◌+◌, ◌^◌, ℕ, suc, List, length, get_or, set, Option, Some, None, is_some, IsSome, IfSome, true, false, refl, sym, ap, subst, ◌∙◌, arith, cond, ◌==◌, ◌⊎◌, inl, inr, to_z, of_z, ℤ}
 use Rattle.std.specs.Int.{w64}
-use Rattle.std.specs.List.{insert, remove, sum_by, count_by, position_or_len}
+use Rattle.std.specs.List.{remove, position_or_len}
 use Rattle.std.proofs.lemmas.Int.{to_z-of_z}
-use Rattle.std.proofs.lemmas.Bool.{cases_Bool, eq-eqb, ne_eqb, eqb-true, eqb-false, cases_eq, cases_lt}
-use Rattle.std.proofs.lemmas.List.{get_or_past, get_or-set_same, get_or-set_other, get_or_default, length-set, set_past}
+use Rattle.std.proofs.lemmas.Bool.{eq-eqb, ne_eqb, cases_eq, cases_lt}
+use Rattle.std.proofs.lemmas.List.{get_or_past, get_or-set_same, get_or-set_other, length-set}
 use Rattle.sgb_graph.specs.declared.field.VertexNo.{VertexNo}
 use Rattle.sgb_graph.specs.declared.field.ArcNo.{ArcNo}
 use Rattle.sgb_graph.specs.declared.field.Util.{Util}
@@ -12,18 +12,18 @@ use Rattle.sgb_graph.specs.declared.field.Util.TheVariants as utils
 use Rattle.sgb_graph.specs.declared.graph.Vertex.{Vertex}
 use Rattle.sgb_graph.specs.declared.graph.Slot.{Slot}
 use Rattle.sgb_graph.specs.declared.delta.CutArc.{CutArc}
-use Rattle.sgb_graph.specs.Graph.{GraphOf, VertexOf, ArcOf, IsGraph, IsArc, IsValue, n_of, made_of, m_of, vertex_at, no_vertex, arcs_of, arc_at, has_arc, occurrences, names_in, names_of}
+use Rattle.sgb_graph.specs.Graph.{GraphOf, VertexOf, ArcOf, IsGraph, IsArc, IsValue, n_of, made_of, vertex_at, arcs_of, arc_at, occurrences, names_of}
 use Rattle.sgb_graph.specs.Edit.{without_arc, owner_of, place_of, entry_at, arc_or, no_arc}
 use Rattle.sgb_graph.specs.Delta.{cut_arc}
-use Rattle.sgb_graph.specs.Chain.{Leads, chain}
+use Rattle.sgb_graph.specs.Chain.{Leads}
 use Rattle.sgb_graph.specs.Arena.{Slots, Shows, ShowsVertex, IsLinked, arc_no, slot_at, next_of, next_at, entry_of, owner_in, names_counted, numbers}
-use Rattle.sgb_graph.specs.Link.{any_vertex, vertex_in, CanTakeOut, IsCounted, value_at, number_before, link_after, with_next, vertices_relinked, slots_relinked, slots_losing, slots_losing_both}
+use Rattle.sgb_graph.specs.Link.{any_vertex, vertex_in, IsCounted, value_at, number_before, with_next, vertices_relinked, slots_relinked, slots_losing, slots_losing_both}
 use Rattle.sgb_graph.proofs.Counts.{occurs_at, two_places}
-use Rattle.sgb_graph.proofs.Graphs.{Listed, listed_live, one_owner, owner_is, made_of_live}
+use Rattle.sgb_graph.proofs.Graphs.{listed_live, one_owner, owner_is}
 use Rattle.sgb_graph.proofs.Chains.{Leads-agree, Leads-rest, Leads-without}
 use Rattle.sgb_graph.proofs.Slots.{one_name, slot_same, slot_other, relinked_unseen, next_blind_entry, next_blind_owner, next_blind_names, length-relinked, length-losing, counted_less}
 use Rattle.sgb_graph.proofs.Sound.{names_in_two, few_names}
-use Rattle.sgb_graph.proofs.Shows.{ShowsBut, but_of, numbers_are, linked_first, ShowsArc, shows_arc}
+use Rattle.sgb_graph.proofs.Shows.{ShowsBut, but_of, numbers_are, linked_first, shows_arc}
 use Rattle.sgb_graph.proofs.ShowsPut.{losing_but, IsBehind, before_cases, next_of_live, length-vertices_relinked, before_within}
 use Rattle.sgb_graph.proofs.TakeOut.{Found, found, owner_without, take_n, take_made, take_vertex_same, take_vertex_other, take_entry_same, take_entry_other, take_occurrences, take_names}
 

@@ -1,14 +1,13 @@
 -- Lemmas on slots one by one: what a change of one slot leaves of the others.
-use Rattle.std.proofs.Common.{◌≡◌, ◌≢◌, ◌<◌, ◌≤◌, ◌+◌, ◌-◌, ℕ, zero, suc, List, [], ◌∷◌, length, get_or, set, Option, Some, None, IfSome, option_map, Bool, true, false, cond, refl, sym, ap, subst, ◌∙◌, arith, ◌⊎◌, inl, inr, ◌==◌}
+use Rattle.std.proofs.Common.{◌≡◌, ◌≢◌, ◌<◌, ◌+◌, ℕ, length, set, Option, Some, None, IfSome, cond, refl, sym, ap, subst, ◌∙◌, arith, inl, inr}
 use Rattle.std.proofs.lemmas.Bool.{cases_eq, cases_lt, eq-eqb, ne_eqb}
 use Rattle.std.proofs.lemmas.List.{get_or-set_same, get_or-set_other, set_past, length-set, get_or_past}
-use Rattle.sgb_graph.specs.declared.field.VertexNo.{VertexNo}
 use Rattle.sgb_graph.specs.declared.field.ArcNo.{ArcNo}
 use Rattle.sgb_graph.specs.declared.field.Util.{Util}
 use Rattle.sgb_graph.specs.declared.field.Util.TheVariants.{Zero, Int, Vertex, Arc, Text}
 use Rattle.sgb_graph.specs.declared.graph.Slot.{Slot}
-use Rattle.sgb_graph.specs.Graph.{ArcOf, is_name}
-use Rattle.sgb_graph.specs.Arena.{Slots, slot_at, next_of, next_at, entry_of, owner_in, names_counted}
+use Rattle.sgb_graph.specs.Graph.{is_name}
+use Rattle.sgb_graph.specs.Arena.{Slots, slot_at, next_of, entry_of, owner_in, names_counted}
 use Rattle.sgb_graph.specs.Link.{with_next, named_more, named_less, slots_relinked, slots_gaining, slots_losing}
 
 pub slot_same : (ss : Slots) (k : ℕ) (o : Option Slot) → k < length ss → slot_at (set ss k o) k ≡ o

@@ -1,21 +1,16 @@
 -- Lemmas on what keeps a graph sound.
-use Rattle.std.proofs.Common.{◌≡◌, ◌≢◌, ◌<◌, ◌≤◌, ◌+◌, ◌-◌, ◌*◌, ℕ, zero, suc, List, [], ◌∷◌, ◌++◌, length, get_or, set, take, drop, Option, Some, None, is_some, IsSome, IfSome, All, Bool, true, false, refl, sym, ap, subst, ◌∙◌, arith, cond, ◌==◌, ◌⊎◌, inl, inr, lit≤}
-use Rattle.std.specs.List.{insert, remove, sum_by, count_by}
-use Rattle.std.proofs.lemmas.Bool.{cases_Bool, eq-eqb, ne_eqb, eqb-true, eqb-false, cases_eq, cases_lt}
-use Rattle.std.proofs.lemmas.List.{get_or_past, get_or-set_same, get_or-set_other, get_or_default, length-set, set_past, set-set}
-use Rattle.std.proofs.lemmas.List.Sums.{sum_by-cons, sum_by-set, sum_by-insert, sum_by-remove, sum_by-append, sum_by_push, sum_by-le, count_by-le-length, get_or-le-sum_by}
-use Rattle.sgb_graph.specs.declared.field.VertexNo.{VertexNo}
-use Rattle.sgb_graph.specs.declared.field.ArcNo.{ArcNo}
+use Rattle.std.proofs.Common.{◌≡◌, ◌≢◌, ◌<◌, ◌≤◌, ◌+◌, ◌*◌, ℕ, List, [], ◌∷◌, length, get_or, set, Option, Some, None, is_some, IsSome, IfSome, All, true, false, refl, sym, ap, subst, ◌∙◌, arith, cond, ◌==◌, inl, inr}
+use Rattle.std.specs.List.{sum_by}
+use Rattle.std.proofs.lemmas.Bool.{cases_Bool, eqb-true, cases_eq}
+use Rattle.std.proofs.lemmas.List.{get_or-set_same, get_or-set_other, length-set}
+use Rattle.std.proofs.lemmas.List.Sums.{sum_by-le, count_by-le-length}
 use Rattle.sgb_graph.specs.declared.field.Util.{Util}
 use Rattle.sgb_graph.specs.declared.field.Util.TheVariants.{Zero, Int, Vertex, Arc, Text}
 use Rattle.sgb_graph.specs.declared.field.Tip.{Tip}
 use Rattle.sgb_graph.specs.declared.field.Tip.TheVariants as tips
-use Rattle.sgb_graph.specs.declared.delta.CutArc.{CutArc}
-use Rattle.sgb_graph.specs.Graph.{GraphOf, VertexOf, ArcOf, IsGraph, IsVertex, IsArc, IsValue, IsTip, n_of, made_of, m_of, vertex_at, no_vertex, arcs_of, arc_at, has_arc, occurrences, listings, is_name, names_in, names_in_entry, names_of}
-use Rattle.sgb_graph.specs.Edit.{with_vertex, with_entry, with_arcs, with_listed, without_listed, with_cut_arc, without_arc, arc_of, owner_of, place_of}
-use Rattle.sgb_graph.specs.Link.{CanPutBack, CanTakeOut, value_at}
-use Rattle.sgb_graph.proofs.Counts.{sum_zero, zero_of_sum}
-use Rattle.sgb_graph.proofs.Graphs.{hole_unlisted, made_of_live}
+use Rattle.sgb_graph.specs.Graph.{GraphOf, VertexOf, ArcOf, IsGraph, IsVertex, IsArc, IsValue, IsTip, n_of, arc_at, is_name, names_in, names_in_entry, names_of}
+use Rattle.sgb_graph.specs.Link.{value_at}
+use Rattle.sgb_graph.proofs.Counts.{sum_zero}
 use Rattle.sgb_graph.proofs.Slots.{one_name}
 
 abbrev Entries : Type 0

@@ -1,18 +1,16 @@
 -- Lemmas on an arc that is taken out of a graph.
-use Rattle.std.proofs.Common.{◌≡◌, ◌≢◌, ◌<◌, ◌≤◌, ◌+◌, ◌-◌, ◌*◌, ◌^◌, ℕ, zero, suc, List, [], ◌∷◌, ◌++◌, length, get_or, set, take, drop, Option, Some, None, is_some, IsSome, IfSome, All, Bool, true, false, not, refl, sym, ap, subst, ◌∙◌, arith, cond, ◌==◌, ◌⊎◌, inl, inr, lit≤}
-use Rattle.std.specs.List.{insert, remove, sum_by, count_by, position_or_len}
-use Rattle.std.proofs.lemmas.Bool.{cases_Bool, eq-eqb, ne_eqb, eqb-true, eqb-false, cases_eq, cases_lt}
-use Rattle.std.proofs.lemmas.List.{get_or_past, get_or-set_same, get_or-set_other, get_or_default, length-set, set_past}
-use Rattle.std.proofs.lemmas.List.Sums.{sum_by-cons, sum_by-set, sum_by-insert, sum_by-remove}
-use Rattle.sgb_graph.specs.declared.field.VertexNo.{VertexNo}
-use Rattle.sgb_graph.specs.declared.field.ArcNo.{ArcNo}
+use Rattle.std.proofs.Common.{◌≡◌, ◌≢◌, ◌<◌, ◌+◌, ℕ, suc, List, [], ◌∷◌, length, get_or, set, Option, Some, None, is_some, IfSome, All, Bool, true, false, not, refl, sym, ap, subst, ◌∙◌, arith, cond, ◌==◌, inl, inr}
+use Rattle.std.specs.List.{remove, sum_by, position_or_len}
+use Rattle.std.proofs.lemmas.Bool.{cases_Bool, eq-eqb, ne_eqb, eqb-true, eqb-false, cases_eq}
+use Rattle.std.proofs.lemmas.List.{get_or-set_same, get_or-set_other, length-set}
+use Rattle.std.proofs.lemmas.List.Sums.{sum_by-set, sum_by-remove}
 use Rattle.sgb_graph.specs.declared.field.Util.{Util}
 use Rattle.sgb_graph.specs.declared.field.Util.TheVariants.{Zero, Int, Vertex, Arc, Text}
 use Rattle.sgb_graph.specs.Graph.{GraphOf, VertexOf, ArcOf, IsGraph, IsVertex, IsArc, IsValue, n_of, made_of, m_of, vertex_at, no_vertex, arcs_of, arc_at, has_arc, occurrences, listings, is_name, names_in, names_in_entry, names_of}
-use Rattle.sgb_graph.specs.Edit.{with_vertex, with_entry, with_arcs, without_listed, without_arc, owner_of, place_of, entry_at, arc_or, no_arc}
+use Rattle.sgb_graph.specs.Edit.{without_listed, without_arc, owner_of, place_of, entry_at, arc_or, no_arc}
 use Rattle.sgb_graph.specs.Link.{CanTakeOut}
-use Rattle.sgb_graph.proofs.Counts.{sum_zero, zero_of_sum, occurs_yes, occurs_no, sum_some}
-use Rattle.sgb_graph.proofs.Graphs.{made_of_live, Listed, listed_live, owner_is}
+use Rattle.sgb_graph.proofs.Counts.{zero_of_sum, occurs_no, sum_some}
+use Rattle.sgb_graph.proofs.Graphs.{listed_live, owner_is}
 use Rattle.sgb_graph.proofs.Sound.{All-set, entry_same, entry_other}
 
 -- a number that stands in a list is found there

@@ -1,8 +1,8 @@
 -- Lemmas on what setting a field leaves of the fields of a graph.
-use Rattle.std.proofs.Common.{◌≡◌, ◌≢◌, ◌<◌, ◌≤◌, ◌+◌, ◌-◌, ℕ, ℤ, zero, suc, List, [], ◌∷◌, length, get_or, set, Option, Some, None, is_some, IsSome, Bool, true, false, ◌&&◌, pos, refl, sym, ap, subst, ◌∙◌, arith, cond, ◌⊎◌, inl, inr, ◌==◌}
+use Rattle.std.proofs.Common.{◌≡◌, ◌<◌, ℕ, List, length, get_or, set, Option, Some, None, IsSome, Bool, true, false, ◌&&◌, pos, refl, sym, ap, subst, ◌∙◌, arith, inl, inr, ◌==◌}
 use Rattle.std.specs.Ordering.{int_eq}
 use Rattle.std.proofs.lemmas.Bool.{cases_Bool, and_from, and_parts, ltb-true, lt-ltb}
-use Rattle.std.proofs.lemmas.List.{set-set, set-get_or, get_or-set_same, get_or_default, length-set}
+use Rattle.std.proofs.lemmas.List.{set-set, set-get_or, get_or-set_same}
 use Rattle.sgb_graph.specs.declared.field.Util.{Util}
 use Rattle.sgb_graph.specs.declared.field.Util.TheVariants.{Zero, Int, Vertex, Arc, Text}
 use Rattle.sgb_graph.specs.declared.field.Place.{Place}
@@ -11,17 +11,17 @@ use Rattle.sgb_graph.specs.declared.refusal.Refusal.TheVariants.{BadOperand}
 use Rattle.sgb_graph.specs.declared.graph.Vertex as vertex
 use Rattle.sgb_graph.specs.declared.graph.Graph.TheInside.{Inside}
 use Rattle.sgb_graph.specs.Field.{vertex_place, arc_place, graph_place}
-use Rattle.sgb_graph.specs.Graph.{GraphOf, VertexOf, ArcOf, IsGraph, IsValue, n_of, made_of, m_of, vertex_at, no_vertex, arc_at, has_arc, has_vertex}
-use Rattle.sgb_graph.specs.Edit.{with_util, util_at, has_place, can_name, stored, entry_at, arc_or, no_arc, refusal_of_util, refusal_unless}
+use Rattle.sgb_graph.specs.Graph.{GraphOf, VertexOf, ArcOf, IsGraph, IsValue, n_of, vertex_at, no_vertex, arc_at}
+use Rattle.sgb_graph.specs.Edit.{with_util, util_at, has_place, can_name, stored, entry_at, arc_or, no_arc, refusal_unless}
 use Rattle.sgb_graph.specs.Delta.{LeftByUtil}
-use Rattle.sgb_graph.specs.Arena.{Slots, Shows, IsArena, graph_of}
+use Rattle.sgb_graph.specs.Arena.{Slots, IsArena, graph_of}
 use Rattle.sgb_graph.specs.Exchange.{CanExchange, CanBeExchanged, Exchanges}
 use Rattle.sgb_graph.specs.Set.{IsStorable}
-use Rattle.sgb_graph.proofs.Graphs.{same_graph, made_of_live}
+use Rattle.sgb_graph.proofs.Graphs.{made_of_live}
 use Rattle.sgb_graph.proofs.Sound.{entry_same, IsValue-keeps}
 use Rattle.sgb_graph.proofs.TakeOut.{some_entry}
 use Rattle.sgb_graph.proofs.Shows.{Opened, opened, closed, closed_arena}
-use Rattle.sgb_graph.proofs.ExchangeLemmas.{UtilFacts, util_facts}
+use Rattle.sgb_graph.proofs.ExchangeLemmas.{util_facts}
 
 -- what the value names is there
 abbrev IsNamed : ℕ → List (Option ArcOf) → Util → Type 0

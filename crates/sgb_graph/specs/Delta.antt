@@ -9,7 +9,7 @@ use Rattle.sgb_graph.specs.declared.delta.CutArc.{CutArc}
 use Rattle.sgb_graph.specs.declared.delta.GraphDelta.{GraphDelta}
 use Rattle.sgb_graph.specs.declared.delta.GraphDelta.TheVariants.{NewArc, NewEdge, Cut, SetLen, SetUtil, SetLabel, SetId, SetTypes}
 use Rattle.sgb_graph.specs.Set.{IsStorable}
-use Rattle.sgb_graph.specs.Graph.{GraphOf, ArcOf, IsGraph, made_of, label_of}
+use Rattle.sgb_graph.specs.Graph.{GraphOf, IsGraph, made_of, label_of}
 use Rattle.sgb_graph.specs.Edit.{with_arc, with_edge, without_arc, with_len, with_util, with_label, util_at, entry_at, owner_of, place_of, stored, refusal_of_arc, refusal_of_edge, refusal_of_cut, refusal_of_len, refusal_of_util, refusal_of_label, refusal_of_id}
 
 -- what a cut of arc k keeps: its number, its owner, its place and the arc

@@ -1,10 +1,7 @@
 -- What each edit makes of a graph, and when it is refused.
-use Rattle.std.specs.Prelude.{◌≡◌, ◌+◌, ℕ, ℤ, pos, List, [], ◌∷◌, ◌++◌, length, Option, Some, None, Bool, true, false, ◌&&◌, ◌==◌, nat_lt, nat_le, min, max, insert, remove, replicate, slice_index_or, slice_set, if◌then◌else◌}
+use Rattle.std.specs.Prelude.{◌+◌, ℕ, ℤ, pos, List, [], ◌∷◌, ◌++◌, length, Option, Some, None, Bool, true, ◌&&◌, ◌==◌, nat_le, min, max, insert, remove, slice_index_or, slice_set, if◌then◌else◌}
 use Rattle.std.specs.List.{list_any, position_or_len}
 use Rattle.std.specs.Ordering.{int_eq}
-use Rattle.sgb_graph.specs.declared.field.VertexNo.{VertexNo}
-use Rattle.sgb_graph.specs.declared.field.ArcNo.{ArcNo}
-use Rattle.sgb_graph.specs.declared.field.Tip.{Tip}
 use Rattle.sgb_graph.specs.declared.field.Tip.TheVariants.{To}
 use Rattle.sgb_graph.specs.declared.field.Util.{Util}
 use Rattle.sgb_graph.specs.declared.field.Util.TheVariants.{Zero, Int, Vertex, Arc, Text}
@@ -14,7 +11,7 @@ use Rattle.sgb_graph.specs.declared.delta.CutArc.{CutArc}
 use Rattle.sgb_graph.specs.declared.refusal.Refusal.{Refusal}
 use Rattle.sgb_graph.specs.declared.refusal.Refusal.TheVariants.{TooLarge, BadOperand}
 use Rattle.sgb_graph.specs.Field.{vertex_place, arc_place, graph_place}
-use Rattle.sgb_graph.specs.Graph.{GraphOf, VertexOf, ArcOf, n_of, made_of, vertex_at, arcs_of, arc_at, has_vertex, has_arc, names_of}
+use Rattle.sgb_graph.specs.Graph.{GraphOf, VertexOf, ArcOf, made_of, vertex_at, arcs_of, arc_at, has_vertex, has_arc, names_of}
 
 -- one edit of one vertex, and one of one entry
 abbrev pub with_vertex : GraphOf → ℕ → VertexOf → GraphOf

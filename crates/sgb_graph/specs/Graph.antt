@@ -1,8 +1,6 @@
 -- Graphs: what a contract sees of one, and when it is sound.
-use Rattle.std.specs.Prelude.{◌≡◌, ◌≢◌, ◌≤◌, ◌<◌, ◌+◌, ℕ, ℤ, pos, List, [], ◌∷◌, length, Option, Some, None, is_some, IsSome, IfSome, Bool, true, false, ◌==◌, nat_lt, All, count_by, sum_by, slice_index_or, if◌then◌else◌, FitsSigned}
+use Rattle.std.specs.Prelude.{◌≡◌, ◌≢◌, ◌≤◌, ◌<◌, ◌+◌, ℕ, ℤ, pos, List, [], length, Option, Some, None, is_some, IsSome, IfSome, Bool, false, ◌==◌, nat_lt, All, count_by, sum_by, slice_index_or, if◌then◌else◌, FitsSigned}
 use Rattle.std.specs.Int.{w64}
-use Rattle.sgb_graph.specs.declared.field.VertexNo.{VertexNo}
-use Rattle.sgb_graph.specs.declared.field.ArcNo.{ArcNo}
 use Rattle.sgb_graph.specs.declared.field.Tip.{Tip}
 use Rattle.sgb_graph.specs.declared.field.Tip.TheVariants as tips
 use Rattle.sgb_graph.specs.declared.field.Util.{Util}

@@ -1,5 +1,5 @@
 -- Honest graphs: each value is one that its letter allows.
-use Rattle.std.specs.Prelude.{◌+◌, ℕ, List, [], ◌∷◌, Option, Some, None, Bool, true, false, ◌&&◌, ◌||◌, ◌==◌, pos, take, drop, zip}
+use Rattle.std.specs.Prelude.{ℕ, List, Option, Some, None, Bool, true, ◌&&◌, ◌||◌, ◌==◌, pos, take, drop, zip}
 use Rattle.std.specs.List.{list_all}
 use Rattle.std.specs.Ordering.{int_eq}
 use Rattle.sgb_graph.specs.declared.field.Util.{Util}

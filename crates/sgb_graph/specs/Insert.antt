@@ -1,11 +1,12 @@
 -- New arcs, as they are linked into a graph.
-use Rattle.std.specs.Prelude.{ℕ, ℤ, List, [], ◌∷◌, ◌++◌, None}
+use Rattle.std.specs.Prelude.{ℤ, List, [], ◌∷◌, Option}
 use Rattle.sgb_graph.specs.declared.field.VertexNo.{VertexNo}
 use Rattle.sgb_graph.specs.declared.field.ArcNo.{ArcNo}
 use Rattle.sgb_graph.specs.declared.field.Tip.TheVariants.{To}
 use Rattle.sgb_graph.specs.declared.field.Util.TheVariants.{Zero}
 use Rattle.sgb_graph.specs.declared.delta.CutArc.{CutArc}
 use Rattle.sgb_graph.specs.declared.graph.Vertex as vertex
+use Rattle.sgb_graph.specs.declared.graph.Slot.{Slot}
 use Rattle.sgb_graph.specs.Graph.{GraphOf, IsGraph}
 use Rattle.sgb_graph.specs.Edit.{with_cut_arc}
 use Rattle.sgb_graph.specs.Arena.{Slots, Shows}
@@ -16,14 +17,12 @@ abbrev pub new_cut : ArcNo → VertexNo → VertexNo → ℤ → CutArc
 new_cut number owner to len =
     record { number = number; owner = owner; place = 0; tip = To to; len = len; fields = Zero ∷ Zero ∷ [] }
 
+-- the slot of a new arc
+abbrev pub new_slot : VertexNo → VertexNo → Option ArcNo → ℤ → Slot
+new_slot owner to next len =
+    record { owner = owner; tip = To to; next = next; names = 0; len = len; fields = Zero ∷ Zero ∷ [] }
+
 -- two arcs are put into the graph, one after the other
 abbrev pub PutsBoth : List vertex.Vertex → Slots → CutArc → CutArc → List vertex.Vertex → Slots → Type 0
 PutsBoth vs ss c d ws ts =
     (g : GraphOf) → Shows vs ss g → IsGraph g → CanPutBack g c → CanPutBack (with_cut_arc g c) d → Shows ws ts (with_cut_arc (with_cut_arc g c) d)
-
-pub record CanBePutBoth (vs : List vertex.Vertex) (ss : Slots) (c d : CutArc) : Type 0 where
-  pub graph : GraphOf
-  pub sound : IsGraph graph
-  pub shows : Shows vs ss graph
-  pub can : CanPutBack graph c
-  pub next : CanPutBack (with_cut_arc graph c) d

@@ -6,11 +6,16 @@ pub mod Delta
 pub mod Edit
 pub mod Exchange
 pub mod Field
+pub mod Fill
 pub mod Graph
+pub mod Holes
 pub mod Honest
 pub mod Insert
+pub mod Lay
 pub mod Link
 pub mod New
+pub mod Paired
+pub mod Parts
 pub mod Read
 pub mod Refusal
 pub mod Revert

@@ -1,5 +1,5 @@
 -- What relinking does to the fields of a graph.
-use Rattle.std.specs.Prelude.{◌≡◌, ◌<◌, ◌≤◌, ◌+◌, ◌-◌, ◌^◌, ℕ, zero, suc, List, length, Option, Some, None, IfSome, true, option_map, slice_get, slice_set, slice_index_or, []}
+use Rattle.std.specs.Prelude.{◌≡◌, ◌<◌, ◌≤◌, ◌+◌, ◌-◌, ℕ, zero, suc, List, length, Option, Some, None, IfSome, true, option_map, slice_get, slice_set, slice_index_or, []}
 use Rattle.sgb_graph.specs.declared.field.ArcNo.{ArcNo}
 use Rattle.sgb_graph.specs.declared.field.Util.{Util}
 use Rattle.sgb_graph.specs.declared.field.Util.TheVariants.{Zero, Int, Vertex, Arc, Text}
@@ -9,7 +9,7 @@ use Rattle.sgb_graph.specs.declared.graph.Slot.{Slot}
 use Rattle.sgb_graph.specs.Graph.{GraphOf, IsGraph, IsArc, n_of, made_of, arcs_of, arc_at, has_arc, names_of}
 use Rattle.sgb_graph.specs.Edit.{with_cut_arc, without_arc, arc_of}
 use Rattle.sgb_graph.specs.Delta.{cut_arc}
-use Rattle.sgb_graph.specs.Arena.{Slots, Shows, arc_no, next_of, next_at, slot_at, names_counted}
+use Rattle.sgb_graph.specs.Arena.{Slots, Shows, arc_no, next_at, slot_at, names_counted}
 
 -- a vertex that stands nowhere
 abbrev pub any_vertex : vertex.Vertex

@@ -1,5 +1,5 @@
 -- What setting a length does to a slot, and which values are stored.
-use Rattle.std.specs.Prelude.{◌≡◌, ◌≢◌, ℕ, ℤ, pos, List, [], Option, Some, None, FitsSigned}
+use Rattle.std.specs.Prelude.{◌≢◌, ℤ, pos, [], Option, Some, None, FitsSigned}
 use Rattle.std.specs.Int.{w64}
 use Rattle.sgb_graph.specs.declared.field.Util.{Util}
 use Rattle.sgb_graph.specs.declared.field.Util.TheVariants.{Zero, Int, Vertex, Arc, Text}

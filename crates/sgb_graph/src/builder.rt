@@ -92,7 +92,8 @@ impl Builder {
         ensures value { result ≡ self.graph }
         ensures sound { IsGraph result }
     {
-        let _ = self.graph.n();
-        self.graph
+        let graph = self.graph;
+        let _ = graph.n();
+        graph
     }
 }

@@ -1,13 +1,17 @@
 //! Graphs.
 
 mod arcs;
+mod build;
 mod cut;
 mod exchange;
+mod fill;
 mod grow;
 mod honest;
 mod insert;
+mod lay;
 mod link;
 mod new;
+mod paired;
 mod read;
 mod revert;
 mod set;
@@ -45,7 +49,7 @@ struct Vertex {
 }
 
 #[derive(Drop)]
-struct Slot {
+pub(crate) struct Slot {
     owner: VertexNo,
     tip: Tip,
     // The arc that follows in the owner's list.

@@ -1,6 +1,8 @@
 use super::*;
+use crate::graph::Slot;
 use std::alloc::Global;
 use std::mem::size_of;
+use std::process::Abort;
 use std::test::Fail;
 
 // The numbers in a vertex's list.
@@ -239,8 +241,199 @@ fn built(rt: HostRuntime) -> Result<(), Fail> {
 }
 
 #[test]
+fn paired(rt: HostRuntime) -> Result<(), Fail> {
+    let mut graph = Graph::new(rt.alloc(), 2)?;
+    assert_eq!(rt; graph.is_paired(), true);
+    let (edge, _delta) = graph.new_edge(VertexNo(1), VertexNo(0), 1)?;
+    assert_eq!(rt; graph.is_paired(), true);
+    for _ in 0..2u32 {
+        let (_number, _delta) = graph.new_edge(VertexNo(1), VertexNo(1), 1)?;
+        assert_eq!(rt; graph.is_paired(), true);
+    }
+    let cut = graph.cut(edge)?;
+    assert_eq!(rt; graph.is_paired(), false);
+    graph.revert(cut);
+    assert_eq!(rt; graph.is_paired(), true);
+    let (_number, alone) = graph.new_arc(VertexNo(0), VertexNo(0), 1)?;
+    assert_eq!(rt; graph.is_paired(), false);
+    graph.revert(alone);
+    let (_number, _delta) = graph.new_arc(VertexNo(0), VertexNo(1), 1)?;
+    assert_eq!(rt; graph.is_paired(), false);
+    Ok(())
+}
+
+// Two vertices, an edge between them that names its second arc, and a record that no chain reaches.
+fn two_vertices(alloc: Global, first: Option<ArcNo>, second: Option<ArcNo>) -> Result<Parts, Fail> {
+    let mut vertices = Vec::new(alloc);
+    for (label, first) in [(b"a", first), (b"b", second)] {
+        vertices.push(VertexPart {
+            label: Text::new(alloc, label.as_slice())?,
+            fields: [
+                Util::Int(0),
+                Util::Zero,
+                Util::Zero,
+                Util::Zero,
+                Util::Zero,
+                Util::Int(7),
+            ],
+            first,
+        })?;
+    }
+    let mut arcs = Vec::new(alloc);
+    for (tip, value) in [
+        (1u32, Util::Arc(ArcNo(1))),
+        (0, Util::Zero),
+        (9, Util::Arc(ArcNo(9))),
+    ] {
+        arcs.push(ArcPart {
+            tip: Tip::To(VertexNo(tip)),
+            len: 5,
+            fields: [value, Util::Vertex(VertexNo(1))],
+            next: None,
+        })?;
+    }
+    Ok(Parts {
+        id: Text::new(alloc, b"two")?,
+        types: Types::none(),
+        fields: [
+            Util::Zero,
+            Util::Zero,
+            Util::Zero,
+            Util::Zero,
+            Util::Zero,
+            Util::Zero,
+        ],
+        vertices,
+        arcs,
+    })
+}
+
+#[test]
+fn a_graph_of_parts(rt: HostRuntime) -> Result<(), Fail> {
+    let alloc = rt.alloc();
+    let graph = Graph::build(alloc, two_vertices(alloc, Some(ArcNo(0)), Some(ArcNo(1)))?)?;
+    assert_eq!(rt; graph.id(), b"two".as_slice());
+    assert_eq!(rt; (graph.made(), graph.m()), (3, 2));
+    assert_eq!(rt; listed(alloc, &graph, 0)?.as_slice(), [0].as_slice());
+    assert_eq!(rt; arc_at(&graph, 0), view(0, 1, 5));
+    assert_eq!(rt; arc_at(&graph, 1), view(1, 0, 5));
+    assert_eq!(rt; arc_at(&graph, 2), None);
+    Ok(())
+}
+
+#[test]
+fn parts_of_no_graph(rt: HostRuntime) -> Result<(), Fail> {
+    let alloc = rt.alloc();
+    for (first, second) in [(0, 0), (0, 3), (2, 1), (1, 2)] {
+        let parts = two_vertices(alloc, Some(ArcNo(first)), Some(ArcNo(second)))?;
+        let refused = Graph::build(alloc, parts).err();
+        assert_eq!(rt; refused, Some(Refusal::BadOperand));
+    }
+    let unnamed = Graph::build(alloc, two_vertices(alloc, Some(ArcNo(0)), None)?).err();
+    assert_eq!(rt; unnamed, Some(Refusal::BadOperand));
+    Ok(())
+}
+
+#[test]
+fn a_chain_that_returns(rt: HostRuntime) -> Result<(), Fail> {
+    let mut parts = two_vertices(rt.alloc(), Some(ArcNo(0)), Some(ArcNo(1)))?;
+    for part in parts.arcs.iter_mut() {
+        part.next = Some(ArcNo(0));
+    }
+    let refused = Graph::build(rt.alloc(), parts).err();
+    assert_eq!(rt; refused, Some(Refusal::BadOperand));
+    Ok(())
+}
+
+// Whether the graph is honest where its first field has this letter and this value.
+fn is_honest_with(graph: &mut Graph, letter: u8, value: Util) -> Result<bool, Refusal> {
+    let mut letters = [b'Z'; 14];
+    letters[0] = letter;
+    if let Some(types) = Types::new(&letters) {
+        let _old = graph.set_types(types);
+    }
+    let delta = graph.set_util(Place::Vertex(VertexNo(0), VertexField::U), value)?;
+    let honest = graph.is_honest();
+    graph.revert(delta);
+    Ok(honest)
+}
+
+#[test]
+fn honest_values(rt: HostRuntime) -> Result<(), Fail> {
+    let mut graph = Graph::new(rt.alloc(), 1)?;
+    let (arc, _delta) = graph.new_arc(VertexNo(0), VertexNo(0), 1)?;
+    let vertex = VertexNo(0);
+    for (letter, value, honest) in [
+        (b'Z', Util::Zero, true),
+        (b'Z', Util::Int(1), false),
+        (b'I', Util::Int(2), true),
+        (b'I', Util::Vertex(vertex), false),
+        (b'V', Util::Vertex(vertex), true),
+        (b'V', Util::Int(1), true),
+        (b'V', Util::Int(2), false),
+        (b'A', Util::Arc(arc), true),
+        (b'A', Util::Vertex(vertex), false),
+        (b'S', Util::Text(Text::new(rt.alloc(), b"a")?), true),
+        (b'S', Util::Int(1), false),
+    ] {
+        assert_eq!(rt; is_honest_with(&mut graph, letter, value)?, honest);
+    }
+    Ok(())
+}
+
+#[test]
+fn the_largest_graph(rt: HostRuntime) -> Result<(), Fail> {
+    let mut graph = Graph::new(rt.alloc(), MOST_VERTICES)?;
+    for number in 0..MOST_ARCS {
+        let _made = graph.new_arc(VertexNo(number % MOST_VERTICES), VertexNo(7), 1)?;
+    }
+    let mut walked = 0u32;
+    for vertex in 0..graph.n() {
+        for _number in graph.arcs(VertexNo(vertex)) {
+            walked = walked.wrapping_add(1);
+        }
+    }
+    assert_eq!(rt; walked, MOST_ARCS);
+    for number in 0..1000u32 {
+        let delta = graph.cut(ArcNo(number * 999))?;
+        graph.revert(delta);
+    }
+    assert_eq!(rt; (graph.made(), graph.m()), (MOST_ARCS, MOST_ARCS));
+    Ok(())
+}
+
+// Makes an arc and an edge. Where a growth is refused nothing has changed, and it is asked for once more.
+fn insert_again(rt: &impl Abort, graph: &mut Graph, from: VertexNo, to: VertexNo) {
+    let before = (graph.made(), graph.m());
+    if graph.new_arc(from, to, 1).is_err() {
+        assert!(rt; (graph.made(), graph.m()) == before);
+        assert!(rt; graph.new_arc(from, to, 1).is_ok());
+    }
+    let between = (graph.made(), graph.m());
+    if graph.new_edge(from, to, 1).is_err() {
+        assert!(rt; (graph.made(), graph.m()) == between);
+        assert!(rt; graph.new_edge(from, to, 1).is_ok());
+    }
+}
+
+#[test]
+fn growths_are_granted_when_asked_again(rt: HostRuntime) -> Result<(), Fail> {
+    let made = Graph::new(rt.alloc(), 3);
+    let mut graph = match made {
+        Err(Refusal::NoRoom) => Graph::new(rt.alloc(), 3)?,
+        made => made?,
+    };
+    for number in 0..40u32 {
+        insert_again(&rt, &mut graph, VertexNo(number % 3), VertexNo(number % 2));
+    }
+    assert_eq!(rt; (graph.made(), graph.m()), (120, 120));
+    Ok(())
+}
+
+#[test]
 fn sizes(rt: HostRuntime) -> Result<(), Fail> {
     assert_eq!(rt; size_of::<Text>(), 8);
     assert_eq!(rt; size_of::<Util>(), 16);
+    assert_eq!(rt; size_of::<Option<Slot>>() <= 104, true);
     Ok(())
 }

@@ -1,14 +1,15 @@
 //! New arcs and edges.
-ghost use Rattle.std.specs.Prelude.{◌≡◌, ◌⊎◌, ◌∷◌, ◌++◌, [], length, vec_len, IfOk, IfErr, OnOk, OnErr, None, Some};
+ghost use Rattle.std.specs.Prelude.{◌≡◌, ◌⊎◌, ◌∷◌, ◌++◌, ◌+◌, ◌<◌, ◌≤◌, [], length, vec_len, vec_capacity, IfOk, IfErr, OnOk, OnErr, None, Some};
 ghost use Rattle.sgb_graph.specs.Graph.{IsGraph, made_of};
 ghost use Rattle.sgb_graph.specs.Edit.{with_arc, with_edge, refusal_of_arc, refusal_of_edge};
 ghost use Rattle.sgb_graph.specs.Delta.{LeftBy};
 ghost use Rattle.sgb_graph.specs.Arena.{arc_no};
-ghost use Rattle.sgb_graph.specs.Insert.{new_cut, PutsBoth, CanBePutBoth};
+ghost use Rattle.sgb_graph.specs.Insert.{new_cut, new_slot, PutsBoth};
+ghost use Rattle.sgb_graph.specs.Link.{PutsBack, vertex_in, vertices_relinked};
 
-use super::link::put_back;
 use super::{Graph, MOST_ARCS, Slot, Vertex};
-use crate::{ArcNo, CutArc, GraphDelta, Refusal, Tip, Util, VertexNo};
+use crate::{ArcNo, GraphDelta, Refusal, Tip, Util, VertexNo};
+use std::mem;
 
 impl Graph {
     /// A new arc from one vertex to another, first in the list of the first (Knuth's `gb_new_arc`).
@@ -37,9 +38,8 @@ impl Graph {
             return Err(Refusal::TooLarge);
         }
         let number = ArcNo(self.made());
-        self.slots.push(None)?;
-        let arc = new_arc_at(number, from, to, len);
-        put_back(&mut self.vertices, &mut self.slots, arc);
+        self.slots.reserve(1)?;
+        push_arc(&mut self.vertices, &mut self.slots, number, from, to, len);
         self.live += 1;
         Ok((number, GraphDelta::NewArc(number)))
     }
@@ -74,49 +74,76 @@ impl Graph {
         let number = ArcNo(self.made());
         let low = VertexNo(from.0.min(to.0));
         let high = VertexNo(from.0.max(to.0));
-        push_two_holes(&mut self.slots)?;
-        let first = new_arc_at(number, low, high, len);
-        let second = new_arc_at(ArcNo(number.0 + 1), high, low, len);
-        put_both(&mut self.vertices, &mut self.slots, second, first);
+        self.slots.reserve(2)?;
+        push_edge(&mut self.vertices, &mut self.slots, number, low, high, len);
         self.live += 2;
         Ok((number, GraphDelta::NewEdge(number)))
     }
 }
 
-// Gives out two numbers as holes, or none.
-fn push_two_holes(slots: &mut Vec<Option<Slot>>) -> Result<(), Refusal>
-    ensures ok { OnOk result (slots.new.items ≡ slots.old.items ++ None ∷ [] ++ None ∷ []) }
-    ensures err { IfErr result (λ e. (e ≡ Refusal.NoRoom) × (slots.new.items ≡ slots.old.items)) }
-    ensures len { vec_len slots.new ≡ length slots.new.items }
+// Gives the next number to a new arc, first in the list of its owner. There is room for it.
+#[inline]
+fn push_arc(
+    vertices: &mut [Vertex],
+    slots: &mut Vec<Option<Slot>>,
+    number: ArcNo,
+    from: VertexNo,
+    to: VertexNo,
+    len: i64,
+)
+    requires room { vec_len slots.old + 1 ≤ vec_capacity slots.old }
+    requires number { number.0 ≡ length slots.old.items }
+    requires from { from.0 < length vertices.old }
+    ensures { PutsBack vertices.old (slots.old.items ++ None ∷ []) (new_cut number from to len) vertices.new slots.new.items }
 {
-    slots.reserve(2)?;
-    let first = slots.push(None);
-    let second = slots.push(None);
-    prove!(first.is_ok());
-    prove!(second.is_ok());
-    Ok(())
+    let next = link_first(vertices, from, number);
+    slots.push_reserved(Some(new_slot(from, to, next, len)));
 }
 
-// A new arc, first in its list.
+// Gives the next two numbers to the arcs of a new edge, the second linked before the first. There is room for them.
 #[inline]
-fn new_arc_at(number: ArcNo, owner: VertexNo, to: VertexNo, len: i64) -> CutArc
-    ensures { result ≡ new_cut number owner to len }
+fn push_edge(
+    vertices: &mut [Vertex],
+    slots: &mut Vec<Option<Slot>>,
+    number: ArcNo,
+    low: VertexNo,
+    high: VertexNo,
+    len: i64,
+)
+    requires room { vec_len slots.old + 2 ≤ vec_capacity slots.old }
+    requires number { number.0 ≡ length slots.old.items }
+    requires few { number.0 < 1000000 }
+    requires low { low.0 < length vertices.old }
+    requires high { high.0 < length vertices.old }
+    ensures { PutsBoth vertices.old (slots.old.items ++ None ∷ [] ++ None ∷ [])
+        (new_cut (arc_no (number.0 + 1)) high low len) (new_cut number low high len) vertices.new slots.new.items }
 {
-    CutArc {
-        number,
+    let after_second = link_first(vertices, high, ArcNo(number.0 + 1));
+    let after_first = link_first(vertices, low, number);
+    slots.push_reserved(Some(new_slot(low, high, after_first, len)));
+    slots.push_reserved(Some(new_slot(high, low, after_second, len)));
+}
+
+// Makes the arc first in the list of its owner, and answers the one that was.
+#[inline]
+fn link_first(vertices: &mut [Vertex], owner: VertexNo, number: ArcNo) -> Option<ArcNo>
+    requires { owner.0 < length vertices.old }
+    ensures old { result ≡ (vertex_in vertices.old owner.0).first }
+    ensures vertices { vertices.new ≡ vertices_relinked vertices.old owner.0 None (Some number) }
+{
+    mem::replace(&mut vertices[owner.0 as usize].first, Some(number))
+}
+
+#[inline]
+fn new_slot(owner: VertexNo, to: VertexNo, next: Option<ArcNo>, len: i64) -> Slot
+    ensures { result ≡ new_slot owner to next len }
+{
+    Slot {
         owner,
-        place: 0,
         tip: Tip::To(to),
+        next,
+        names: 0,
         len,
         fields: [Util::Zero, Util::Zero],
     }
-}
-
-// Links two arcs, one after the other.
-fn put_both(vertices: &mut [Vertex], slots: &mut [Option<Slot>], one: CutArc, other: CutArc)
-    requires { CanBePutBoth vertices.old slots.old one other }
-    ensures { PutsBoth vertices.old slots.old one other vertices.new slots.new }
-{
-    put_back(vertices, slots, one);
-    put_back(vertices, slots, other);
 }

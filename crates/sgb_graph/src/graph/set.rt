@@ -120,7 +120,7 @@ impl Graph {
         }
     }
 
-    fn has_arc(&self, number: ArcNo) -> bool
+    pub(super) fn has_arc(&self, number: ArcNo) -> bool
         ensures value { result ≡ has_arc self.now number.0 }
         ensures sound { IsGraph self.now }
     {
@@ -139,7 +139,7 @@ impl Graph {
         }
     }
 
-    fn can_name(&self, value: &Util) -> bool
+    pub(super) fn can_name(&self, value: &Util) -> bool
         ensures value { result ≡ can_name self.now value.now }
         ensures sound { IsGraph self.now }
     {

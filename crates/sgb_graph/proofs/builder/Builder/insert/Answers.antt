@@ -1,9 +1,8 @@
-use Rattle.std.proofs.Common.{◌≡◌, ◌∙◌, ap, sym, refl, arith, true, false}
+use Rattle.std.proofs.Common.{◌∙◌, ap, sym}
 use Rattle.std.specs.Int.{w64}
 use Rattle.std.proofs.lemmas.Int.{to_z-of_z}
 use Rattle.sgb_graph.specs.Edit.{with_arc, with_edge}
 use Rattle.std.proofs.lemmas.Result.{err_from_is_err_and}
-use Rattle.sgb_graph.specs.declared.builder.Builder.{Builder}
 use Rattle.sgb_graph.specs.Graph.{GraphOf}
 use Rattle.sgb_graph.specs.Builder.{insertion}
 use Rattle.sgb_graph.proofs.Growing.{grown_arc, grown_edge, arc_too_many, edge_too_many}

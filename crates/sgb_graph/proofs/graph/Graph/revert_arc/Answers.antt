@@ -1,8 +1,7 @@
-use Rattle.std.proofs.Common.{◌≡◌, ◌∙◌, ap, sym, refl, arith, take, ◌-◌, ◌+◌}
+use Rattle.std.proofs.Common.{◌∙◌, ap, refl, arith, take, ◌-◌}
 use Rattle.std.specs.Vec.{with_items}
 use Rattle.std.proofs.lemmas.List.{with_items_is}
 use Rattle.sgb_graph.specs.declared.graph.Graph.TheInside.{Inside}
-use Rattle.sgb_graph.specs.Graph.{IsGraph}
 use Rattle.sgb_graph.proofs.Shows.{Opened, opened, closed, closed_arena}
 use Rattle.sgb_graph.proofs.InsertLemmas.{SameOwn}
 use Rattle.sgb_graph.specs.Graph.{GraphOf}

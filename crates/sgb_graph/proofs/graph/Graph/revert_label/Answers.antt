@@ -1,4 +1,4 @@
-use Rattle.std.proofs.Common.{◌≡◌, ◌∙◌, ap, sym, refl, arith}
+use Rattle.std.proofs.Common.{refl, arith}
 use Rattle.sgb_graph.specs.declared.graph.Graph.TheInside.{Inside}
 use Rattle.sgb_graph.specs.Graph.{GraphOf}
 use Rattle.sgb_graph.proofs.Shows.{Opened, opened, closed, closed_arena}

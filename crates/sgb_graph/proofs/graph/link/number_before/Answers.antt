@@ -1,4 +1,4 @@
-use Rattle.std.proofs.Common.{◌≡◌, ℕ, zero, suc, ◌-◌, ◌≢◌, List, Option, Some, None, option_map, slice_get, arith, refl, ap, sym, ◌∙◌}
+use Rattle.std.proofs.Common.{◌≡◌, ℕ, zero, suc, ◌-◌, ◌≢◌, List, Option, Some, None, option_map, slice_get, arith, refl, ap, ◌∙◌}
 use Rattle.std.proofs.lemmas.Iterator.Consumers.{nth_from_yields_List, YieldsList-from_first}
 use Rattle.sgb_graph.specs.declared.field.ArcNo.{ArcNo}
 use Rattle.sgb_graph.specs.Arena.{arc_no, numbers}

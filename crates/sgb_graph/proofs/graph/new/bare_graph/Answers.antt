@@ -1,7 +1,6 @@
-use Rattle.std.proofs.Common.{refl, subst, sym}
+use Rattle.std.proofs.Common.{refl}
 use Rattle.sgb_graph.specs.declared.graph.Graph.TheInside.{Inside}
-use Rattle.sgb_graph.specs.Graph.{IsGraph}
-use Rattle.sgb_graph.proofs.Shows.{closed, closed_arena, Opened}
+use Rattle.sgb_graph.proofs.Shows.{closed, closed_arena}
 use Rattle.sgb_graph.proofs.NewLemmas.{bare_opened}
 use Rattle.sgb_graph.proofs.graph.new.bare_graph.Goals as goal
 

@@ -1,4 +1,4 @@
-use Rattle.std.proofs.Common.{rules, arith, refl}
+use Rattle.std.proofs.Common.{rules, refl}
 use Rattle.sgb_graph.proofs.Chains.{gives_next, gives_none, Gives}
 use Rattle.sgb_graph.proofs.graph.arcs.ArcsIterator.next.Goals as goal
 

@@ -1,0 +1,10 @@
+use Rattle.std.proofs.Common.{◌≡◌}
+use Rattle.sgb_graph.specs.Graph.{IsGraph}
+use Rattle.sgb_graph.specs.Holes.{blank_graph}
+use Rattle.sgb_graph.proofs.graph.build.begin.Given as goal
+
+abbrev pub invariant-loop-number : goal.invariant-loop-number
+invariant-loop-number l = record {
+  same : l.graph ≡ blank_graph l.fn.n l._number;
+  sound : IsGraph l.graph;
+}

@@ -1,0 +1,60 @@
+-- Putting the values of parts into the fields of a graph.
+use Rattle.std.specs.Prelude.{◌≡◌, ◌<◌, ℕ, List, length, map, Option, Some, None, Bool, true, ◌&&◌, if◌then◌else◌}
+use Rattle.std.specs.List.{list_all, range_with_len}
+use Rattle.sgb_graph.specs.declared.field.Util.{Util}
+use Rattle.sgb_graph.specs.declared.parts.ArcPart.{ArcPart}
+use Rattle.sgb_graph.specs.declared.parts.VertexPart.{VertexPart}
+use Rattle.sgb_graph.specs.Edit.{with_vertex, with_entry, can_name, stored}
+use Rattle.sgb_graph.specs.Graph.{GraphOf, VertexOf, ArcOf, IsGraph, n_of, made_of, vertex_at, arc_at, has_arc}
+use Rattle.sgb_graph.specs.Parts.{vertex_part, arc_part}
+
+-- the same vertices and arcs can be named
+pub record SameNames (g h : GraphOf) : Type 0 where
+  pub n : n_of h ≡ n_of g
+  pub live : (k : ℕ) → has_arc h k ≡ has_arc g k
+
+-- each value names a vertex or an arc that is there, if any
+abbrev pub can_name_each : GraphOf → List Util → Bool
+can_name_each g us = list_all (can_name g) us
+
+-- the record's values, where its arc lives
+abbrev pub can_name_at : GraphOf → List ArcPart → ℕ → Bool
+can_name_at g rs k = if has_arc g k then can_name_each g (arc_part rs k).fields else true
+
+abbrev pub can_name_vertices : GraphOf → List VertexPart → Bool
+can_name_vertices g vs = list_all (λ part. can_name_each g part.fields) vs
+
+abbrev pub can_name_arcs : GraphOf → List ArcPart → Bool
+can_name_arcs g rs = list_all (can_name_at g rs) (range_with_len 0 (length rs))
+
+abbrev pub can_name_all : GraphOf → List Util → List VertexPart → List ArcPart → Bool
+can_name_all g us vs rs = can_name_each g us && can_name_vertices g vs && can_name_arcs g rs
+
+-- the vertex with these values
+unfoldable pub with_filled_vertex : GraphOf → ℕ → List Util → GraphOf
+with_filled_vertex g v us = with_vertex g v (record (vertex_at g v) { fields = map stored us })
+
+-- the vertex with the name and the values of its part
+abbrev pub filled_vertex : VertexPart → VertexOf → VertexOf
+filled_vertex part x = record x { label = part.label; fields = map stored part.fields }
+
+abbrev pub filled_entry : List Util → Option ArcOf → Option ArcOf
+filled_entry us None = None
+filled_entry us (Some e) = Some (record e { fields = map stored us })
+
+unfoldable pub with_filled_arc : GraphOf → ℕ → List Util → GraphOf
+with_filled_arc g k us = with_entry g k (filled_entry us (arc_at g k))
+
+-- all vertices have the names and the values of their parts
+pub record FillsVertices (vs : List VertexPart) (g h : GraphOf) : Type 0 where
+  pub n : n_of h ≡ n_of g
+  pub vertices : (v : ℕ) → v < n_of g → vertex_at h v ≡ filled_vertex (vertex_part vs v) (vertex_at g v)
+  pub entries : h.entries ≡ g.entries
+  pub graph : IsGraph h
+
+-- all live arcs have the values of their records
+pub record FillsArcs (rs : List ArcPart) (g h : GraphOf) : Type 0 where
+  pub vertices : h.vertices ≡ g.vertices
+  pub made : made_of h ≡ made_of g
+  pub entries : (k : ℕ) → arc_at h k ≡ filled_entry (arc_part rs k).fields (arc_at g k)
+  pub graph : IsGraph h

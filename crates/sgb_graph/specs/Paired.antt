@@ -1,0 +1,69 @@
+-- Paired graphs: each arc has its other half, as the arcs of an edge have.
+use Rattle.std.specs.Prelude.{◌+◌, ◌-◌, ℕ, List, [], ◌∷◌, Option, Some, None, Bool, true, false, ◌&&◌, not, ◌==◌, nat_lt, nat_le, if◌then◌else◌}
+use Rattle.std.specs.List.{list_all, range_with_len}
+use Rattle.sgb_graph.specs.declared.field.Tip.{Tip}
+use Rattle.sgb_graph.specs.declared.field.Tip.TheVariants.{Zero, One, To}
+use Rattle.sgb_graph.specs.declared.graph.read.ArcView.{ArcView}
+use Rattle.sgb_graph.specs.Graph.{GraphOf, n_of, made_of, arcs_of}
+use Rattle.sgb_graph.specs.Read.{arc_view}
+
+-- the tip is vertex u
+abbrev pub is_vertex : ℕ → Tip → Bool
+is_vertex u Zero = false
+is_vertex u One = false
+is_vertex u (To w) = w.0 == u
+
+-- the arc leaves v and leads to u; a hole does not
+abbrev pub goes : ℕ → ℕ → Option ArcView → Bool
+goes v u None = false
+goes v u (Some a) = (a.owner.0 == v) && is_vertex u a.tip
+
+-- arc k lives, leaves v and leads to u
+unfoldable pub leads_from : GraphOf → ℕ → ℕ → ℕ → Bool
+leads_from g k v u = goes v u (arc_view g k)
+
+-- arc k of v's list leads to v
+abbrev pub is_loop : GraphOf → ℕ → ℕ → Bool
+is_loop g v k = leads_from g k v v
+
+-- both are loops, and the second is numbered next: where the first is no second half, the second is one
+abbrev pub is_loop_pair : GraphOf → ℕ → ℕ → ℕ → Bool
+is_loop_pair g v j k = is_loop g v j && is_loop g v k && (j + 1 == k)
+
+-- the list without the second halves of loops
+unfoldable pub without_halves : GraphOf → ℕ → List ℕ → List ℕ
+without_halves g v [] = []
+without_halves g v (j ∷ []) = j ∷ []
+without_halves g v (j ∷ (k ∷ ks)) = if is_loop_pair g v j k then j ∷ without_halves g v ks else j ∷ without_halves g v (k ∷ ks)
+
+-- the arcs of v that stand for an insertion each
+abbrev pub walk : Bool → GraphOf → ℕ → List ℕ
+walk directed g v = if directed then arcs_of g v else without_halves g v (arcs_of g v)
+
+-- every loop of the list is a second half, or the next arc is its second half
+unfoldable pub are_loops_paired : GraphOf → ℕ → List ℕ → Bool
+are_loops_paired g v [] = true
+are_loops_paired g v (j ∷ []) = not (is_loop g v j)
+are_loops_paired g v (j ∷ (k ∷ ks)) = if is_loop_pair g v j k then are_loops_paired g v ks else not (is_loop g v j) && are_loops_paired g v (k ∷ ks)
+
+-- an arc k from u: its tip is a vertex v, and where v is below u arc k - 1 leads back, where v is above u arc k + 1
+abbrev pub is_tip_matched : GraphOf → ℕ → ℕ → Tip → Bool
+is_tip_matched g k u Zero = false
+is_tip_matched g k u One = false
+is_tip_matched g k u (To v) =
+    if v.0 == u then true
+    else (if nat_lt v.0 u then nat_le 1 k && leads_from g (k - 1) v.0 u else leads_from g (k + 1) v.0 u)
+
+abbrev pub is_view_matched : GraphOf → ℕ → Option ArcView → Bool
+is_view_matched g k None = true
+is_view_matched g k (Some a) = is_tip_matched g k a.owner.0 a.tip
+
+-- a hole, or an arc with its other half
+unfoldable pub is_matched : GraphOf → ℕ → Bool
+is_matched g k = is_view_matched g k (arc_view g k)
+
+-- each arc has its other half, and so has each loop
+abbrev pub is_paired : GraphOf → Bool
+is_paired g =
+    list_all (is_matched g) (range_with_len 0 (made_of g))
+    && list_all (λ v. are_loops_paired g v (arcs_of g v)) (range_with_len 0 (n_of g))

@@ -1,0 +1,174 @@
+//! Putting the names and the values of saved parts into a graph.
+ghost use Rattle.std.specs.Prelude.{◌≡◌, ◌<◌, ◌∷◌, [], length, slice_index_or, map, true, None};
+ghost use Rattle.std.specs.List.{list_all, range_with_len};
+ghost use Rattle.sgb_graph.specs.Graph.{IsGraph, n_of, made_of, has_arc};
+ghost use Rattle.sgb_graph.specs.Edit.{with_util, with_label, can_name, stored, refusal_of_util};
+ghost use Rattle.sgb_graph.specs.Fill.{SameNames, can_name_each, can_name_at, can_name_vertices, can_name_arcs, can_name_all, with_filled_vertex, with_filled_arc, FillsVertices, FillsArcs};
+
+use super::Graph;
+use crate::{
+    ArcField, ArcNo, ArcPart, GraphField, Place, Text, Util, VertexField, VertexNo, VertexPart,
+};
+
+impl Graph {
+    // Each value of the graph, of the vertices and of the live arcs names what is there, if anything.
+    pub(super) fn can_name_all(
+        &self,
+        fields: &[Util],
+        vertices: &[VertexPart],
+        arcs: &[ArcPart],
+    ) -> bool
+        requires { made_of self.now ≡ length arcs.now }
+        ensures { result ≡ can_name_all self.now fields.now vertices.now arcs.now }
+    {
+        self.can_name_each(fields) && self.can_name_vertices(vertices) && self.can_name_arcs(arcs)
+    }
+
+    fn can_name_each(&self, values: &[Util]) -> bool
+        ensures { result ≡ can_name_each self.now values.now }
+    {
+        values.iter().all(|value| self.can_name(value))
+    }
+
+    fn can_name_vertices(&self, vertices: &[VertexPart]) -> bool
+        ensures { result ≡ can_name_vertices self.now vertices.now }
+    {
+        vertices.iter().all(|part| self.can_name_each(&part.fields))
+    }
+
+    fn can_name_arcs(&self, arcs: &[ArcPart]) -> bool
+        requires { made_of self.now ≡ length arcs.now }
+        ensures { result ≡ can_name_arcs self.now arcs.now }
+    {
+        for number in 0..self.made() {
+            if !self.can_name_at(arcs, ArcNo(number)) {
+                return false;
+            }
+        }
+        true
+    }
+
+    // The values of the record, where its arc lives.
+    fn can_name_at(&self, arcs: &[ArcPart], number: ArcNo) -> bool
+        requires { number.0 < length arcs.now }
+        ensures { result ≡ can_name_at self.now arcs.now number.0 }
+    {
+        if self.has_arc(number) {
+            self.can_name_each(&arcs[number.0 as usize].fields)
+        } else {
+            true
+        }
+    }
+
+    // Gives each vertex the name and the values of its part.
+    pub(super) fn fill_vertices(&mut self, mut vertices: Vec<VertexPart>)
+        requires n { n_of self.old ≡ length vertices.items }
+        requires names { can_name_vertices self.old vertices.items ≡ true }
+        ensures { FillsVertices vertices.items self.old self.new }
+    {
+        let _ = self.n();
+        while let Some(part) = vertices.pop() {
+            let vertex = VertexNo(vertices.len() as u32);
+            self.fill_label(vertex, part.label);
+            self.fill_vertex(vertex, part.fields);
+        }
+    }
+
+    // Gives each live arc the values of its record.
+    pub(super) fn fill_arcs(&mut self, mut arcs: Vec<ArcPart>)
+        requires made { made_of self.old ≡ length arcs.items }
+        requires names { can_name_arcs self.old arcs.items ≡ true }
+        ensures { FillsArcs arcs.items self.old self.new }
+    {
+        let _ = self.n();
+        while let Some(part) = arcs.pop() {
+            let number = ArcNo(arcs.len() as u32);
+            if self.has_arc(number) {
+                self.fill_arc(number, part.fields);
+            }
+        }
+    }
+
+    // Gives the graph's own fields these values.
+    pub(super) fn fill_own(&mut self, fields: [Util; 6])
+        requires { can_name_each self.old fields ≡ true }
+        ensures { self.new ≡ record self.old { fields = map stored fields } }
+    {
+        let (uu, vv, ww, xx, yy, zz) = six(fields);
+        self.fill(Place::Graph(GraphField::Uu), uu);
+        self.fill(Place::Graph(GraphField::Vv), vv);
+        self.fill(Place::Graph(GraphField::Ww), ww);
+        self.fill(Place::Graph(GraphField::Xx), xx);
+        self.fill(Place::Graph(GraphField::Yy), yy);
+        self.fill(Place::Graph(GraphField::Zz), zz);
+    }
+
+    fn fill_vertex(&mut self, vertex: VertexNo, fields: [Util; 6])
+        requires vertex { vertex.0 < n_of self.old }
+        requires names { can_name_each self.old fields ≡ true }
+        ensures filled { self.new ≡ with_filled_vertex self.old vertex.0 fields }
+        ensures sound { IsGraph self.new }
+    {
+        let (u, v, w, x, y, z) = six(fields);
+        self.fill(Place::Vertex(vertex, VertexField::U), u);
+        self.fill(Place::Vertex(vertex, VertexField::V), v);
+        self.fill(Place::Vertex(vertex, VertexField::W), w);
+        self.fill(Place::Vertex(vertex, VertexField::X), x);
+        self.fill(Place::Vertex(vertex, VertexField::Y), y);
+        self.fill(Place::Vertex(vertex, VertexField::Z), z);
+    }
+
+    fn fill_arc(&mut self, number: ArcNo, fields: [Util; 2])
+        requires live { has_arc self.old number.0 ≡ true }
+        requires names { can_name_each self.old fields ≡ true }
+        ensures filled { self.new ≡ with_filled_arc self.old number.0 fields }
+        ensures sound { IsGraph self.new }
+    {
+        let (a, b) = two(fields);
+        self.fill(Place::Arc(number, ArcField::A), a);
+        self.fill(Place::Arc(number, ArcField::B), b);
+    }
+
+    fn fill_label(&mut self, vertex: VertexNo, label: Text)
+        requires { vertex.0 < n_of self.old }
+        ensures value { self.new ≡ with_label self.old vertex.0 label }
+        ensures names { SameNames self.old self.new }
+        ensures sound { IsGraph self.new }
+    {
+        let done = self.set_label(vertex, label);
+        prove!(done.is_ok());
+    }
+
+    // Gives one field a value that it may hold.
+    fn fill(&mut self, place: Place, value: Util)
+        requires { refusal_of_util self.old place value ≡ None }
+        ensures value { self.new ≡ with_util self.old place (stored value) }
+        ensures names { SameNames self.old self.new }
+        ensures before { IsGraph self.old }
+        ensures sound { IsGraph self.new }
+    {
+        let _ = self.n();
+        let done = self.set_util(place, value);
+        prove!(done.is_ok());
+    }
+}
+
+fn six(fields: [Util; 6]) -> (Util, Util, Util, Util, Util, Util)
+    ensures len { length fields ≡ 6 }
+    ensures first { slice_index_or fields 0 result.0 ≡ result.0 }
+    ensures second { slice_index_or fields 1 result.1 ≡ result.1 }
+    ensures third { slice_index_or fields 2 result.2 ≡ result.2 }
+    ensures fourth { slice_index_or fields 3 result.3 ≡ result.3 }
+    ensures fifth { slice_index_or fields 4 result.4 ≡ result.4 }
+    ensures sixth { slice_index_or fields 5 result.5 ≡ result.5 }
+{
+    let [u, v, w, x, y, z] = fields;
+    (u, v, w, x, y, z)
+}
+
+fn two(fields: [Util; 2]) -> (Util, Util)
+    ensures { fields ≡ result.0 ∷ result.1 ∷ [] }
+{
+    let [a, b] = fields;
+    (a, b)
+}

@@ -1,0 +1,141 @@
+//! Laying the chains of saved records into the lists of a graph.
+ghost use Rattle.std.specs.Prelude.{◌≡◌, ◌<◌, ◌≤◌, ◌+◌, ◌⊎◌, ℕ, List, length, true, false, IfErr, OnOk};
+ghost use Rattle.sgb_graph.specs.Graph.{IsGraph, n_of, made_of};
+ghost use Rattle.sgb_graph.specs.Edit.{with_cut_arc};
+ghost use Rattle.sgb_graph.specs.Holes.{with_hole};
+ghost use Rattle.sgb_graph.specs.Link.{CanPutBack};
+ghost use Rattle.sgb_graph.specs.Lay.{IsChain, Lays, Laying, RefusesToLay, laid_arc, can_lead, can_lay};
+
+use super::Graph;
+use super::link::put_back;
+use crate::{ArcNo, ArcPart, CutArc, Refusal, Tip, Util, VertexNo, VertexPart};
+use std::alloc::Global;
+
+impl Graph {
+    // Lays the chain of each vertex. Refused where no graph has these chains.
+    pub(super) fn lay_all(
+        &mut self,
+        alloc: Global,
+        vertices: &[VertexPart],
+        arcs: &[ArcPart],
+    ) -> Result<(), Refusal>
+        requires { Laying vertices.now arcs.now 0 self.old }
+        ensures ok { OnOk result (Lays vertices.now arcs.now self.new) }
+        ensures err { IfErr result (RefusesToLay vertices.now arcs.now) }
+    {
+        let mut numbers = Vec::new(alloc);
+        for vertex in 0..self.n() {
+            self.lay_vertex(VertexNo(vertex), vertices, arcs, &mut numbers)?;
+        }
+        Ok(())
+    }
+
+    // Lays the chain of one vertex, from its end. What `numbers` holds is lost.
+    fn lay_vertex(
+        &mut self,
+        vertex: VertexNo,
+        vertices: &[VertexPart],
+        arcs: &[ArcPart],
+        numbers: &mut Vec<u32>,
+    ) -> Result<(), Refusal>
+        requires vertex { vertex.0 < length vertices.now }
+        requires laying { Laying vertices.now arcs.now vertex.0 self.old }
+        ensures ok { OnOk result (Laying vertices.now arcs.now (vertex.0 + 1) self.new) }
+        ensures err { IfErr result (RefusesToLay vertices.now arcs.now) }
+    {
+        collect_chain(arcs, vertices[vertex.0 as usize].first, numbers)?;
+        while let Some(number) = numbers.pop() {
+            self.lay(vertex, ArcNo(number), &arcs[number as usize])?;
+        }
+        Ok(())
+    }
+
+    // Lays the arc of this record first in the vertex's list, with its fields Zero. Refused where the number is no
+    // hole, or the tip names no vertex.
+    fn lay(&mut self, vertex: VertexNo, number: ArcNo, part: &ArcPart) -> Result<(), Refusal>
+        requires vertex { vertex.0 < n_of self.old }
+        requires number { number.0 < made_of self.old }
+        ensures can { OnOk result (CanPutBack self.old (laid_arc number vertex part.now)) }
+        ensures laid { OnOk result (self.new ≡ with_cut_arc self.old (laid_arc number vertex part.now)) }
+        ensures sound { OnOk result (IsGraph self.new) }
+        ensures err { IfErr result (λ e. (e ≡ Refusal.BadOperand) × (can_lay self.old number.0 part.now.tip ≡ false)) }
+    {
+        if !self.can_lay(number, part.tip) {
+            return Err(Refusal::BadOperand);
+        }
+        self.put_arc(CutArc {
+            number,
+            owner: vertex,
+            place: 0,
+            tip: part.tip,
+            len: part.len,
+            fields: [Util::Zero, Util::Zero],
+        });
+        Ok(())
+    }
+
+    fn can_lay(&self, number: ArcNo, tip: Tip) -> bool
+        ensures { result ≡ can_lay self.now number.0 tip }
+    {
+        !self.has_arc(number) && can_lead(self.n(), tip)
+    }
+
+    // Links an arc whose number is a hole.
+    fn put_arc(&mut self, arc: CutArc)
+        requires { CanPutBack self.old arc }
+        ensures value { self.new ≡ with_cut_arc self.old arc }
+        ensures sound { IsGraph self.new }
+    {
+        put_back(&mut self.vertices, &mut self.slots, arc);
+        self.live += 1;
+    }
+
+    // Gives out a number as a hole.
+    pub(super) fn push_hole(&mut self) -> Result<(), Refusal>
+        requires { made_of self.old < 1000000 }
+        ensures ok { OnOk result (self.new ≡ with_hole self.old) }
+        ensures sound { OnOk result (IsGraph self.new) }
+        ensures err { IfErr result (λ e. e ≡ Refusal.NoRoom) }
+    {
+        self.slots.push(None)?;
+        Ok(())
+    }
+}
+
+fn can_lead(n: u32, tip: Tip) -> bool
+    ensures { result ≡ can_lead n tip }
+{
+    match tip {
+        Tip::Zero | Tip::One => true,
+        Tip::To(vertex) => vertex.0 < n,
+    }
+}
+
+// Puts the numbers of the chain from this link on in place of what `numbers` holds. Refused where the chain returns
+// or leaves the records.
+fn collect_chain(
+    arcs: &[ArcPart],
+    first: Option<ArcNo>,
+    numbers: &mut Vec<u32>,
+) -> Result<(), Refusal>
+    ensures ok { OnOk result (IsChain arcs.now first numbers.new.items) }
+    ensures err { IfErr result (λ e. (e ≡ Refusal.NoRoom) ⊎
+        ((e ≡ Refusal.BadOperand) × ((ks : List ℕ) → IsChain arcs.now first ks → length ks ≤ length arcs.now → ⊥))) }
+{
+    numbers.clear();
+    let mut link = first;
+    for _step in 0..arcs.len() {
+        let Some(number) = link else {
+            return Ok(());
+        };
+        if number.0 as usize >= arcs.len() {
+            return Err(Refusal::BadOperand);
+        }
+        numbers.push(number.0)?;
+        link = arcs[number.0 as usize].next;
+    }
+    match link {
+        Some(_) => Err(Refusal::BadOperand),
+        None => Ok(()),
+    }
+}
