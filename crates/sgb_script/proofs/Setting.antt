@@ -1,5 +1,5 @@
 -- What a line that sets a field asks for, by its four words.
-use Rattle.std.proofs.Common.{◌≡◌, List, [], ◌∷◌, Option, Some, None, refl, sym, ap, ◌∙◌, subst, ℕ, IsTrue, Result, Ok, Err, ◌⊎◌, inl, inr}
+use Rattle.std.proofs.Common.{◌≡◌, List, [], ◌∷◌, Option, Some, None, refl, sym, ap, ◌∙◌, subst, ℕ, IsTrue, Result, Err, ◌⊎◌, inl, inr}
 use Rattle.std.specs.Option.{option_map, option_and_then}
 use Rattle.sgb_script.specs.Words.{Word, Plain, Quoted, four_of, AreTexts, HasTexts}
 use Rattle.sgb_graph.specs.declared.field.Place.{Place}

@@ -1,10 +1,10 @@
 -- What stands between the quotes of a printable line is a text.
-use Rattle.std.proofs.Common.{◌≡◌, ℕ, ◌<◌, ◌≤◌, Bool, true, false, not, ◌&&◌, ◌||◌, ◌==◌, cond, nat_le, List, [], ◌∷◌, ◌++◌, length, map, filter, Option, Some, None, IsTrue, refl, sym, ap, ◌∙◌, subst, arith, inl, inr}
+use Rattle.std.proofs.Common.{◌≡◌, ℕ, Bool, true, false, not, ◌&&◌, ◌||◌, ◌==◌, nat_le, List, [], ◌∷◌, ◌++◌, length, map, filter, Option, Some, None, refl, sym, ap, subst, inl, inr}
 use Rattle.std.specs.Option.{option_map}
 use Rattle.std.specs.List.{slice_split, onto_first, list_all, list_any}
-use Rattle.std.proofs.lemmas.Bool.{cases_Bool, leb-true, and_left, and_right}
+use Rattle.std.proofs.lemmas.Bool.{cases_Bool, leb-true}
 use Rattle.sgb_graph.specs.Text.{IsText, is_text_byte}
-use Rattle.sgb_script.specs.Words.{Word, Plain, Quoted, plain_words, words_in, words_of, is_quotable, begins_with_space, ends_with_space, AreTexts, HasTexts}
+use Rattle.sgb_script.specs.Words.{Word, Plain, Quoted, words_in, words_of, is_quotable, begins_with_space, ends_with_space, AreTexts, HasTexts}
 use Rattle.sgb_script.specs.Line.{is_printable_byte}
 
 abbrev is_inside : ℕ → Bool

@@ -8,7 +8,6 @@ use Rattle.sgb_script.specs.Words.{Word, Plain, Quoted, words_of}
 use Rattle.sgb_script.specs.Arguments.{the_number, the_vertex, the_arc, the_name, the_text, the_letters, the_place, the_value}
 use Rattle.sgb_script.specs.declared.line.Keyword.{Keyword}
 use Rattle.sgb_script.specs.declared.line.Keyword.TheVariants as keywords
-use Rattle.sgb_script.specs.declared.command.Command.{Command}
 use Rattle.sgb_script.specs.declared.command.Command.TheVariants.{Seed, Next, Unif, Graph, Edit, Drop}
 use Rattle.sgb_script.specs.declared.command.Edit.TheVariants.{Arc, Edge, Cut, Len, Set, Types, Label, Id}
 use Rattle.sgb_script.specs.declared.command.Query.TheVariants as queries
@@ -96,7 +95,7 @@ abbrev pub is_printable_byte : ℕ → Bool
 is_printable_byte b = nat_le 32 b && nat_le b 126
 
 -- a line of the language: at most 8,192 printable bytes; after a # nothing more is asked of them
-abbrev pub line_of : List ℕ → Option Line
+unfoldable pub line_of : List ℕ → Option Line
 line_of line =
     if nat_lt 8192 (length line) || not (list_all is_printable_byte line) then None
     else (if slice_index line 0 == 35 then Some Nothing else option_and_then asked_of (words_of line))

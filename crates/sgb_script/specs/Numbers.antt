@@ -1,6 +1,5 @@
 -- The numbers of a line.
-use Rattle.std.specs.Prelude.{ℕ, ◌-◌, ◌^◌, ◌==◌, nat_lt, nat_le, Bool, not, ◌&&◌, if◌then◌else◌, List, [], ◌∷◌, length, min, ℤ, pos, negsuc, neg_ℤ, Option, None, Some, option_and_then}
-use Rattle.std.specs.Option.{option_map}
+use Rattle.std.specs.Prelude.{ℕ, ◌-◌, ◌^◌, ◌==◌, nat_lt, nat_le, not, ◌&&◌, if◌then◌else◌, List, [], ◌∷◌, length, min, ℤ, pos, negsuc, neg_ℤ, Option, None, Some, option_and_then}
 use Rattle.std.specs.Str.{all_ascii_digits}
 use Rattle.std.specs.Str.Parse.{digits_value}
 use Rattle.sgb_graph.specs.declared.field.VertexNo.{VertexNo}

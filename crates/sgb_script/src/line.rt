@@ -22,7 +22,7 @@ use std::alloc::Global;
 pub const LINE_LIMIT: usize = 8192;
 
 /// The first word of a line.
-#[derive(Clone, Copy, Debug, PartialEq, Eq)]
+#[derive(Clone, Copy)]
 enum Keyword {
     Seed,
     Next,
@@ -46,6 +46,7 @@ enum Keyword {
 
 /// Reads one line of a script, without its newline. Refused 100 where it is no line of the language. Memory is taken
 /// for a text alone, once the line is known to be one.
+#[tactic(auto, unfolding(crate::specs::Line::line_of))]
 pub fn parse(alloc: Global, line: &[u8]) -> Result<Line, ShellRefusal>
     ensures ok { IfOk result (λ l. line_of line.now ≡ Some l) }
     ensures err { IfErr result (λ e. ((e ≡ ScriptSyntax) × (line_of line.now ≡ None))

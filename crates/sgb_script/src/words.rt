@@ -14,7 +14,7 @@ const BACKSLASH: u8 = b'\\';
 const TEXT_LIMIT: usize = 4095;
 
 /// A word of a line.
-#[derive(Clone, Copy, Debug, PartialEq, Eq)]
+#[derive(Clone, Copy)]
 pub(crate) enum Word<'a> {
     /// A run of bytes, none of them a space or a quote.
     Plain(&'a [u8]),

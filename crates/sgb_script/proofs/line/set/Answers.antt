@@ -1,4 +1,4 @@
-use Rattle.std.proofs.Common.{◌≡◌, Some, Err, sym, ap, ◌∙◌, rules}
+use Rattle.std.proofs.Common.{◌≡◌, Err, sym, ap, ◌∙◌, rules}
 use Rattle.std.specs.Option.{option_map}
 use Rattle.sgb_script.specs.Words.{seen, words_of}
 use Rattle.sgb_script.specs.Arguments.{the_value}

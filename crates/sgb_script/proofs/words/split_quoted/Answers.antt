@@ -1,4 +1,4 @@
-use Rattle.std.proofs.Common.{◌<◌, length, inl, refl, arith}
+use Rattle.std.proofs.Common.{inl, refl, arith}
 use Rattle.sgb_script.proofs.Splitting.{quoted_then, not_quotable, not_ended, unclosed, behind_quote}
 use Rattle.std.proofs.lemmas.Grind.{common_steps}
 use Rattle.sgb_script.proofs.words.split_quoted.Goals as goal

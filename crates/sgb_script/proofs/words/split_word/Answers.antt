@@ -1,4 +1,4 @@
-use Rattle.std.proofs.Common.{◌∙◌, ap, sym, subst, inr, arith}
+use Rattle.std.proofs.Common.{◌∙◌, ap, subst, inr, arith}
 use Rattle.std.proofs.lemmas.Bool.{ne_eqb}
 use Rattle.std.proofs.lemmas.Grind.{common_steps}
 use Rattle.sgb_script.specs.Words.{Splits, words_of}
