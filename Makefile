@@ -6,7 +6,7 @@ CC ?= cc
 # Where the benchmarks are built: outside this repository, so that `rt` here does not meet their copies.
 BENCH ?= /tmp/sgb_bench
 
-.PHONY: all demo test examples growths bench bench_flip bench_graph install clean FORCE
+.PHONY: all demo test examples growths bench bench_flip bench_graph bench_lines install clean FORCE
 
 all: bin/sgb
 
@@ -42,9 +42,12 @@ tests/out/refuse_growth.so: tests/refuse_growth.c
 	mkdir -p tests/out
 	$(CC) -O2 -shared -fPIC -o $@ $<
 
-# Times the generator beside the same one in plain C, and graphs beside the same arena in plain Rust, in
-# one run on one machine. No part of the gate.
-bench: bench_flip bench_graph
+# Times the generator beside the same one in plain C, graphs beside the same arena in plain Rust, and the
+# program's lines, in one run on one machine. No part of the gate.
+bench: bench_flip bench_graph bench_lines
+
+bench_lines: bin/sgb
+	python3 bench/lines.py bin/sgb
 
 bench_flip: $(BENCH)/plain_flip
 	sh bench/build.sh flip sgb_flip $(BENCH)
