@@ -104,6 +104,7 @@ fn recognize(word: &[u8]) -> Option<Keyword>
 }
 
 // What the keyword asks for with the words that follow it.
+#[inline(never)]
 fn asked_after(alloc: Global, keyword: Keyword, rest: &[u8]) -> Result<Line, ShellRefusal>
     requires { HasTexts (words_of rest.now) }
     ensures { Reads (option_and_then (λ ws. line_after ws keyword) (words_of rest.now)) result }
@@ -138,6 +139,7 @@ fn alone(rest: &[u8], line: Line) -> Option<Line>
     if is_blank(rest) { Some(line) } else { None }
 }
 
+#[inline(never)]
 fn seed(rest: &[u8]) -> Option<Line>
     ensures { result ≡ option_and_then (λ ws. line_after ws keywords.Seed) (words_of rest.now) }
 {
@@ -145,6 +147,7 @@ fn seed(rest: &[u8]) -> Option<Line>
     Some(Line::Change(Command::Seed(seed)))
 }
 
+#[inline(never)]
 fn unif(rest: &[u8]) -> Option<Line>
     ensures { result ≡ option_and_then (λ ws. line_after ws keywords.Unif) (words_of rest.now) }
 {
@@ -152,6 +155,7 @@ fn unif(rest: &[u8]) -> Option<Line>
     Some(Line::Change(Command::Unif(bound)))
 }
 
+#[inline(never)]
 fn graph(rest: &[u8]) -> Option<Line>
     ensures { result ≡ option_and_then (λ ws. line_after ws keywords.Graph) (words_of rest.now) }
 {
@@ -161,6 +165,7 @@ fn graph(rest: &[u8]) -> Option<Line>
     Some(Line::Change(Command::Graph(name, count)))
 }
 
+#[inline(never)]
 fn arc(rest: &[u8]) -> Option<Line>
     ensures { result ≡ option_and_then (λ ws. line_after ws keywords.Arc) (words_of rest.now) }
 {
@@ -172,6 +177,7 @@ fn arc(rest: &[u8]) -> Option<Line>
     Some(Line::Change(Command::Edit(name, Edit::Arc(from, to, len))))
 }
 
+#[inline(never)]
 fn edge(rest: &[u8]) -> Option<Line>
     ensures { result ≡ option_and_then (λ ws. line_after ws keywords.Edge) (words_of rest.now) }
 {
@@ -183,6 +189,7 @@ fn edge(rest: &[u8]) -> Option<Line>
     Some(Line::Change(Command::Edit(name, Edit::Edge(from, to, len))))
 }
 
+#[inline(never)]
 fn cut(rest: &[u8]) -> Option<Line>
     ensures { result ≡ option_and_then (λ ws. line_after ws keywords.Cut) (words_of rest.now) }
 {
@@ -192,6 +199,7 @@ fn cut(rest: &[u8]) -> Option<Line>
     Some(Line::Change(Command::Edit(name, Edit::Cut(arc))))
 }
 
+#[inline(never)]
 fn len(rest: &[u8]) -> Option<Line>
     ensures { result ≡ option_and_then (λ ws. line_after ws keywords.Len) (words_of rest.now) }
 {
@@ -202,6 +210,7 @@ fn len(rest: &[u8]) -> Option<Line>
     Some(Line::Change(Command::Edit(name, Edit::Len(arc, len))))
 }
 
+#[inline(never)]
 fn types(rest: &[u8]) -> Option<Line>
     ensures { result ≡ option_and_then (λ ws. line_after ws keywords.Types) (words_of rest.now) }
 {
@@ -211,6 +220,7 @@ fn types(rest: &[u8]) -> Option<Line>
     Some(Line::Change(Command::Edit(name, Edit::Types(types))))
 }
 
+#[inline(never)]
 fn drop_graph(rest: &[u8]) -> Option<Line>
     ensures { result ≡ option_and_then (λ ws. line_after ws keywords.Drop) (words_of rest.now) }
 {
@@ -218,6 +228,7 @@ fn drop_graph(rest: &[u8]) -> Option<Line>
     Some(Line::Change(Command::Drop(name)))
 }
 
+#[inline(never)]
 fn show(rest: &[u8]) -> Option<Line>
     ensures { result ≡ option_and_then (λ ws. line_after ws keywords.Show) (words_of rest.now) }
 {
@@ -225,6 +236,7 @@ fn show(rest: &[u8]) -> Option<Line>
     Some(Line::Ask(Query::Show(name)))
 }
 
+#[inline(never)]
 fn set(alloc: Global, rest: &[u8]) -> Result<Line, ShellRefusal>
     requires { HasTexts (words_of rest.now) }
     ensures { Reads (option_and_then (λ ws. line_after ws keywords.Set) (words_of rest.now)) result }
@@ -250,6 +262,7 @@ fn the_value(alloc: Global, word: Word<'_>) -> Result<Util, ShellRefusal>
     }
 }
 
+#[inline(never)]
 fn label(alloc: Global, rest: &[u8]) -> Result<Line, ShellRefusal>
     requires { HasTexts (words_of rest.now) }
     ensures { Reads (option_and_then (λ ws. line_after ws keywords.Label) (words_of rest.now)) result }
@@ -262,6 +275,7 @@ fn label(alloc: Global, rest: &[u8]) -> Result<Line, ShellRefusal>
     Ok(Line::Change(Command::Edit(name, Edit::Label(vertex, text(alloc, bytes)?))))
 }
 
+#[inline(never)]
 fn id(alloc: Global, rest: &[u8]) -> Result<Line, ShellRefusal>
     requires { HasTexts (words_of rest.now) }
     ensures { Reads (option_and_then (λ ws. line_after ws keywords.Id) (words_of rest.now)) result }

@@ -23,6 +23,7 @@ pub held_whole : (kept line : List ℕ) (is_long : Bool) → Holds kept is_long 
 held_whole kept line is_long h short = let fits : length line ≤ 8192 = ltb-false 8192 (length line) (sym h.long ∙ short) in h.bytes ∙ take_all 8192 line fits
 
 pub held_long : (kept line : List ℕ) (is_long : Bool) → Holds kept is_long line → is_long ≡ true → line_of line ≡ None
+unfolding line_of
 held_long kept line is_long h long = rw (or_left (nat_lt 8192 (length line)) (not (list_all is_printable_byte line)) (sym h.long ∙ long)) refl
 
 -- ---- one line more

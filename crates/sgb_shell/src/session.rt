@@ -105,6 +105,7 @@ impl Session {
     }
 
     // Draws a uniform number.
+    #[inline(never)]
     fn draw_below(&mut self, bound: i64) -> Result<(Delta, Reply), ShellRefusal>
         ensures { Performs self.old self.new (commands.Unif bound) result }
     {
@@ -122,6 +123,7 @@ impl Session {
     }
 
     // Makes a graph, which then stands last.
+    #[inline(never)]
     fn make(&mut self, name: Name, vertices: i64) -> Result<(Delta, Reply), ShellRefusal>
         ensures { Performs self.old self.new (commands.Graph name vertices) result }
     {
@@ -144,6 +146,7 @@ impl Session {
     }
 
     // Edits the graph of this name.
+    #[inline(never)]
     fn edit(&mut self, name: &Name, edit: &Edit) -> Result<(Delta, Reply), ShellRefusal>
         ensures { Performs self.old self.new (commands.Edit name.now edit.now) result }
     {
@@ -157,6 +160,7 @@ impl Session {
     }
 
     // Takes the graph of this name out of the table.
+    #[inline(never)]
     fn drop_graph(&mut self, name: &Name) -> Result<(Delta, Reply), ShellRefusal>
         ensures { Performs self.old self.new (commands.Drop name.now) result }
     {
