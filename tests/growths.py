@@ -1,19 +1,42 @@
 #!/usr/bin/env python3
-"""Runs a script with its Nth growth refused, for N = 1, 2, .. until a run asks for none.
+"""Runs scripts with their Nth growth of memory refused, for N = 1, 2, .. until a run asks for none.
 
-    growths.py PROGRAM LIBRARY
+    growths.py PROGRAM LIBRARY [OTHER..]
 
 Each run either has written nothing and told `sgb: no room`, or one line of it is answered
-`line L: refused 1 no room` and all others as if that line were a comment.
+`line L: refused 1 no room` and all others as if that line had done nothing. What they answer then is
+asked of the program itself, or of the command OTHER, another implementation that reads a script from a file.
+A line that takes no memory of its own is refused only where the journal grows.
 """
 import os
 import subprocess
 import sys
 import tempfile
 
-# Commands, undos and redos in turn, so that the journal grows, shrinks and grows again.
-SCRIPT = (b'seed -314159\nnext\nunif 6\ngen\n' + b'next\n' * 40 + b'undo\n' * 20 + b'redo\n' * 10
-          + b'next\n' * 40 + b'undo\nredo\nundo\nseed 7\nunif 1073741825\ngen\n')
+# Draws, undos and redos in turn, so that the journal grows, shrinks and grows again.
+DRAWS = (b'seed -314159\nnext\nunif 6\ngen\n' + b'next\n' * 40 + b'undo\n' * 20 + b'redo\n' * 10
+         + b'next\n' * 40 + b'undo\nredo\nundo\nseed 7\nunif 1073741825\ngen\n')
+
+# All commands on graphs. The journal grows at the first command, and at `cut`, `len`, `types`, `drop` and
+# a `set` of a number. At the end all is undone and redone, for which each graph takes its memory again.
+GRAPHS = (b'graph g 3\ngraph h 2\narc g 0 1 5\nedge g 1 2 -6\n'
+          b'cut g 0\nundo\nredo\nshow g\n'
+          b'set g V0 u 7\nset g V0 v "seven"\nset g G zz V1\n'
+          b'len g 1 9\n'
+          b'label g 2 "here"\nid g "map"\nset g A2 a ""\n'
+          + b'undo\n' * 4 + b'list\n' + b'redo\n' * 4 + b'show g\ngen\n'
+          + b'arc h 0 0 1\n' * 4
+          + b'types g IIIZZZZAZZZZZV\nshow h\nundo\nundo\nredo\nredo\nnext\n'
+          + b'edge h 0 1 2\n' * 14
+          + b'drop h\nlist\nundo\nshow h\nredo\nlist\n'
+          + b'graph h 70\nlabel h 69 "last"\nset h V69 z V69\nunif 6\nseed 8\n' + b'next\n' * 26
+          + b'set g A1 b -3\nset g A1 b 0\nid g ""\nshow g\n'
+          + b'undo\n' * 67 + b'list\n' + b'redo\n' * 67 + b'show g\nlist\ngen\n')
+
+# What the second script meets: the first words of the lines that are refused once at least.
+MET = {b'graph', b'arc', b'edge', b'cut', b'len', b'set', b'types', b'label', b'id', b'drop', b'redo'}
+
+QUERIES = (b'gen', b'list', b'show')
 
 
 def run(program, script, environment):
@@ -21,49 +44,117 @@ def run(program, script, environment):
                           stderr=subprocess.PIPE, env=environment)
 
 
-def without_line(script, number):
-    lines = script.split(b'\n')
-    lines[number - 1] = b'# ' + lines[number - 1]
-    return b'\n'.join(lines)
+def run_other(command, script):
+    """The transcript of a script, as another implementation has it."""
+    with tempfile.NamedTemporaryFile() as file:
+        file.write(script)
+        file.flush()
+        return subprocess.run(command + [file.name], stdout=subprocess.PIPE).stdout
 
 
-def is_right(program, result):
-    if result.stdout == b'':
-        return result.returncode == 2 and result.stderr == b'sgb: no room\n'
+def takes_memory(line):
+    """Whether a command takes memory of its own: for a graph, an arc, an edge or a text."""
+    return line.split(b' ')[0] in (b'graph', b'arc', b'edge') or b'"' in line
+
+
+def growing_lines(script):
+    """The numbers of the lines that may want for memory, where every command of the script is accepted."""
+    growing = set()
+    standing, undone, most = [], [], 0
+    for number, line in enumerate(script.splitlines(), 1):
+        if line == b'undo':
+            undone.append(standing.pop())
+        elif line == b'redo':
+            if takes_memory(undone[-1]):
+                growing.add(number)
+            standing.append(undone.pop())
+        elif line.split(b' ')[0] not in QUERIES:
+            # The journal's room is doubled, from 4 commands on.
+            count = len(standing)
+            is_full = count == most and (count == 0 or count >= 4 and count & (count - 1) == 0)
+            if takes_memory(line) or is_full:
+                growing.add(number)
+            standing.append(line)
+            undone = []
+            most = max(most, len(standing))
+    return growing
+
+
+def refused_line(result):
+    """The number of the one line that had no room, or None."""
     refused = [line for line in result.stdout.split(b'\n') if line.endswith(b': refused 1 no room')]
-    if len(refused) != 1 or result.returncode != 1 or result.stderr != b'':
-        return False
-    number = int(refused[0][len(b'line '):].split(b':')[0])
-    ample = run(program, without_line(SCRIPT, number), {})
-    answers = result.stdout.replace(refused[0] + b'\n', b'')
-    return answers == ample.stdout
+    return int(refused[0].split(b':')[0].split(b' ')[1]) if len(refused) == 1 else None
+
+
+def with_refused(transcript_of, script, number):
+    """The transcript of a script whose line of this number alone has no room."""
+    lines = script.split(b'\n')
+    lines[number - 1] = b'?'
+    answer = b'line %d: refused ' % number
+    return transcript_of(b'\n'.join(lines)).replace(answer + b'100 bad command\n',
+                                                    answer + b'1 no room\n')
+
+
+class Growths:
+    def __init__(self, program, library, other):
+        self.program = program
+        self.library = os.path.abspath(library)
+        self.other = other
+        self.passed = self.failed = 0
+
+    def transcript_of(self, script):
+        if self.other:
+            return run_other(self.other, script)
+        return run(self.program, script, {}).stdout
+
+    def tell(self, is_right, *words):
+        if is_right:
+            self.passed += 1
+        else:
+            self.failed += 1
+            print(*words)
+
+    def run_refusing(self, script, number):
+        """The run with this growth refused, and whether it was asked for."""
+        with tempfile.TemporaryDirectory() as folder:
+            met = os.path.join(folder, 'met')
+            result = run(self.program, script,
+                         {'LD_PRELOAD': self.library, 'REFUSE_GROWTH': str(number),
+                          'REFUSE_GROWTH_MET': met})
+            return result, os.path.exists(met)
+
+    def is_right(self, script, growing, result, line):
+        if result.stdout == b'':
+            return result.returncode == 2 and result.stderr == b'sgb: no room\n'
+        return (line in growing and result.returncode == 1 and result.stderr == b''
+                and result.stdout == with_refused(self.transcript_of, script, line))
+
+    def try_script(self, script, wanted):
+        growing = growing_lines(script)
+        lines = script.split(b'\n')
+        words = set()
+        for number in range(1, 1000):
+            result, is_met = self.run_refusing(script, number)
+            if not is_met:
+                break
+            line = refused_line(result)
+            if line:
+                words.add(lines[line - 1].split(b' ')[0])
+            self.tell(self.is_right(script, growing, result, line),
+                      'growth', number, 'refused: wrong', result)
+        self.tell(not is_met, 'more growths than expected')
+        self.tell(result.returncode == 0 and result.stdout == self.transcript_of(script),
+                  'a run with no growth refused differs')
+        self.tell(wanted <= words, 'never refused:', wanted - words)
 
 
 def main():
-    program, library = sys.argv[1:]
-    passed = failed = 0
-    with tempfile.TemporaryDirectory() as folder:
-        for number in range(1, 1000):
-            met = os.path.join(folder, 'met')
-            result = run(program, SCRIPT, {'LD_PRELOAD': os.path.abspath(library),
-                                           'REFUSE_GROWTH': str(number), 'REFUSE_GROWTH_MET': met})
-            if not os.path.exists(met):
-                break
-            os.remove(met)
-            if is_right(program, result):
-                passed += 1
-            else:
-                failed += 1
-                print('growth', number, 'refused: wrong', result)
-        else:
-            failed += 1
-            print('more growths than expected')
-        ample = run(program, SCRIPT, {})
-        if result.stdout != ample.stdout:
-            failed += 1
-            print('a run with no growth refused differs')
-    print('growths: %d passed, %d failed' % (passed, failed))
-    return 1 if failed else 0
+    program, library = sys.argv[1:3]
+    growths = Growths(program, library, sys.argv[3:])
+    growths.try_script(DRAWS, set())
+    growths.try_script(GRAPHS, MET)
+    print('growths: %d passed, %d failed' % (growths.passed, growths.failed))
+    return 1 if growths.failed else 0
 
 
 if __name__ == '__main__':

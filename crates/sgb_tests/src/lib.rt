@@ -2,8 +2,20 @@
 #![tactic(auto)]
 
 #[cfg(test)]
+mod arcs;
+#[cfg(test)]
+mod calls;
+#[cfg(test)]
 mod fake;
 #[cfg(test)]
+mod fields;
+#[cfg(test)]
+mod limits;
+#[cfg(test)]
+mod lines;
+#[cfg(test)]
 mod session;
+#[cfg(test)]
+mod table;
 #[cfg(test)]
 mod whole;

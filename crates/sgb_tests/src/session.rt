@@ -1,4 +1,4 @@
-//! Single calls of the session.
+//! Single calls of the session's generator, and what is printed of refusals.
 
 use sgb_shell::{
     Command, Delta, Line, Mark, Query, Reply, RunFault, Session, ShellRefusal, exit_status, parse,
@@ -8,23 +8,25 @@ use std::test::Fail;
 
 #[test]
 fn a_command_leaves_its_delta(rt: HostRuntime) -> Result<(), Fail> {
-    let mut session = Session::new();
+    let mut session = Session::new(rt.alloc());
     assert_eq!(rt; session.generator(), (0, 0, 54));
     let (delta, reply) = session.apply(&Command::Next)?;
-    assert_eq!(rt; delta, Delta::Draws(1));
+    assert!(rt; matches!(delta, Delta::Draws(1)));
     assert_eq!(rt; reply, Reply::Number(2_029_883_356));
     let (delta, reply) = session.apply(&Command::Seed(-1))?;
     assert_eq!(rt; reply, Reply::Done);
     assert_eq!(rt; session.generator(), (2_147_483_647, 0, 54));
     let mut mark = Mark::new(0);
     assert_eq!(rt; mark.next(), 2_029_883_356);
-    assert_eq!(rt; delta, Delta::Seed(mark));
+    assert!(rt; matches!(&delta, Delta::Seed(before) if *before == mark));
+    session.revert(delta);
+    assert_eq!(rt; session.generator(), (0, 1, 53));
     Ok(())
 }
 
 #[test]
 fn a_journal_takes_a_seed_back(rt: HostRuntime) {
-    let mut journal = Journal::new(rt.alloc(), Session::new());
+    let mut journal = Journal::new(rt.alloc(), Session::new(rt.alloc()));
     assert!(rt; matches!(journal.apply(Command::Unif(6)), Ok(Reply::Number(_))));
     assert!(rt; matches!(journal.apply(Command::Seed(5)), Ok(Reply::Done)));
     assert_eq!(rt; journal.machine().generator(), (5, 0, 54));
@@ -42,7 +44,11 @@ fn refusals_print_their_texts(rt: HostRuntime) -> Result<(), Fail> {
         (ShellRefusal::NoRoom, 1, "no room"),
         (ShellRefusal::BadSpecs, 30, "bad specification"),
         (ShellRefusal::TooLarge, 40, "too large"),
+        (ShellRefusal::NoGraph, 50, "no such graph"),
+        (ShellRefusal::BadOperand, 60, "bad operand"),
         (ShellRefusal::ScriptSyntax, 100, "bad command"),
+        (ShellRefusal::TableFull, 101, "table is full"),
+        (ShellRefusal::NameTaken, 102, "name is taken"),
         (ShellRefusal::NothingToUndo, 103, "nothing to undo"),
         (ShellRefusal::NothingToRedo, 104, "nothing to redo"),
         (ShellRefusal::JournalFull, 105, "journal is full"),
@@ -58,14 +64,26 @@ fn refusals_print_their_texts(rt: HostRuntime) -> Result<(), Fail> {
 
 #[test]
 fn lines_are_read(rt: HostRuntime) {
-    assert_eq!(rt;
-        parse(b"  seed  -0007 "),
-        Ok(Line::Change(Command::Seed(-7)))
+    assert!(rt;
+        matches!(
+            parse(rt.alloc(), b"  seed  -0007 "),
+            Ok(Line::Change(Command::Seed(-7)))
+        )
     );
-    assert_eq!(rt; parse(b"unif 6"), Ok(Line::Change(Command::Unif(6))));
-    assert_eq!(rt; parse(b"gen"), Ok(Line::Ask(Query::Gen)));
-    assert_eq!(rt; parse(b"# gen"), Ok(Line::Nothing));
-    assert_eq!(rt; parse(b"gen gen"), Err(ShellRefusal::ScriptSyntax));
+    assert!(rt;
+        matches!(
+            parse(rt.alloc(), b"unif 6"),
+            Ok(Line::Change(Command::Unif(6)))
+        )
+    );
+    assert!(rt; matches!(parse(rt.alloc(), b"gen"), Ok(Line::Ask(Query::Gen))));
+    assert!(rt; matches!(parse(rt.alloc(), b"# gen"), Ok(Line::Nothing)));
+    assert!(rt;
+        matches!(
+            parse(rt.alloc(), b"gen gen"),
+            Err(ShellRefusal::ScriptSyntax)
+        )
+    );
 }
 
 #[test]

@@ -9,8 +9,15 @@ const FIRST: &[u8] = b"seed -314159\nnext\nundo\nnext\n";
 
 const FIRST_TRANSCRIPT: &[u8] = b"ok\n119318998\nundone\n119318998\n";
 
-// After 65,535 numbers: one is refused, the last is taken back, and comes again.
-const ENDING: &[u8] = b"line 65536: refused 105 journal is full\nundone\n1104040056\n";
+// After 65,535 numbers nothing more is performed, until the last number is taken back; it comes again.
+const FULL: &[u8] = b"next\ndrop nobody\nshow nobody\nundo\nnext\n";
+
+const FULL_ENDING: &[u8] = b"line 65536: refused 105 journal is full
+line 65537: refused 105 journal is full
+line 65538: refused 50 no such graph
+undone
+1104040056
+";
 
 static SCRIPTS: [(&str, &str); 9] = [
     ("", ""),
@@ -48,10 +55,17 @@ static SCRIPTS: [(&str, &str); 9] = [
     ),
 ];
 
-fn transcript_of(alloc: Global, script: &[u8]) -> Result<Vec<u8>, Fail> {
+/// The transcript of a script.
+pub fn transcript_of(alloc: Global, script: &[u8]) -> Result<Vec<u8>, Fail> {
     let ended = run(alloc, script, Vec::new(alloc));
     ended.end?;
     Ok(ended.writer.into_inner())
+}
+
+/// Whether a script has this transcript.
+pub fn has_transcript(alloc: Global, script: &str, transcript: &str) -> Result<bool, Fail> {
+    let text = transcript_of(alloc, script.as_bytes())?;
+    Ok(text.as_slice() == transcript.as_bytes())
 }
 
 #[test]
@@ -82,12 +96,12 @@ fn sixty_draws_are_taken_back(rt: HostRuntime) -> Result<(), Fail> {
 #[test]
 fn a_full_journal_is_told(rt: HostRuntime) -> Result<(), Fail> {
     let mut script = Vec::new(rt.alloc());
-    for _ in 0..65_536u32 {
+    for _ in 0..65_535u32 {
         script.extend_from_slice(b"next\n")?;
     }
-    script.extend_from_slice(b"undo\nnext\n")?;
+    script.extend_from_slice(FULL)?;
     let text = transcript_of(rt.alloc(), script.as_slice())?;
-    assert!(rt; text.as_slice().ends_with(ENDING));
+    assert!(rt; text.as_slice().ends_with(FULL_ENDING));
     Ok(())
 }
 
@@ -162,6 +176,36 @@ fn a_writer_without_room_keeps_a_front(rt: HostRuntime) {
         }
         assert!(rt;
             ended.writer.into_inner().kept.as_slice() == front,
+            "room for {room}"
+        );
+    }
+}
+
+// A graph is shown after its arcs were made.
+const SHOWN: &[u8] = b"graph g 2\nedge g 0 1 -5\nset g V1 z \"z\"\nshow g\nlist\ngen\n";
+
+const SHOWN_TRANSCRIPT: &[u8] = b"g: 2 vertices, 0 arcs
+A0 A1
+ok
+\"gb_new_graph(2)\" ZZZZZZZZZZZZZZ
+2 vertices, 2 arcs, 2 numbers
+V0 \"\"
+  A0 V1 -5
+V1 \"\" z=\"z\"
+  A1 V0 -5
+1 graphs
+g: 2 vertices, 2 arcs
+seed 0, draws 0, unread 54
+";
+
+#[test]
+fn a_show_without_room_keeps_a_front(rt: HostRuntime) {
+    let whole = SHOWN_TRANSCRIPT.len();
+    for room in 0..whole + 1 {
+        let ended = run(rt.alloc(), SHOWN, kept(rt.alloc(), room, 1000));
+        assert!(rt; ended.end.is_ok() == (room == whole), "room for {room}");
+        assert!(rt;
+            ended.writer.into_inner().kept.as_slice() == &SHOWN_TRANSCRIPT[..room],
             "room for {room}"
         );
     }
