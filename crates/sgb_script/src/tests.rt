@@ -26,7 +26,9 @@ fn seed_of(alloc: Global, line: &[u8]) -> Option<i64> {
 // The place that a line sets to a text, and the text.
 fn text_of(alloc: Global, line: &[u8]) -> Option<(Place, Text)> {
     match parse(alloc, line) {
-        Ok(Line::Change(Command::Edit(_, Edit::Set(place, Util::Text(text))))) => Some((place, text)),
+        Ok(Line::Change(Command::Edit(_, Edit::Set(place, Util::Text(text))))) => Some((
+            place, text,
+        )),
         _ => None,
     }
 }
@@ -198,7 +200,10 @@ fn values(rt: HostRuntime) {
         _ => panic!(rt; "a vertex is a value"),
     }
     match parse(rt.alloc(), b"set g A0 a -3") {
-        Ok(Line::Change(Command::Edit(_, Edit::Set(_, Util::Int(number))))) => assert_eq!(rt; number, -3),
+        Ok(Line::Change(Command::Edit(_, Edit::Set(_, Util::Int(number))))) => assert_eq!(rt;
+            number,
+            -3
+        ),
         _ => panic!(rt; "a number is a value"),
     }
 }
@@ -316,7 +321,10 @@ fn lines_that_change(rt: HostRuntime) {
     );
     let edge = parse(alloc, b"edge g 0 1 9");
     assert_eq!(rt;
-        matches!(edge, Ok(Line::Change(Command::Edit(_, Edit::Edge(_, _, 9))))),
+        matches!(
+            edge,
+            Ok(Line::Change(Command::Edit(_, Edit::Edge(_, _, 9))))
+        ),
         true
     );
     let cut = parse(alloc, b"cut g 5");
@@ -326,7 +334,10 @@ fn lines_that_change(rt: HostRuntime) {
     );
     let len = parse(alloc, b"len g 5 -1");
     assert_eq!(rt;
-        matches!(len, Ok(Line::Change(Command::Edit(_, Edit::Len(ArcNo(5), -1))))),
+        matches!(
+            len,
+            Ok(Line::Change(Command::Edit(_, Edit::Len(ArcNo(5), -1))))
+        ),
         true
     );
     let drop = parse(alloc, b"drop g");

@@ -1,5 +1,5 @@
 -- What an edit of a graph does to the session.
-use Rattle.std.proofs.Common.{◌≡◌, ◌<◌, ◌⊎◌, ℕ, List, length, get_or, set, Option, Some, None, Bool, true, Result, Ok, Err, refl, sym, ap, ◌∙◌, subst, inl, inr, cond, arith}
+use Rattle.std.proofs.Common.{◌≡◌, ◌<◌, ℕ, List, length, set, Some, None, Ok, Err, sym, ap, ◌∙◌, subst, inl, inr, cond, arith}
 use Rattle.std.specs.Prelude.{nat_lt}
 use Rattle.std.specs.List.{position_or_len}
 use Rattle.std.specs.Str.{bytes_eq}
@@ -10,20 +10,17 @@ use Rattle.sgb_graph.specs.declared.refusal.Refusal.{Refusal}
 use Rattle.sgb_graph.specs.declared.refusal.Refusal.TheVariants as graphs
 use Rattle.sgb_graph.specs.Graph.{GraphOf}
 use Rattle.sgb_graph.specs.Delta.{LeftBy}
-use Rattle.sgb_graph.specs.Reverted.{reverted}
 use Rattle.sgb_graph.proofs.Reverting.{reverted_is}
-use Rattle.sgb_undo.specs.Outcome.{Accepted, Refused}
+use Rattle.sgb_undo.specs.Outcome.{Accepted}
 use Rattle.sgb_script.specs.declared.command.Edit as script
 use Rattle.sgb_script.specs.declared.command.Command.TheVariants.{Edit}
-use Rattle.sgb_script.specs.declared.refusal.ShellRefusal.{ShellRefusal}
 use Rattle.sgb_script.specs.declared.refusal.ShellRefusal.TheVariants as shells
-use Rattle.sgb_shell.specs.declared.reply.Delta.{Delta}
 use Rattle.sgb_shell.specs.declared.reply.Delta.TheVariants as kept
 use Rattle.sgb_shell.specs.declared.reply.Reply.{Reply}
 use Rattle.sgb_shell.specs.declared.table.Entry.{Entry}
 use Rattle.sgb_shell.specs.Drawing.{Drawing}
-use Rattle.sgb_shell.specs.Edits.{Edited, Makes, edited, edit_takes_memory, refusal_from}
-use Rattle.sgb_shell.specs.State.{State, StepOutcome, Performs, step, before, can_revert, editing, unless_refused, where_found, takes_memory}
+use Rattle.sgb_shell.specs.Edits.{edited, edit_takes_memory, refusal_from}
+use Rattle.sgb_shell.specs.State.{State, StepOutcome, Performs, step, editing, unless_refused, where_found}
 use Rattle.sgb_shell.specs.Table.{find, no_entry, entry_in, graph_in, with_graph, MakesAt}
 
 abbrev pub state : Drawing → List Entry → State
@@ -64,13 +61,13 @@ edit_done d t u name e i a at within m =
     let left : LeftBy (graph_in t i) a.0 (graph_in u i) = subst (LeftBy (graph_in t i) a.0) (sym after) m.2.4 in
     let outcome : StepOutcome → StepOutcome = λ o. o in (
       step_is (state d t) name e i at
-      ∙ (ap (λ r. unless_refused r (Accepted (state d (with_graph t i x.graph)) (kept.Edit i x.delta) x.reply)) m.2.0
-      ∙ (ap (λ v. Accepted (state d v) (kept.Edit i x.delta) x.reply) (sym table)
-      ∙ (ap (λ y. Accepted (state d u) (kept.Edit i y) x.reply) (sym m.2.2) ∙ ap (Accepted (state d u) (kept.Edit i a.0)) (sym m.2.3)))),
+          ∙ (ap (λ r. unless_refused r (Accepted (state d (with_graph t i x.graph)) (kept.Edit i x.delta) x.reply)) m.2.0
+          ∙ (ap (λ v. Accepted (state d v) (kept.Edit i x.delta) x.reply) (sym table)
+          ∙ (ap (λ y. Accepted (state d u) (kept.Edit i y) x.reply) (sym m.2.2) ∙ ap (Accepted (state d u) (kept.Edit i a.0)) (sym m.2.3)))),
       (omega (arith, ap length m.1, length-set t i (record (entry_in t i) { graph = m.0 }), within), (graph_in t i, left)),
       ap (state d)
-      (ap (with_graph u i) (reverted_is (graph_in t i) (graph_in u i) a.0 left)
-      ∙ (ap (λ v. with_graph v i (graph_in t i)) m.1 ∙ (replaced_twice t i m.0 (graph_in t i) within ∙ same_graph_back t i))),
+          (ap (with_graph u i) (reverted_is (graph_in t i) (graph_in u i) a.0 left)
+          ∙ (ap (λ v. with_graph v i (graph_in t i)) m.1 ∙ (replaced_twice t i m.0 (graph_in t i) within ∙ same_graph_back t i))),
     )
 
 no_room_is : (r : Refusal) → r ≡ graphs.NoRoom → refusal_from r ≡ shells.NoRoom

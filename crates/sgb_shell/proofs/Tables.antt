@@ -1,9 +1,9 @@
 -- What the slots of a table show.
-use Rattle.std.proofs.Common.{◌≡◌, ◌<◌, ◌≤◌, ◌+◌, ◌-◌, ℕ, suc, List, [], ◌∷◌, ◌++◌, length, map, get_or, set, take, drop, Option, Some, None, IsSome, All, Bool, true, false, Result, Ok, Err, refl, sym, ap, ◌∙◌, subst, arith, cond, not, zero}
+use Rattle.std.proofs.Common.{◌≡◌, ◌<◌, ◌+◌, ℕ, suc, List, [], ◌∷◌, ◌++◌, length, map, get_or, set, take, drop, Option, Some, None, All, Bool, Result, refl, sym, ap, ◌∙◌, subst, cond, not, zero}
 use Rattle.std.specs.List.{insert, remove, position, position_or_len}
 use Rattle.std.specs.Prelude.{nat_lt}
 use Rattle.std.proofs.Math.ListN.{get_or-map}
-use Rattle.std.proofs.lemmas.List.{map-set, set-get_or, length-map, get_or_default}
+use Rattle.std.proofs.lemmas.List.{map-set, length-map, get_or_default}
 use Rattle.std.proofs.lemmas.List.Elements.{All-append, All-take, All-drop}
 use Rattle.sgb_graph.specs.declared.delta.GraphDelta.{GraphDelta}
 use Rattle.sgb_graph.specs.declared.refusal.Refusal.{Refusal}
@@ -14,7 +14,7 @@ use Rattle.sgb_graph.proofs.Reverting.{reverted_is}
 use Rattle.sgb_shell.specs.declared.reply.Reply.{Reply}
 use Rattle.sgb_shell.specs.declared.table.Entry.{Entry}
 use Rattle.sgb_shell.specs.Edits.{Edited, Makes}
-use Rattle.sgb_shell.specs.Table.{held, no_entry, entry_in, graph_in, with_graph, slot_in, slot_with_graph, MakesAt, MakesInSlot}
+use Rattle.sgb_shell.specs.Table.{held, entry_in, graph_in, with_graph, slot_in, slot_with_graph, MakesAt, MakesInSlot}
 
 -- of lists
 pub map-append : {X Y : Type 0} (f : X → Y) (xs ys : List X) → map f (xs ++ ys) ≡ map f xs ++ map f ys

@@ -1,5 +1,5 @@
 -- What the edits of the script make of a graph.
-use Rattle.std.specs.Prelude.{◌≡◌, ℕ, ◌+◌, ◌⊎◌, List, Option, None, Some, Bool, true, false, Result, Ok, Err}
+use Rattle.std.specs.Prelude.{◌≡◌, ℕ, ◌+◌, ◌⊎◌, Option, None, Some, Bool, true, false, Result, Ok, Err}
 use Rattle.sgb_graph.specs.declared.delta.GraphDelta.{GraphDelta}
 use Rattle.sgb_graph.specs.declared.delta.GraphDelta.TheVariants as kept
 use Rattle.sgb_graph.specs.declared.field.ArcNo.{ArcNo}

@@ -65,10 +65,7 @@ fn print_reply<W: Write>(writer: &mut MeteredWriter<W>, reply: &Reply) -> Result
         Reply::Made(name, vertices, arcs) => print_made(writer, name.bytes(), *vertices, *arcs),
         Reply::Arc(number) => {
             let mut buffer = Buffer::new();
-            put_all(
-                writer,
-                &[b"A", buffer.format(number.0).as_bytes(), b"\n"],
-            )
+            put_all(writer, &[b"A", buffer.format(number.0).as_bytes(), b"\n"])
         }
         Reply::Edge(first, second) => {
             let mut first_digits = Buffer::new();
@@ -150,10 +147,7 @@ fn print_count<W: Write>(writer: &mut MeteredWriter<W>, count: usize) -> Result<
     put_all(writer, &[digits.format(count).as_bytes(), b" graphs\n"])
 }
 
-fn print_entries<W: Write>(
-    writer: &mut MeteredWriter<W>,
-    session: &Session,
-) -> Result<(), Failed>
+fn print_entries<W: Write>(writer: &mut MeteredWriter<W>, session: &Session) -> Result<(), Failed>
     ensures { Prints (W.contents writer.old.inner) (W.contents writer.new.inner) writer.old.failed writer.new.failed
         result (flat_map entry_text session.now.table) }
 {
@@ -173,12 +167,7 @@ fn print_entry<W: Write>(
         result (entry_text (entry_in session.now.table place)) }
 {
     let graph = session.graph_at(place);
-    print_made(
-        writer,
-        session.name_at(place).bytes(),
-        graph.n(),
-        graph.m(),
-    )
+    print_made(writer, session.name_at(place).bytes(), graph.n(), graph.m())
 }
 
 // A place that the table has not prints nothing; no answer names one.

@@ -78,11 +78,7 @@ fn set_label(
     done(graph.set_label(vertex, copy))
 }
 
-fn set_id(
-    alloc: Global,
-    graph: &mut Graph,
-    text: &Text,
-) -> Result<(GraphDelta, Reply), Refusal>
+fn set_id(alloc: Global, graph: &mut Graph, text: &Text) -> Result<(GraphDelta, Reply), Refusal>
     ensures { Makes true graph.old graph.new (edited graph.old (Id text.now)) result }
 {
     let copy = copy_of_text(alloc, text)?;

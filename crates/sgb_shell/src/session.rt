@@ -168,10 +168,7 @@ impl Session {
             return Err(ShellRefusal::NoGraph);
         };
         let entry = self.table.remove(place);
-        Ok((
-            Delta::Dropped(place, entry.name, entry.graph),
-            Reply::Done,
-        ))
+        Ok((Delta::Dropped(place, entry.name, entry.graph), Reply::Done))
     }
 }
 

@@ -112,12 +112,7 @@ impl Shell {
             self.new.journal self.new.lines self.new.refused result }
     {
         let alloc = self.alloc;
-        let answer = answer_line(
-            alloc,
-            &mut self.journal,
-            self.line.as_slice(),
-            self.is_long,
-        );
+        let answer = answer_line(alloc, &mut self.journal, self.line.as_slice(), self.is_long);
         self.line.clear();
         self.is_long = false;
         self.lines = self.lines.saturating_add(1);
@@ -137,12 +132,7 @@ fn refusal_count(answer: &Answer) -> u64
 }
 
 // Answers a line of which at most 8,192 bytes are kept.
-fn answer_line(
-    alloc: Global,
-    journal: &mut Journal<Session>,
-    bytes: &[u8],
-    is_long: bool,
-) -> Answer
+fn answer_line(alloc: Global, journal: &mut Journal<Session>, bytes: &[u8], is_long: bool) -> Answer
     ensures { (line : List ℕ) → Holds bytes.now is_long line → IsBegun journal.old → Does journal.old journal.new (line_of line) result }
 {
     if is_long {

@@ -1,4 +1,4 @@
-use Rattle.std.proofs.Common.{◌≡◌, ap, ◌∙◌, sym, subst, length, ◌++◌}
+use Rattle.std.proofs.Common.{◌≡◌, ap, sym, length, ◌++◌}
 use Rattle.std.proofs.lemmas.Result.{err_from_is_err_and}
 use Rattle.std.specs.List.{flat_map}
 use Rattle.sgb_shell.specs.Answer.{count_text, entry_text}

@@ -1,4 +1,4 @@
-use Rattle.std.proofs.Common.{◌∙◌, ap, sym, subst}
+use Rattle.std.proofs.Common.{◌∙◌, ap}
 use Rattle.sgb_shell.specs.Transcript.{asked_of}
 use Rattle.sgb_shell.proofs.Performing.{read_does, refused_does, asked_does}
 use Rattle.sgb_shell.proofs.perform.perform.Goals as goal

@@ -1,7 +1,7 @@
-use Rattle.std.proofs.Common.{ap, ◌∙◌, subst, sym, ◌≡◌, ◌<◌, Some, Ok, Err, length, rules}
+use Rattle.std.proofs.Common.{ap, ◌∙◌, subst, sym, ◌≡◌, ◌<◌, Some, Err, length}
 use Rattle.sgb_script.specs.declared.command.Command.TheVariants as commands
 use Rattle.sgb_shell.specs.Edits.{edited, edit_takes_memory}
-use Rattle.sgb_shell.specs.State.{State, Performs}
+use Rattle.sgb_shell.specs.State.{Performs}
 use Rattle.sgb_shell.specs.Table.{find, graph_in, MakesAt}
 use Rattle.sgb_shell.proofs.Sessions.{state, find_within, edit_done, edit_refused}
 use Rattle.sgb_shell.proofs.session.Session.edit.Goals as goal

@@ -1,4 +1,4 @@
-use Rattle.std.proofs.Common.{ap, ◌∙◌, map, remove, subst, sym, All, IsSome, length, ◌<◌, arith}
+use Rattle.std.proofs.Common.{ap, ◌∙◌, map, remove, subst, sym, All, IsSome, arith}
 use Rattle.std.proofs.lemmas.List.{length-map}
 use Rattle.sgb_shell.specs.Table.{held}
 use Rattle.sgb_shell.proofs.Tables.{map-remove, All-remove}

@@ -1,4 +1,4 @@
-use Rattle.std.proofs.Common.{◌≡◌, ap, ◌∙◌, subst, sym, length, map}
+use Rattle.std.proofs.Common.{◌≡◌, ap, ◌∙◌, sym, length, map}
 use Rattle.arrayvec.proofs.ArrayVecLemmas.{items-with_items}
 use Rattle.sgb_graph.specs.Reverted.{reverted}
 use Rattle.sgb_shell.specs.declared.table.Entry.{Entry}
