@@ -10,10 +10,20 @@ use thiserror::Error;
 pub enum Refusal {
     #[error("no room")]
     NoRoom,
+    #[error("check number is wrong")]
+    CheckWrong,
+    #[error("bad saved graph")]
+    Syntax,
+    #[error("bad specification")]
+    BadSpecs,
+    #[error("length range too wide")]
+    LengthRange,
     #[error("too large")]
     TooLarge,
     #[error("bad operand")]
     BadOperand,
+    #[error("stuck")]
+    Stuck,
 }
 
 impl Refusal {
@@ -23,8 +33,13 @@ impl Refusal {
     {
         match self {
             Refusal::NoRoom => 1,
+            Refusal::CheckWrong => 11,
+            Refusal::Syntax => 20,
+            Refusal::BadSpecs => 30,
+            Refusal::LengthRange => 31,
             Refusal::TooLarge => 40,
             Refusal::BadOperand => 60,
+            Refusal::Stuck => 106,
         }
     }
 
@@ -34,8 +49,13 @@ impl Refusal {
     {
         match self {
             Refusal::NoRoom => "no room",
+            Refusal::CheckWrong => "check number is wrong",
+            Refusal::Syntax => "bad saved graph",
+            Refusal::BadSpecs => "bad specification",
+            Refusal::LengthRange => "length range too wide",
             Refusal::TooLarge => "too large",
             Refusal::BadOperand => "bad operand",
+            Refusal::Stuck => "stuck",
         }
     }
 }
