@@ -8,9 +8,18 @@ pub enum ShellRefusal {
     /// 1: memory was wanted and not given.
     #[error("no room")]
     NoRoom,
+    /// 11: a saved graph ends with another check number than its lines have.
+    #[error("check number is wrong")]
+    CheckWrong,
+    /// 20: a text is no saved graph.
+    #[error("bad saved graph")]
+    Syntax,
     /// 30: a number is outside its range.
     #[error("bad specification")]
     BadSpecs,
+    /// 31: a range of lengths has too many values for one uniform number.
+    #[error("length range too wide")]
+    LengthRange,
     /// 40: a limit would be passed.
     #[error("too large")]
     TooLarge,
@@ -38,6 +47,9 @@ pub enum ShellRefusal {
     /// 105: as many commands stand as a journal holds.
     #[error("journal is full")]
     JournalFull,
+    /// 106: a random graph found no place for all its arcs within its attempts.
+    #[error("stuck")]
+    Stuck,
 }
 
 impl ShellRefusal {
@@ -50,7 +62,10 @@ impl ShellRefusal {
     {
         match self {
             ShellRefusal::NoRoom => 1,
+            ShellRefusal::CheckWrong => 11,
+            ShellRefusal::Syntax => 20,
             ShellRefusal::BadSpecs => 30,
+            ShellRefusal::LengthRange => 31,
             ShellRefusal::TooLarge => 40,
             ShellRefusal::NoGraph => 50,
             ShellRefusal::BadOperand => 60,
@@ -60,6 +75,7 @@ impl ShellRefusal {
             ShellRefusal::NothingToUndo => 103,
             ShellRefusal::NothingToRedo => 104,
             ShellRefusal::JournalFull => 105,
+            ShellRefusal::Stuck => 106,
         }
     }
 
@@ -69,7 +85,10 @@ impl ShellRefusal {
     {
         match self {
             ShellRefusal::NoRoom => "no room",
+            ShellRefusal::CheckWrong => "check number is wrong",
+            ShellRefusal::Syntax => "bad saved graph",
             ShellRefusal::BadSpecs => "bad specification",
+            ShellRefusal::LengthRange => "length range too wide",
             ShellRefusal::TooLarge => "too large",
             ShellRefusal::NoGraph => "no such graph",
             ShellRefusal::BadOperand => "bad operand",
@@ -79,6 +98,7 @@ impl ShellRefusal {
             ShellRefusal::NothingToUndo => "nothing to undo",
             ShellRefusal::NothingToRedo => "nothing to redo",
             ShellRefusal::JournalFull => "journal is full",
+            ShellRefusal::Stuck => "stuck",
         }
     }
 }
