@@ -1,0 +1,341 @@
+#!/usr/bin/env python3
+"""Tries the edits of crates/NAME/edits/: each turns what a function does, and the prover has to refuse it there.
+
+    edits.py [NAME..]
+
+An edit is written as those in must-fail/ are. Many are tried at a time, at most one for a function: they are laid on one
+copy of the crate, the copy is checked over the work that `rt check` kept, and each edit must be refused at a function
+whose body it edits. Where no refusal names an edit, or the copy cannot be read, the edit is tried again alone; so is
+one that edits no body, which any refusal may meet. The crates themselves must be proved. With names it tries the
+edits of those crates alone, and tells what refused each.
+"""
+import importlib.machinery
+import importlib.util
+import os
+import re
+import shutil
+import subprocess
+import sys
+import tempfile
+import time
+from concurrent.futures import ThreadPoolExecutor
+
+# What one check takes, at most.
+MEMORY = 3_000_000_000
+
+NAME = re.compile(r'\w+-[\w-]+\.edit')
+FUNCTION = re.compile(r'( *)(?:pub(?:\([^)]*\))? )?(?:\w+ )*fn (\w+)')
+OWNER = re.compile(r'(?:pub(?:\([^)]*\))? )?(?:impl|trait)\b')
+# How antt tells that a proof names what the edit took away, which says nothing of a contract.
+VANISHED = re.compile(r'has no field|is not in scope|has no `|was not admitted')
+
+
+def kit():
+    """The module of the toolchain's command `rt`, which knows the crates, their checks and the form of an edit."""
+    file = os.path.realpath(shutil.which('rt'))
+    loader = importlib.machinery.SourceFileLoader('rt', file)
+    module = importlib.util.module_from_spec(importlib.util.spec_from_loader('rt', loader))
+    loader.exec_module(module)
+    return module
+
+
+rt = kit()
+rtlib = rt.rtlib
+
+
+class Function:
+    """A function of a file: its module, the type and the trait of its impl, its name, and the lines of its body."""
+
+    def __init__(self, module, owner, name, lines):
+        self.module, self.owner, self.name, self.lines = module, owner, name, lines
+        self.key = ('/'.join(module), owner, name)
+
+    def is_at(self, path):
+        """Whether this is the function, or one of its closures, that the check calls by this path."""
+        words = path.split('::')[1:]
+        own = [*([''.join(self.owner)] if self.owner else []), self.name]
+        if 'fn' in words:
+            at = words.index('fn')
+            module, words = words[:at], words[at + 1:at + 1 + len(own)]
+        else:
+            module, words = words[:-len(own)], words[-len(own):]
+        if not self.owner:
+            return module == self.module and words == own
+        # A method stands where its type does, and the name of a trait's impl may tell the trait's arguments too.
+        is_owner = words[:1] == own[:1] or bool(self.owner[1]) and words[0].startswith(own[0])
+        return len(words) == 2 and is_owner and words[1] == own[1]
+
+
+def owner_of(header):
+    """The type and the trait of an impl's header, or the name of a trait."""
+    words, depth = '', 0
+    for letter in header.replace('->', ''):
+        depth += (letter == '<') - (letter == '>')
+        words += letter if depth == 0 and letter not in "<>&'" else ' '
+    words = re.sub(r'\w+::', '', words.split('{')[0].split(' where ')[0]).split()
+    words = words[words.index('impl' if 'impl' in words else 'trait') + 1:]
+    return (words[words.index('for') + 1], words[0]) if 'for' in words else (words[0].rstrip(':'), '')
+
+
+def body_of(lines, start, indent):
+    """The first and the last line of the body of the function that begins here, in the layout of `rt fmt`."""
+    for at in range(start, len(lines)):
+        line = lines[at].rstrip()
+        if not line.startswith(indent) or line[len(indent):len(indent) + 1] in ('', ' '):
+            continue
+        if line.endswith('}'):
+            return at, at
+        if line.endswith('{'):
+            end = next((i for i in range(at + 1, len(lines)) if lines[i].rstrip() == indent + '}'), None)
+            return end and (at, end)
+        if at > start and FUNCTION.match(line):
+            break
+    return None
+
+
+def functions_of(path, text):
+    """The functions with a body in a file, of whose text no comment, string or clause is left."""
+    module = [it for it in path[len('src/'):-len('.rt')].split('/') if it not in ('lib', 'main', 'mod')]
+    lines, owner, found = text.split('\n'), None, []
+    for at, line in enumerate(lines):
+        if OWNER.match(line):
+            owner = owner_of(' '.join(lines[at:at + 4]))
+        head = FUNCTION.match(line)
+        body = head and body_of(lines, at, head[1])
+        if body:
+            found.append(Function(module, owner if head[1] else None, head[2], body))
+    return found
+
+
+class Edit:
+    """An edit of a crate: the texts that it makes, and the functions whose bodies it edits, none where it edits more."""
+
+    def __init__(self, crate, file, functions):
+        self.crate, self.file = crate, file
+        self.label = '%s/edits/%s' % (crate.name, os.path.basename(file))
+        self.texts, self.why = rt.read_edit(file, crate.folder)
+        self.functions = [] if self.why else self.edited(functions)
+        if not self.why and all(rtlib.text_of('%s/%s' % (crate.folder, it)) == text for it, text in self.texts.items()):
+            self.why = 'it changes nothing'
+
+    def edited(self, functions):
+        """The functions whose bodies hold the edit's texts, each sought in what the pairs before it made."""
+        found, path, texts = {}, None, {}
+        for line in rtlib.text_of(self.file).split('\n'):
+            if line.startswith('file: '):
+                path = line[len('file: '):].strip()
+                texts.setdefault(path, rtlib.text_of('%s/%s' % (self.crate.folder, path)))
+            elif line.startswith('old: '):
+                before, old, after = texts[path].partition(line[len('old: '):])
+                at = before.count('\n')
+                inside = [it for it in functions.get(path, []) if it.lines[0] <= at <= it.lines[1]]
+                if not inside:
+                    return []
+                found[inside[-1].key] = inside[-1]
+            elif line.startswith('new:'):
+                texts[path] = before + line[len('new:'):].removeprefix(' ') + after
+        return [*found.values()]
+
+
+def edits_of(crate):
+    """The edits of a crate, and what lies beside them."""
+    folder = '%s/edits' % crate.folder
+    names = sorted(os.listdir(folder)) if os.path.isdir(folder) else []
+    unread = [it for it in names if not NAME.fullmatch(it) or not os.path.isfile('%s/%s' % (folder, it))]
+    if not names:
+        return [], []
+    texts = {os.path.relpath(file, crate.folder): text for file, text in rtlib.blanked(crate.folder).items()}
+    functions = {path: functions_of(path, text) for path, text in texts.items() if path.endswith('.rt')}
+    return [Edit(crate, '%s/%s' % (folder, it), functions) for it in names if it not in unread], unread
+
+
+def groups_of(edits):
+    """The edits in groups with at most one edit a function, and each that edits no body in one of its own."""
+    groups = []
+    for edit in edits:
+        keys = {it.key for it in edit.functions}
+        fit = next((keys_of for keys_of, _ in groups if keys and keys_of and not keys & keys_of), None)
+        if fit is None:
+            groups.append((keys, [edit]))
+        else:
+            next(edits for keys_of, edits in groups if keys_of is fit).append(edit)
+            fit |= keys
+    return [edits for _, edits in groups]
+
+
+def lay(crate, edits, room):
+    """Lays the edits on a copy of the crate, and returns those that another one keeps off."""
+    for part in rtlib.PARTS:
+        if os.path.isdir('%s/%s' % (crate.folder, part)):
+            shutil.copytree('%s/%s' % (crate.folder, part), '%s/%s' % (room, part))
+    left = []
+    for edit in edits:
+        texts, why = rt.read_edit(edit.file, room)
+        if why:
+            left.append(edit)
+            continue
+        for path, text in texts.items():
+            with open('%s/%s' % (room, path), 'w', encoding='utf-8') as file:
+                file.write(text)
+    return left
+
+
+class Said:
+    """What the check of a copy said."""
+
+    def __init__(self, text, changed):
+        self.lines = text.rstrip('\n').split('\n')
+        self.unread = next((it for it in self.lines if rt.unread(it, changed)), '')
+        if rtlib.STALE.search(text):
+            self.unread = 'the kept work of a library could not be used'
+        if not self.unread and not self.lines[-1].startswith('holes='):
+            self.unread = next((it for it in self.lines if 'error' in it), self.lines[-1])
+        self.told = re.findall(r'(?m)^(?:fn|struct|enum|trait|impl) (\S+): (.*)$', text)
+
+    def refusal(self, crate, path, told):
+        """What of a function was refused, and whether more than a name had vanished; none where nothing was."""
+        if told.startswith('no proof'):
+            goal = re.search(r'did not prove (`[^`]*`)', told)
+            return goal and (goal[1], True)
+        own = path.split('::')[1:]
+        refused = re.findall(r'`Rattle\.%s\.proofs\.%s\.(?:\w+\.)?([^.`]+)`' % (crate, re.escape('.'.join(own))), told)
+        folder = re.escape('/'.join(own))
+        errors = [it for it in self.lines if re.match(r'(?:\./)?proofs/%s/\w+\.antt:\d+:\d+: error' % folder, it)]
+        return ('`%s`' % refused[0], not errors or any(not VANISHED.search(it) for it in errors)) if refused else None
+
+    def judge(self, edit, is_alone):
+        """Whether an edit is refused as it must be, and by what; None where it is not named."""
+        paths = [it for it in self.told if any(function.is_at(it[0]) for function in edit.functions)]
+        if edit.functions and not paths:
+            return False, 'the check has no line of the function that it edits'
+        found = [(it[0], self.refusal(edit.crate.name, *it)) for it in (paths or self.told if is_alone else paths)]
+        found = [(path, it) for path, it in found if it]
+        if not found:
+            return None, ''
+        path, (goal, is_real) = next((it for it in found if it[1][1]), found[0])
+        if not is_real:
+            return False, 'a proof of %s names what it took away, so no contract was tried: keep the names' % path
+        return True, '%s, %s' % (path, goal)
+
+
+def check(crate, edits):
+    """What the check says of the crate with these edits, and those that are not in it."""
+    with tempfile.TemporaryDirectory(prefix='sgb-edits-') as room:
+        left = lay(crate, edits, room)
+        changed = {path for it in edits for path in it.texts}
+        # Each check begins with the work of the proved crate, so no edit meets what another one left.
+        shutil.copytree('%s/out/incremental' % crate.folder, '%s/kept' % room)
+        words = [rtlib.RATTLE, 'check', *crate.words(['--jobs', '1'], keeps=False)]
+        ran = subprocess.run([*GUARD, *words, '--incremental', 'kept', '--allow-holes'], cwd=room, errors='replace',
+                             stdin=subprocess.DEVNULL, stdout=subprocess.PIPE, stderr=subprocess.STDOUT)
+        return Said(ran.stdout, changed), left
+
+
+def try_alone(edit):
+    said, _ = check(edit.crate, [edit])
+    if said.unread:
+        return False, 'it cannot be read, so no contract was tried: ' + said.unread[:200]
+    well, why = said.judge(edit, True)
+    if well is None:
+        refused = [path for path, told in said.told if said.refusal(edit.crate.name, path, told)]
+        why = 'it is refused at %s, and not where it edits' % refused[0] if refused else 'NOT REFUSED: the contract allows it'
+        if not refused and any('could not tell' in told for _, told in said.told):
+            why = 'antt could not tell'
+    return bool(well), why
+
+
+def try_group(edits):
+    """Tries the edits of a group, and returns what came of each, with the number of checks."""
+    if len(edits) == 1:
+        return {edits[0]: try_alone(edits[0])}, 1
+    said, left = check(edits[0].crate, edits)
+    found, checks = {}, 1
+    if said.unread:
+        halves = [edits[:len(edits) // 2], edits[len(edits) // 2:]]
+    else:
+        judged = {it: said.judge(it, False) for it in edits if it not in left}
+        found = {it: told for it, told in judged.items() if told[0]}
+        halves = [[it] for it in edits if it not in found]
+    for half in halves:
+        more, count = try_group(half)
+        found.update(more)
+        checks += count
+    return found, checks
+
+
+def prove(crate):
+    """Proves a crate over its kept work, and returns whether it is proved."""
+    ran = subprocess.run(['rt', 'check'], cwd=crate.folder, stdin=subprocess.DEVNULL, stdout=subprocess.PIPE,
+                         stderr=subprocess.STDOUT, errors='replace')
+    is_proved = ran.returncode == 0 and re.search(r'(?m)^logic=proved ', ran.stdout)
+    if not is_proved:
+        print('\n'.join(ran.stdout.rstrip('\n').split('\n')[-12:]))
+    return bool(is_proved)
+
+
+def workers():
+    """How many checks run side by side, RT_JOBS where it is set."""
+    jobs = os.environ.get('RT_JOBS', '')
+    return int(jobs) if jobs.isdigit() and int(jobs) else max(1, min(rt.processors(), rt.free() // MEMORY))
+
+
+def timed(call, *given):
+    start = time.time()
+    return call(*given), time.time() - start
+
+
+class Tally:
+    def __init__(self, tells_all):
+        self.tells_all, self.passed, self.failed = tells_all, 0, 0
+
+    def tell(self, well, label, why):
+        self.passed, self.failed = self.passed + well, self.failed + (not well)
+        if self.tells_all or not well:
+            print('%s: %s%s' % (label, 'refused, as it must be: ' if well else '', why), flush=True)
+
+    def try_all(self, pool, crates):
+        """Proves the crates, lowest first, and tries the edits of each; one line a crate."""
+        running = []
+        for crate in crates:
+            edits, unread = edits_of(crate)
+            for it in unread:
+                self.tell(False, '%s/edits/%s' % (crate.name, it), 'no edit: those are named FUNCTION-what_is_wrong.edit')
+            for it in [it for it in edits if it.why]:
+                self.tell(False, it.label, it.why)
+            good, is_proved, took = [it for it in edits if not it.why], True, 0
+            if good:
+                is_proved, took = timed(prove, crate)
+            if not is_proved:
+                self.tell(False, crate.name, 'the crate is not proved, so none of its %d edits was tried' % len(good))
+                continue
+            if edits or unread:
+                # The largest groups first: the checks of a crate begin while the next one is proved.
+                tried = [pool.submit(timed, try_group, it) for it in groups_of(good)]
+                running.append((crate, len(edits) + len(unread), took, tried))
+        for crate, count, took, tried in running:
+            checks, spent, before = 0, 0, self.passed
+            for (found, more), seconds in [it.result() for it in tried]:
+                checks, spent = checks + more, spent + seconds
+                for edit, (well, why) in sorted(found.items(), key=lambda it: it[0].label):
+                    self.tell(well, edit.label, why)
+            print('%s: %d of %d edits refused, %d checks of %.0f s in all, after %.0f s for its proof'
+                  % (crate.name, self.passed - before, count, checks, spent, took), flush=True)
+
+
+def main():
+    names = sys.argv[1:]
+    global GUARD
+    GUARD = rtlib.guarded()
+    crates = sorted(rtlib.crates_below(os.getcwd()), key=lambda it: len(it.below()))
+    unknown = {*names} - {it.name for it in crates}
+    tally = Tally(bool(names))
+    for it in sorted(unknown):
+        tally.tell(False, it, 'no crate has this name')
+    with ThreadPoolExecutor(workers()) as pool:
+        tally.try_all(pool, [it for it in crates if not names or it.name in names])
+    print('edits: %d passed, %d failed' % (tally.passed, tally.failed))
+    return 1 if tally.failed else 0
+
+
+if __name__ == '__main__':
+    sys.exit(main())
