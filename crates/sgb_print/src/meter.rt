@@ -1,7 +1,7 @@
 //! A reader and a writer that remember whether a call failed. Contracts tell faults by that.
 ghost use Rattle.std.specs.Prelude.{◌≡◌, ◌+◌, ◌<◌, ◌^◌, false, length, IfOk, is_err, ◌||◌};
 ghost use Rattle.std.specs.Io.{ReadsAtMost, WritesAtMost};
-ghost use Rattle.std.specs.Io.KnownBytes.{ReadConsumes, WriteAppends};
+ghost use Rattle.std.specs.Io.KnownBytes.{ReadConsumes, WriteAppends, Keeps};
 
 use std::io::{Read, Write};
 use std::marker::Model;
@@ -119,6 +119,20 @@ impl<W: Write> MeteredWriter<W> {
         match self.inner.write(bytes) {
             Ok(count) if count > 0 => Ok(count),
             _ => {
+                self.failed = true;
+                Err(Failed)
+            }
+        }
+    }
+
+    /// Hands on what the writer holds back, by the writer's own flush. Its bytes stay, also where that fails.
+    pub fn flush(&mut self) -> Result<(), Failed>
+        ensures failed { self.new.failed ≡ (self.old.failed || is_err result) }
+        ensures bytes { Keeps (W.contents self.old.inner) (W.contents self.new.inner) }
+    {
+        match self.inner.flush() {
+            Ok(()) => Ok(()),
+            Err(_) => {
                 self.failed = true;
                 Err(Failed)
             }
