@@ -1,0 +1,67 @@
+//! Graphs that are built by insertions.
+
+use crate::looks::{has_counts, has_id, has_label, is_arc};
+use sgb_graph::{Builder, Graph, Refusal, Text, Types, Util, VertexNo};
+use std::alloc::Global;
+use std::test::Fail;
+
+fn begun(alloc: Global, directed: bool) -> Result<Builder, Refusal> {
+    let id = Text::new(alloc, b"two")?;
+    if id.bytes().len() > 160 {
+        return Err(Refusal::TooLarge);
+    }
+    Ok(Builder::new(alloc, id, Types::none(), directed))
+}
+
+fn push_vertex(alloc: Global, builder: &mut Builder, label: &[u8]) -> Result<(), Refusal> {
+    let fields = [
+        Util::Int(0),
+        Util::Int(2),
+        Util::Zero,
+        Util::Zero,
+        Util::Zero,
+        Util::Zero,
+    ];
+    builder.push_vertex(Text::new(alloc, label)?, fields)
+}
+
+fn insert(builder: &mut Builder, from: u32, to: u32, len: i64) -> Result<(), Refusal> {
+    let n = builder.graph().n();
+    if from >= n || to >= n {
+        return Err(Refusal::BadOperand);
+    }
+    builder.insert(VertexNo(from), VertexNo(to), len)
+}
+
+// Two vertices, a and b, and one insertion between them.
+fn two_vertices(alloc: Global, directed: bool) -> Result<Graph, Refusal> {
+    let mut builder = begun(alloc, directed)?;
+    builder.reserve_vertices(2)?;
+    builder.reserve(1)?;
+    push_vertex(alloc, &mut builder, b"a")?;
+    push_vertex(alloc, &mut builder, b"b")?;
+    insert(&mut builder, 1, 0, 9)?;
+    Ok(builder.finish())
+}
+
+// Where a growth is refused, the graph is asked for once more.
+#[test]
+fn an_edge_is_inserted(rt: HostRuntime) -> Result<(), Fail> {
+    let graph = match two_vertices(rt.alloc(), false) {
+        Err(Refusal::NoRoom) => two_vertices(rt.alloc(), false)?,
+        made => made?,
+    };
+    assert!(rt; has_id(&graph, b"two"));
+    assert!(rt; has_label(&graph, 1, b"b"));
+    assert!(rt; has_counts(&graph, 2, 2));
+    assert!(rt; is_arc(&graph, 1, 1, 0, 9));
+    Ok(())
+}
+
+#[test]
+fn an_arc_is_inserted(rt: HostRuntime) -> Result<(), Fail> {
+    let graph = two_vertices(rt.alloc(), true)?;
+    assert!(rt; has_counts(&graph, 1, 1));
+    assert!(rt; is_arc(&graph, 0, 1, 0, 9));
+    Ok(())
+}

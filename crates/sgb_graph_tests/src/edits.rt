@@ -1,0 +1,70 @@
+//! Edits whose deltas are not kept, and edits that are undone at once.
+
+use crate::looks::{is_hole, lists};
+use sgb_graph::{ArcNo, Graph, Place, Refusal, Util, VertexNo};
+use std::alloc::Global;
+
+/// A new arc's number.
+pub fn arc(graph: &mut Graph, from: u32, to: u32, len: i64) -> Result<u32, Refusal> {
+    let (number, _delta) = graph.new_arc(VertexNo(from), VertexNo(to), len)?;
+    Ok(number.0)
+}
+
+/// A new edge's first number.
+pub fn edge(graph: &mut Graph, from: u32, to: u32, len: i64) -> Result<u32, Refusal> {
+    let (number, _delta) = graph.new_edge(VertexNo(from), VertexNo(to), len)?;
+    Ok(number.0)
+}
+
+/// Cuts an arc.
+pub fn cut(graph: &mut Graph, number: u32) -> Result<(), Refusal> {
+    let _delta = graph.cut(ArcNo(number))?;
+    Ok(())
+}
+
+/// Gives a field a value.
+pub fn set(graph: &mut Graph, place: Place, value: Util) -> Result<(), Refusal> {
+    let _delta = graph.set_util(place, value)?;
+    Ok(())
+}
+
+/// A graph of so many vertices, of which the first has an arc of length k to vertex k, for k from 1.
+pub fn star(alloc: Global, n: u32) -> Result<Graph, Refusal> {
+    let mut graph = Graph::new(alloc, n)?;
+    for to in 1..n {
+        arc(&mut graph, 0, to, i64::from(to))?;
+    }
+    Ok(graph)
+}
+
+/// Makes an arc and takes it back; answers its number.
+pub fn arc_and_back(graph: &mut Graph, from: u32, to: u32) -> Result<u32, Refusal> {
+    let (number, delta) = graph.new_arc(VertexNo(from), VertexNo(to), 1)?;
+    graph.revert(delta);
+    Ok(number.0)
+}
+
+/// Makes an edge and takes it back; answers whether its first vertex listed these numbers between.
+pub fn edge_and_back(
+    graph: &mut Graph,
+    from: u32,
+    to: u32,
+    numbers: &[u32],
+) -> Result<bool, Refusal> {
+    let (_number, delta) = graph.new_edge(VertexNo(from), VertexNo(to), 5)?;
+    let seen = lists(graph, from, numbers);
+    graph.revert(delta);
+    Ok(seen)
+}
+
+/// Cuts an arc and takes the cut back; answers how many arcs lived between, where there was a hole.
+pub fn cut_and_back(graph: &mut Graph, number: u32) -> Result<Option<u32>, Refusal> {
+    let delta = graph.cut(ArcNo(number))?;
+    let live = if is_hole(graph, number) {
+        Some(graph.m())
+    } else {
+        None
+    };
+    graph.revert(delta);
+    Ok(live)
+}

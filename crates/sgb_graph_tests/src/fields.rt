@@ -1,0 +1,159 @@
+//! Utility fields, labels, ids and letters.
+
+use crate::edits::{arc, cut, set};
+use crate::looks::{has_counts, has_id, has_label, is_arc};
+use sgb_graph::{
+    ArcField, ArcNo, Graph, GraphDelta, Place, Refusal, Text, Types, Util, VertexField, VertexNo,
+};
+use std::alloc::Global;
+use std::test::Fail;
+
+const FIELD: Place = Place::Vertex(VertexNo(0), VertexField::U);
+
+// The first vertex has a loop.
+fn one_loop(alloc: Global) -> Result<Graph, Refusal> {
+    let mut graph = Graph::new(alloc, 1)?;
+    arc(&mut graph, 0, 0, 1)?;
+    Ok(graph)
+}
+
+#[test]
+fn a_field_names_what_is_there(rt: HostRuntime) -> Result<(), Fail> {
+    let mut graph = Graph::new(rt.alloc(), 1)?;
+    assert!(rt; set(&mut graph, FIELD, Util::Arc(ArcNo(0))) == Err(Refusal::BadOperand));
+    arc(&mut graph, 0, 0, 1)?;
+    set(&mut graph, FIELD, Util::Arc(ArcNo(0)))?;
+    assert!(rt; set(&mut graph, FIELD, Util::Vertex(VertexNo(1))) == Err(Refusal::BadOperand));
+    Ok(())
+}
+
+// Whether the arc 0 is refused a cut while a field of its own names it, which is then taken back.
+fn is_kept_by_its_own_field(graph: &mut Graph) -> Result<bool, Refusal> {
+    let place = Place::Arc(ArcNo(0), ArcField::A);
+    let own = graph.set_util(place, Util::Arc(ArcNo(0)))?;
+    let refused = graph.cut(ArcNo(0)).is_err();
+    if refused {
+        graph.revert(own);
+    }
+    Ok(refused)
+}
+
+#[test]
+fn a_named_arc_is_not_cut(rt: HostRuntime) -> Result<(), Fail> {
+    let mut graph = one_loop(rt.alloc())?;
+    assert!(rt; is_kept_by_its_own_field(&mut graph)?);
+    cut(&mut graph, 0)?;
+    assert!(rt; has_counts(&graph, 1, 0));
+    Ok(())
+}
+
+// Whether the field held nothing before it got the value.
+fn was_zero(graph: &mut Graph, value: Util) -> Result<bool, Refusal> {
+    let old = graph.set_util(FIELD, value)?;
+    Ok(matches!(old, GraphDelta::SetUtil(_, Util::Zero)))
+}
+
+// Whether the field held a text before it got the value.
+fn was_text(graph: &mut Graph, value: Util) -> Result<bool, Refusal> {
+    let old = graph.set_util(FIELD, value)?;
+    Ok(matches!(old, GraphDelta::SetUtil(_, Util::Text(_))))
+}
+
+#[test]
+fn values_are_kept(rt: HostRuntime) -> Result<(), Fail> {
+    let mut graph = Graph::new(rt.alloc(), 1)?;
+    assert!(rt; was_zero(&mut graph, Util::Int(0))?);
+    assert!(rt; was_zero(&mut graph, Util::Text(Text::new(rt.alloc(), b"")?))?);
+    assert!(rt; was_zero(&mut graph, Util::Text(Text::new(rt.alloc(), b"y")?))?);
+    assert!(rt; was_text(&mut graph, Util::Zero)?);
+    assert!(rt; was_zero(&mut graph, Util::Int(7))?);
+    assert!(rt; is_seven(&graph));
+    Ok(())
+}
+
+fn is_seven(graph: &Graph) -> bool {
+    graph.n() > 0 && matches!(graph.util(FIELD), Util::Int(7))
+}
+
+// Gives the graph an id, and takes it back; answers how long the id was between.
+fn id_and_back(graph: &mut Graph, id: Text) -> Result<usize, Refusal> {
+    let delta = graph.set_id(id)?;
+    let len = graph.id().len();
+    graph.revert(delta);
+    Ok(len)
+}
+
+#[test]
+fn ids_have_a_limit(rt: HostRuntime) -> Result<(), Fail> {
+    let mut graph = Graph::new(rt.alloc(), 1)?;
+    let long = vec![in rt.alloc(); b'a'; 161]?;
+    let refused = id_and_back(&mut graph, Text::new(rt.alloc(), &long)?);
+    assert!(rt; refused == Err(Refusal::BadOperand));
+    assert!(rt; id_and_back(&mut graph, Text::new(rt.alloc(), &long[..160])?)? == 160);
+    assert!(rt; has_id(&graph, b"gb_new_graph(1)"));
+    Ok(())
+}
+
+fn set_label(graph: &mut Graph, vertex: u32, label: Text) -> Result<(), Refusal> {
+    let _delta = graph.set_label(VertexNo(vertex), label)?;
+    Ok(())
+}
+
+#[test]
+fn labels_are_set(rt: HostRuntime) -> Result<(), Fail> {
+    let mut graph = Graph::new(rt.alloc(), 1)?;
+    set_label(&mut graph, 0, Text::new(rt.alloc(), b"a name")?)?;
+    assert!(rt; has_label(&graph, 0, b"a name"));
+    let refused = set_label(&mut graph, 1, Text::new(rt.alloc(), b"x")?);
+    assert!(rt; refused == Err(Refusal::BadOperand));
+    Ok(())
+}
+
+fn set_len(graph: &mut Graph, number: u32, len: i64) -> Result<(), Refusal> {
+    let _delta = graph.set_len(ArcNo(number), len)?;
+    Ok(())
+}
+
+#[test]
+fn lengths_are_set(rt: HostRuntime) -> Result<(), Fail> {
+    let mut graph = one_loop(rt.alloc())?;
+    set_len(&mut graph, 0, -9)?;
+    assert!(rt; is_arc(&graph, 0, 0, 0, -9));
+    assert!(rt; set_len(&mut graph, 1, 1) == Err(Refusal::BadOperand));
+    Ok(())
+}
+
+// Whether the graph is honest where the field has this letter and this value.
+fn is_honest_with(graph: &mut Graph, letter: u8, value: Util) -> Result<bool, Refusal> {
+    let mut letters = [b'Z'; 14];
+    letters[0] = letter;
+    if let Some(types) = Types::new(&letters) {
+        let _old = graph.set_types(types);
+    }
+    let delta = graph.set_util(FIELD, value)?;
+    let honest = graph.is_honest();
+    graph.revert(delta);
+    Ok(honest)
+}
+
+#[test]
+fn letters_allow_values(rt: HostRuntime) -> Result<(), Fail> {
+    let mut graph = one_loop(rt.alloc())?;
+    let vertex = VertexNo(0);
+    for (letter, value, honest) in [
+        (b'Z', Util::Zero, true),
+        (b'Z', Util::Int(1), false),
+        (b'I', Util::Int(2), true),
+        (b'I', Util::Vertex(vertex), false),
+        (b'V', Util::Vertex(vertex), true),
+        (b'V', Util::Int(1), true),
+        (b'V', Util::Int(2), false),
+        (b'A', Util::Arc(ArcNo(0)), true),
+        (b'A', Util::Vertex(vertex), false),
+        (b'S', Util::Text(Text::new(rt.alloc(), b"a")?), true),
+        (b'S', Util::Int(1), false),
+    ] {
+        assert!(rt; is_honest_with(&mut graph, letter, value)? == honest);
+    }
+    Ok(())
+}

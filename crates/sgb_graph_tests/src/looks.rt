@@ -1,0 +1,51 @@
+//! How a graph looks: questions that promise nothing, so that the proof of a test stays short.
+
+use sgb_graph::{ArcNo, ArcView, Graph, Tip, VertexNo};
+
+/// Whether a vertex lists these numbers.
+pub fn lists(graph: &Graph, vertex: u32, numbers: &[u32]) -> bool {
+    if vertex >= graph.n() {
+        return false;
+    }
+    let mut wanted = numbers.iter();
+    for number in graph.arcs(VertexNo(vertex)) {
+        match wanted.next() {
+            Some(want) if *want == number.0 => {}
+            _ => return false,
+        }
+    }
+    wanted.next().is_none()
+}
+
+/// Whether the arc of this number lives and is this one.
+pub fn is_arc(graph: &Graph, number: u32, owner: u32, tip: u32, len: i64) -> bool {
+    if number >= graph.made() {
+        return false;
+    }
+    let want = ArcView {
+        owner: VertexNo(owner),
+        tip: Tip::To(VertexNo(tip)),
+        len,
+    };
+    graph.arc(ArcNo(number)) == Some(want)
+}
+
+/// Whether the number was given out, and its arc was cut.
+pub fn is_hole(graph: &Graph, number: u32) -> bool {
+    number < graph.made() && graph.arc(ArcNo(number)).is_none()
+}
+
+/// Whether so many numbers were given out, and so many arcs live.
+pub fn has_counts(graph: &Graph, made: u32, live: u32) -> bool {
+    graph.made() == made && graph.m() == live
+}
+
+/// Whether the id has these bytes.
+pub fn has_id(graph: &Graph, id: &[u8]) -> bool {
+    graph.id() == id
+}
+
+/// Whether a vertex has this label.
+pub fn has_label(graph: &Graph, vertex: u32, label: &[u8]) -> bool {
+    vertex < graph.n() && graph.label(VertexNo(vertex)) == label
+}

@@ -1,0 +1,51 @@
+//! Arcs with their other halves.
+
+use crate::edits::{arc, edge};
+use sgb_graph::{ArcNo, Graph, Refusal, VertexNo};
+use std::test::Fail;
+
+#[test]
+fn edges_are_paired(rt: HostRuntime) -> Result<(), Fail> {
+    let mut graph = Graph::new(rt.alloc(), 2)?;
+    assert!(rt; graph.is_paired());
+    edge(&mut graph, 1, 0, 1)?;
+    assert!(rt; graph.is_paired());
+    for _ in 0..2u32 {
+        edge(&mut graph, 1, 1, 1)?;
+        assert!(rt; graph.is_paired());
+    }
+    arc(&mut graph, 0, 1, 1)?;
+    assert!(rt; !graph.is_paired());
+    Ok(())
+}
+
+// Whether the graph is paired while this arc is cut.
+fn is_paired_without(graph: &mut Graph, number: u32) -> Result<bool, Refusal> {
+    let delta = graph.cut(ArcNo(number))?;
+    let paired = graph.is_paired();
+    graph.revert(delta);
+    Ok(paired)
+}
+
+// Whether the graph is paired while it has this arc too.
+fn is_paired_with(graph: &mut Graph, from: u32, to: u32) -> Result<bool, Refusal> {
+    let (_number, delta) = graph.new_arc(VertexNo(from), VertexNo(to), 1)?;
+    let paired = graph.is_paired();
+    graph.revert(delta);
+    Ok(paired)
+}
+
+#[test]
+fn a_half_alone_is_told(rt: HostRuntime) -> Result<(), Fail> {
+    let mut graph = Graph::new(rt.alloc(), 2)?;
+    edge(&mut graph, 1, 0, 1)?;
+    edge(&mut graph, 1, 1, 1)?;
+    for number in 0..4u32 {
+        assert!(rt; !is_paired_without(&mut graph, number)?);
+    }
+    assert!(rt; graph.is_paired());
+    assert!(rt; !is_paired_with(&mut graph, 0, 0)?);
+    assert!(rt; !is_paired_with(&mut graph, 0, 1)?);
+    assert!(rt; graph.is_paired());
+    Ok(())
+}
