@@ -75,13 +75,13 @@ laid_of : (part : ArcPart) (o : Option ArcOf) → IfSome o (IsArcOf part) → If
 laid_of part None x = tt
 laid_of part (Some e) x = record { tip = x.tip; len = x.len }
 
-pub lays_of : (p : Parts) (h : GraphOf) → Builds p h → Lays p.vertices.items p.arcs.items h
+pub lays_of : (p : Parts) (h : GraphOf) → Builds p h → Lays p.vertices p.arcs h
 lays_of p h b =
     record {
       n = b.n;
       made = b.made;
       lists = λ w low. (b.vertices w low).arcs;
-      arcs = λ k. laid_of (arc_part p.arcs.items k) (arc_at h k) (b.arcs k);
+      arcs = λ k. laid_of (arc_part p.arcs k) (arc_at h k) (b.arcs k);
       graph = b.graph;
     }
 
@@ -110,32 +110,32 @@ range_all : (q : ℕ → Bool) (a n : ℕ) → ((k : ℕ) → q k ≡ true) → 
 range_all q a zero each = refl
 range_all q a (suc n) each = and_from (q a) (list_all q (range_with_len (a + 1) n)) (each a) (range_all q (a + 1) n each)
 
-record_named : (p : Parts) (g h : GraphOf) (k : ℕ) → SameNames g h → Builds p h → can_name_at g p.arcs.items k ≡ true
+record_named : (p : Parts) (g h : GraphOf) (k : ℕ) → SameNames g h → Builds p h → can_name_at g p.arcs k ≡ true
 record_named p g h k same b =
     elim (cases_Bool (has_arc g k)) [
       | inl live ↦
           let alive : has_arc h k ≡ true = same.live k ∙ live in
           let e = arc_or no_arc (arc_at h k) in
           let entry : arc_at h k ≡ Some e = some_entry (arc_at h k) alive in
-          let part : IsArcOf (arc_part p.arcs.items k) e = subst (λ o. IfSome o (IsArcOf (arc_part p.arcs.items k))) entry (b.arcs k) in
+          let part : IsArcOf (arc_part p.arcs k) e = subst (λ o. IfSome o (IsArcOf (arc_part p.arcs k))) entry (b.arcs k) in
           let arc : IsArc (n_of h) h.entries e = subst (λ o. IfSome o (IsArc (n_of h) h.entries)) entry (b.graph.arcs k None (made_of_live h k alive)) in
-          ap (λ x. cond x (can_name_each g (arc_part p.arcs.items k).fields) true) live
-          ∙ each_there g h (arc_part p.arcs.items k).fields e.fields same part.fields arc.values
-      | inr hole ↦ ap (λ x. cond x (can_name_each g (arc_part p.arcs.items k).fields) true) hole
+          ap (λ x. cond x (can_name_each g (arc_part p.arcs k).fields) true) live
+          ∙ each_there g h (arc_part p.arcs k).fields e.fields same part.fields arc.values
+      | inr hole ↦ ap (λ x. cond x (can_name_each g (arc_part p.arcs k).fields) true) hole
     ]
 
-pub all_named : (p : Parts) (g h : GraphOf) → Lays p.vertices.items p.arcs.items g → Builds p h → can_name_all g p.fields p.vertices.items p.arcs.items ≡ true
+pub all_named : (p : Parts) (g h : GraphOf) → Lays p.vertices p.arcs g → Builds p h → can_name_all g p.fields p.vertices p.arcs ≡ true
 all_named p g h x b =
-    let same : SameNames g h = lays_same p.vertices.items p.arcs.items g h x (lays_of p h b) in
+    let same : SameNames g h = lays_same p.vertices p.arcs g h x (lays_of p h b) in
     let own : can_name_each g p.fields ≡ true = each_there g h p.fields h.fields same b.fields b.graph.values in
-    let vertices : can_name_vertices g p.vertices.items ≡ true =
-    all_parts g p.vertices.items
+    let vertices : can_name_vertices g p.vertices ≡ true =
+    all_parts g p.vertices
     (λ v low.
     let there : v < n_of h = omega (arith, b.n) in
-    each_there g h (vertex_part p.vertices.items v).fields (vertex_at h v).fields same (b.vertices v there).fields (b.graph.vertices v no_vertex there).values) in
-    let arcs : can_name_arcs g p.arcs.items ≡ true = range_all (can_name_at g p.arcs.items) 0 (length p.arcs.items) (λ k. record_named p g h k same b) in
-    ap (λ a. a && can_name_vertices g p.vertices.items && can_name_arcs g p.arcs.items) own
-    ∙ (ap (λ a. true && a && can_name_arcs g p.arcs.items) vertices ∙ ap (λ a. true && true && a) arcs)
+    each_there g h (vertex_part p.vertices v).fields (vertex_at h v).fields same (b.vertices v there).fields (b.graph.vertices v no_vertex there).values) in
+    let arcs : can_name_arcs g p.arcs ≡ true = range_all (can_name_at g p.arcs) 0 (length p.arcs) (λ k. record_named p g h k same b) in
+    ap (λ a. a && can_name_vertices g p.vertices && can_name_arcs g p.arcs) own
+    ∙ (ap (λ a. true && a && can_name_arcs g p.arcs) vertices ∙ ap (λ a. true && true && a) arcs)
 
 -- what the steps leave is the graph of the parts
 part_filled : (part : ArcPart) (o : Option ArcOf) → IfSome o (IsLaid part) → IfSome (filled_entry part.fields o) (IsArcOf part)
@@ -145,11 +145,11 @@ part_filled part (Some e) x = record { tip = x.tip; len = x.len; fields = refl }
 abbrev whole : Parts → GraphOf → GraphOf
 whole p g = record g { id = p.id; types = p.types; fields = map stored p.fields }
 
-pub builds : (p : Parts) (g1 g2 g3 g4 g5 g6 : GraphOf) → Lays p.vertices.items p.arcs.items g1 → FillsVertices p.vertices.items g1 g2 → FillsArcs p.arcs.items g2 g3
+pub builds : (p : Parts) (g1 g2 g3 g4 g5 g6 : GraphOf) → Lays p.vertices p.arcs g1 → FillsVertices p.vertices g1 g2 → FillsArcs p.arcs g2 g3
     → g4 ≡ record g3 { fields = map stored p.fields } → g5 ≡ record g4 { types = p.types } → g6 ≡ record g5 { id = p.id } → IsGraph g6 → Builds p g6
 builds p g1 g2 g3 g4 g5 g6 x y z e4 e5 e6 sound =
-    let vs = p.vertices.items in
-    let rs = p.arcs.items in
+    let vs = p.vertices in
+    let rs = p.arcs in
     let all : g6 ≡ whole p g3 =
     e6 ∙ (ap (λ (g : GraphOf). record g { id = p.id }) (e5 ∙ ap (λ (g : GraphOf). record g { types = p.types }) e4)) in
     let n : n_of (whole p g3) ≡ n_of g1 = ap length z.vertices ∙ y.n in
@@ -171,7 +171,7 @@ builds p g1 g2 g3 g4 g5 g6 x y z e4 e5 e6 sound =
     })
 
 -- too many vertices or records, or too long an id
-pub too_many : (p : Parts) (n m : ℕ) (e : Refusal) → n ≡ length p.vertices.items → m ≡ length p.arcs.items → (e ≡ NoRoom) ⊎ ((e ≡ BadOperand) × ((65535 < n) ⊎ (1000000 < m)))
+pub too_many : (p : Parts) (n m : ℕ) (e : Refusal) → n ≡ length p.vertices → m ≡ length p.arcs → (e ≡ NoRoom) ⊎ ((e ≡ BadOperand) × ((65535 < n) ⊎ (1000000 < m)))
     → (e ≡ NoRoom) ⊎ ((e ≡ BadOperand) × ((g : GraphOf) → Builds p g → ⊥))
 too_many p n m e ns ms (inl room) = inl room
 too_many p n m e ns ms (inr bad) =
@@ -183,7 +183,7 @@ too_many p n m e ns ms (inr bad) =
       ],
     )
 
-pub not_laid : (p : Parts) (e : Refusal) → RefusesToLay p.vertices.items p.arcs.items e → (e ≡ NoRoom) ⊎ ((e ≡ BadOperand) × ((g : GraphOf) → Builds p g → ⊥))
+pub not_laid : (p : Parts) (e : Refusal) → RefusesToLay p.vertices p.arcs e → (e ≡ NoRoom) ⊎ ((e ≡ BadOperand) × ((g : GraphOf) → Builds p g → ⊥))
 not_laid p e (inl room) = inl room
 not_laid p e (inr bad) = inr (bad.0, λ g b. bad.1 g (lays_of p g b))
 
@@ -210,10 +210,10 @@ named_moved g us vs ws rs ts r b vertices arcs is now =
     ap (λ l. can_name_all g us l ts) (sym vertices) ∙ (ap (can_name_all g us vs) (sym arcs) ∙ (sym is ∙ now))
 
 -- a value that names nothing there is in no graph of the parts
-pub unnamed_refused : (p : Parts) (g : GraphOf) (vs : List VertexPart) (rs : List ArcPart) (r : Bool) → Lays p.vertices.items p.arcs.items g → vs ≡ p.vertices.items → rs ≡ p.arcs.items → r ≡ can_name_all g p.fields vs rs → r ≡ false
+pub unnamed_refused : (p : Parts) (g : GraphOf) (vs : List VertexPart) (rs : List ArcPart) (r : Bool) → Lays p.vertices p.arcs g → vs ≡ p.vertices → rs ≡ p.arcs → r ≡ can_name_all g p.fields vs rs → r ≡ false
     → (h : GraphOf) → Builds p h → ⊥
 unnamed_refused p g vs rs r x vertices arcs is bad h b =
-    let no' = named_moved g p.fields vs p.vertices.items rs p.arcs.items r false vertices arcs is bad in
+    let no' = named_moved g p.fields vs p.vertices rs p.arcs r false vertices arcs is bad in
     let yes' = all_named p g h x b in
     cc
 
@@ -223,12 +223,12 @@ pub record NamedParts (g : GraphOf) (us : List Util) (vs : List VertexPart) (rs 
   pub vertices : can_name_vertices g vs ≡ true
   pub arcs : can_name_arcs g rs ≡ true
 
-pub named_parts : (p : Parts) (g : GraphOf) (vs : List VertexPart) (rs : List ArcPart) (r : Bool) → vs ≡ p.vertices.items → rs ≡ p.arcs.items → r ≡ can_name_all g p.fields vs rs → r ≡ true → NamedParts g p.fields p.vertices.items p.arcs.items
+pub named_parts : (p : Parts) (g : GraphOf) (vs : List VertexPart) (rs : List ArcPart) (r : Bool) → vs ≡ p.vertices → rs ≡ p.arcs → r ≡ can_name_all g p.fields vs rs → r ≡ true → NamedParts g p.fields p.vertices p.arcs
 named_parts p g vs rs r vertices arcs is good =
-    let all = named_moved g p.fields vs p.vertices.items rs p.arcs.items r true vertices arcs is good in
+    let all = named_moved g p.fields vs p.vertices rs p.arcs r true vertices arcs is good in
     let a = can_name_each g p.fields in
-    let b = can_name_vertices g p.vertices.items in
-    let x = and_parts (a && b) (can_name_arcs g p.arcs.items) all in
+    let b = can_name_vertices g p.vertices in
+    let x = and_parts (a && b) (can_name_arcs g p.arcs) all in
     let y = and_parts a b x.0 in
     record { own = y.0; vertices = y.1; arcs = x.1 }
 
@@ -267,7 +267,7 @@ pub builds_one : (p : Parts) (g h : GraphOf) → Builds p g → Builds p h → g
 builds_one p g h b c =
     let x = lays_of p g b in
     let y = lays_of p h c in
-    let same = lays_same p.vertices.items p.arcs.items g h x y in
+    let same = lays_same p.vertices p.arcs g h x y in
     same_graph g h (b.id ∙ sym c.id) (b.types ∙ sym c.types) (b.fields ∙ sym c.fields)
     (same_lists g.vertices h.vertices (b.n ∙ sym c.n)
     (λ v d low.
@@ -275,10 +275,10 @@ builds_one p g h b c =
     let k = b.vertices v low in
     let l = c.vertices v there in
     get_or_default g.vertices v d no_vertex low
-    ∙ (same_vertex (vertex_at g v) (vertex_at h v) (k.label ∙ sym l.label) (k.fields ∙ sym l.fields) (lists_same p.vertices.items p.arcs.items g h v x y low)
+    ∙ (same_vertex (vertex_at g v) (vertex_at h v) (k.label ∙ sym l.label) (k.fields ∙ sym l.fields) (lists_same p.vertices p.arcs g h v x y low)
     ∙ get_or_default h.vertices v no_vertex d there)))
     (same_lists g.entries h.entries (b.made ∙ sym c.made)
     (λ k d low.
     get_or_default g.entries k d None low
-    ∙ (same_arc (arc_part p.arcs.items k) (arc_at g k) (arc_at h k) (sym (same.live k)) (b.arcs k) (c.arcs k)
+    ∙ (same_arc (arc_part p.arcs k) (arc_at g k) (arc_at h k) (sym (same.live k)) (b.arcs k) (c.arcs k)
     ∙ get_or_default h.entries k None d (omega (arith, b.made, c.made)))))

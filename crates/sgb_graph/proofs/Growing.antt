@@ -1,8 +1,8 @@
 -- Lemmas on graphs that are built by insertions.
-use Rattle.std.proofs.Common.{◌≡◌, ◌<◌, ◌+◌, ◌*◌, ℕ, ℤ, List, [], ◌∷◌, ◌++◌, length, Bool, true, false, Result, Ok, Err, None, Some, ◌⊎◌, inl, inr, refl, sym, ap, ◌∙◌, arith, set, nat_le, ◌&&◌, min, max}
+use Rattle.std.proofs.Common.{◌≡◌, ◌<◌, ◌≤◌, ◌+◌, ◌*◌, ℕ, ℤ, List, [], ◌∷◌, ◌++◌, length, Bool, true, false, Result, Ok, Err, None, Some, ◌⊎◌, inl, inr, refl, sym, ap, ◌∙◌, arith, set, nat_le, ◌&&◌, min, max}
 use Rattle.std.proofs.lemmas.List.{length-set, length_push}
 use Rattle.std.proofs.lemmas.List.Sums.{fold-append}
-use Rattle.std.proofs.lemmas.Bool.{cases_Bool, lt-ltb, leb-false, and_from}
+use Rattle.std.proofs.lemmas.Bool.{cases_Bool, lt-ltb, leb-false, leb-true, and_from}
 use Rattle.sgb_graph.specs.declared.builder.Builder.{Builder}
 use Rattle.sgb_graph.specs.declared.refusal.Refusal.{Refusal}
 use Rattle.sgb_graph.specs.declared.refusal.Refusal.TheVariants.{NoRoom, TooLarge, BadOperand}
@@ -139,3 +139,21 @@ edge_too_many b e r is from to (inr refused) =
           let same : made_of (grown b (e ∷ [])).graph ≡ made_of b.graph + 2 = ap (λ (c : Builder). made_of c.graph) (grown_edge b e is) ∙ made-with_edge b.graph e.from e.to e.len in
           inr (cc, omega (arith, same, leb-false (made_of b.graph + 2) 1000000 many))
     ]
+
+-- an insertion that is not refused gives out no number too many
+unrefused : (both few : Bool) → refusal_unless both BadOperand (refusal_unless few TooLarge None) ≡ None → few ≡ true
+unrefused false few is = absurd cc
+unrefused true false is = absurd cc
+unrefused true true is = refl
+
+pub arc_room : (b : Builder) (e : Insertion) → b.directed ≡ true → refusal_of_arc b.graph e.from e.to ≡ None → made_of (grown b (e ∷ [])).graph ≤ 1000000
+arc_room b e is accepted =
+    let few = unrefused (has_vertex b.graph e.from && has_vertex b.graph e.to) (nat_le (made_of b.graph + 1) 1000000) accepted in
+    let same : made_of (grown b (e ∷ [])).graph ≡ made_of b.graph + 1 = ap (λ (c : Builder). made_of c.graph) (grown_arc b e is) ∙ made-with_arc b.graph e.from e.to e.len in
+    omega (arith, same, leb-true (made_of b.graph + 1) 1000000 few)
+
+pub edge_room : (b : Builder) (e : Insertion) → b.directed ≡ false → refusal_of_edge b.graph e.from e.to ≡ None → made_of (grown b (e ∷ [])).graph ≤ 1000000
+edge_room b e is accepted =
+    let few = unrefused (has_vertex b.graph e.from && has_vertex b.graph e.to) (nat_le (made_of b.graph + 2) 1000000) accepted in
+    let same : made_of (grown b (e ∷ [])).graph ≡ made_of b.graph + 2 = ap (λ (c : Builder). made_of c.graph) (grown_edge b e is) ∙ made-with_edge b.graph e.from e.to e.len in
+    omega (arith, same, leb-true (made_of b.graph + 2) 1000000 few)

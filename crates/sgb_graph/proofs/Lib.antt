@@ -18,6 +18,7 @@ pub mod NewLemmas
 pub mod PairedLemmas
 pub mod Pushing
 pub mod PutBack
+pub mod Reading
 pub mod Reverting
 pub mod SetLemmas
 pub mod Shows

@@ -43,8 +43,8 @@ pub record Builds (p : Parts) (g : GraphOf) : Type 0 where
   pub id : g.id ≡ p.id
   pub types : g.types ≡ p.types
   pub fields : g.fields ≡ map stored p.fields
-  pub n : n_of g ≡ length p.vertices.items
-  pub vertices : (v : ℕ) → v < n_of g → IsVertexOf p.arcs.items (vertex_part p.vertices.items v) (vertex_at g v)
-  pub made : made_of g ≡ length p.arcs.items
-  pub arcs : (k : ℕ) → IfSome (arc_at g k) (IsArcOf (arc_part p.arcs.items k))
+  pub n : n_of g ≡ length p.vertices
+  pub vertices : (v : ℕ) → v < n_of g → IsVertexOf p.arcs (vertex_part p.vertices v) (vertex_at g v)
+  pub made : made_of g ≡ length p.arcs
+  pub arcs : (k : ℕ) → IfSome (arc_at g k) (IsArcOf (arc_part p.arcs k))
   pub graph : IsGraph g

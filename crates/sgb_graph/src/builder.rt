@@ -1,7 +1,8 @@
 //! Graphs that are built by a run of insertions.
 ghost use Rattle.std.specs.Prelude.{◌≡◌, ◌≤◌, ◌<◌, ◌⊎◌, ◌∷◌, [], length, All, IfErr, OnOk, OnErr};
+ghost use Rattle.std.specs.Result.{IsErrOf};
 
-use crate::{Graph, Refusal, Text, Types, Util, VertexNo};
+use crate::{Graph, Label, Refusal, Text, Types, Util, VertexNo};
 use std::alloc::Global;
 
 /// A graph under construction, and whether an insertion makes an arc or an edge.
@@ -12,10 +13,10 @@ pub struct Builder {
 }
 
 impl Builder {
-    ghost use Rattle.sgb_graph.specs.Graph.{IsGraph, n_of};
+    ghost use Rattle.sgb_graph.specs.Graph.{IsGraph, n_of, made_of};
     ghost use Rattle.sgb_graph.specs.New.{bare_graph};
     ghost use Rattle.sgb_graph.specs.Vertex.{NamesNothing, new_vertex, with_vertex_last};
-    ghost use Rattle.sgb_graph.specs.Builder.{Inserts, insertion};
+    ghost use Rattle.sgb_graph.specs.Builder.{Inserts, insertion, grown};
 
     /// A graph without vertices and arcs. An insertion makes an arc where `directed` is true, and else an edge.
     pub fn new(alloc: Global, id: Text, types: Types, directed: bool) -> Builder
@@ -40,18 +41,19 @@ impl Builder {
 
     /// Adds a vertex, last. Its fields name nothing; the number 0 and the empty text are stored as `Zero`. Refused
     /// `TooLarge` where there are 65,535 vertices.
-    pub fn push_vertex(&mut self, label: Text, fields: [Util; 6]) -> Result<(), Refusal>
+    pub fn push_vertex(&mut self, label: Label, fields: [Util; 6]) -> Result<(), Refusal>
         requires { All NamesNothing fields }
         ensures ok { OnOk result
             (self.new ≡ record self.old { graph = with_vertex_last self.old.graph (new_vertex label fields) }) }
         ensures err { IfErr result
             (λ e. (e ≡ Refusal.NoRoom) ⊎ ((e ≡ Refusal.TooLarge) × (65535 ≤ n_of self.old.graph))) }
+        ensures room { IsErrOf result Refusal.NoRoom → n_of self.old.graph < 65535 }
         ensures unchanged { OnErr result (self.new ≡ self.old) }
     {
         self.graph.push_vertex(label, fields)
     }
 
-    /// Takes room for so many vertices more.
+    /// Takes room for so many vertices more, or for as many as a graph may still have.
     pub fn reserve_vertices(&mut self, count: usize) -> Result<(), Refusal>
         ensures same { self.new ≡ self.old }
         ensures err { IfErr result (λ e. e ≡ Refusal.NoRoom) }
@@ -59,7 +61,7 @@ impl Builder {
         self.graph.reserve_vertices(count)
     }
 
-    /// Takes room for so many insertions more.
+    /// Takes room for so many insertions more, or for as many as the graph may still take.
     pub fn reserve(&mut self, count: usize) -> Result<(), Refusal>
         ensures same { self.new ≡ self.old }
         ensures err { IfErr result (λ e. e ≡ Refusal.NoRoom) }
@@ -72,12 +74,15 @@ impl Builder {
     }
 
     /// Inserts an arc from one vertex to another, or an edge between them. Refused `TooLarge` where the graph would
-    /// give out more than 1,000,000 numbers.
+    /// give out more than 1,000,000 numbers; the graph is then as it was, also where there was room for half an edge.
     #[inline]
     pub fn insert(&mut self, from: VertexNo, to: VertexNo, len: i64) -> Result<(), Refusal>
         requires from { from.0 < n_of self.old.graph }
         requires to { to.0 < n_of self.old.graph }
-        ensures { Inserts self.old self.new (insertion from.0 to.0 len ∷ []) result }
+        ensures value { Inserts self.old self.new (insertion from.0 to.0 len ∷ []) result }
+        ensures room { IsErrOf result Refusal.NoRoom →
+            made_of (grown self.old (insertion from.0 to.0 len ∷ [])).graph ≤ 1000000 }
+        ensures unchanged { OnErr result (self.new ≡ self.old) }
     {
         if self.directed {
             self.graph.new_arc(from, to, len)?;

@@ -2,7 +2,7 @@
 use crate::{ArcNo, Label, Place, Text, Tip, Types, Util, VertexNo};
 
 /// What `Graph::revert` needs to undo one edit.
-#[derive(Debug, Drop)]
+#[derive(Debug, Drop, PartialEq, Eq)]
 pub enum GraphDelta {
     /// The number of a new arc.
     NewArc(ArcNo),
@@ -23,7 +23,7 @@ pub enum GraphDelta {
 }
 
 /// An arc that was cut: its number, its owner, its place in the owner's list, and the arc.
-#[derive(Debug, Drop)]
+#[derive(Debug, Drop, PartialEq, Eq)]
 pub struct CutArc {
     pub number: ArcNo,
     pub owner: VertexNo,

@@ -23,7 +23,7 @@ pub enum Tip {
 /// The value of a utility field.
 ///
 /// A graph holds neither `Int(0)` nor an empty text: both are stored as `Zero`.
-#[derive(Debug, Drop)]
+#[derive(Debug, Drop, PartialEq, Eq)]
 pub enum Util {
     Zero,
     Int(i64),
@@ -67,6 +67,27 @@ pub enum Place {
     Vertex(VertexNo, VertexField),
     Arc(ArcNo, ArcField),
     Graph(GraphField),
+}
+
+impl Util {
+    ghost use Rattle.sgb_graph.specs.Honest.{is_allowed};
+
+    /// The letter allows the value: `Z` allows `Zero` alone, `I` a number, `V` a vertex or the number 1, `A` an arc or
+    /// the number 1, `S` a text, and each of them `Zero`.
+    #[inline]
+    pub fn is_allowed(&self, letter: u8) -> bool
+        ensures { result ≡ is_allowed letter self.now }
+    {
+        match self {
+            Util::Zero => true,
+            Util::Int(number) => {
+                letter == b'I' || ((letter == b'V' || letter == b'A') && *number == 1)
+            }
+            Util::Vertex(_) => letter == b'V',
+            Util::Arc(_) => letter == b'A',
+            Util::Text(_) => letter == b'S',
+        }
+    }
 }
 
 impl VertexField {

@@ -227,7 +227,7 @@ fn graph_of_insertions(alloc: Global) -> Result<Graph, Refusal> {
             Util::Zero,
             Util::Zero,
         ];
-        builder.push_vertex(Text::new(alloc, label.as_slice())?, fields)?;
+        builder.push_vertex(Label::new(Text::new(alloc, label.as_slice())?), fields)?;
     }
     if builder.graph().n() == 2 {
         builder.insert(VertexNo(1), VertexNo(0), 9)?;
@@ -278,7 +278,7 @@ fn two_vertices(
     let mut vertices = Vec::new(alloc);
     for (label, first) in [(b"a", first), (b"b", second)] {
         vertices.push(VertexPart {
-            label: Text::new(alloc, label.as_slice())?,
+            label: Label::new(Text::new(alloc, label.as_slice())?),
             fields: [
                 Util::Int(0),
                 Util::Zero,
@@ -314,8 +314,8 @@ fn two_vertices(
             Util::Zero,
             Util::Zero,
         ],
-        vertices,
-        arcs,
+        vertices: Items::from_vec(vertices),
+        arcs: Items::from_vec(arcs),
     })
 }
 
@@ -347,10 +347,24 @@ fn parts_of_no_graph(rt: HostRuntime) -> Result<(), Fail> {
 
 #[test]
 fn a_chain_that_returns(rt: HostRuntime) -> Result<(), Fail> {
-    let mut parts = two_vertices(rt.alloc(), Some(ArcNo(0)), Some(ArcNo(1)))?;
-    for part in parts.arcs.iter_mut() {
+    let Parts {
+        id,
+        types,
+        fields,
+        vertices,
+        arcs,
+    } = two_vertices(rt.alloc(), Some(ArcNo(0)), Some(ArcNo(1)))?;
+    let mut arcs = arcs.into_vec();
+    for part in arcs.iter_mut() {
         part.next = Some(ArcNo(0));
     }
+    let parts = Parts {
+        id,
+        types,
+        fields,
+        vertices,
+        arcs: Items::from_vec(arcs),
+    };
     let refused = Graph::build(rt.alloc(), parts).err();
     assert_eq!(rt; refused, Some(Refusal::BadOperand));
     Ok(())

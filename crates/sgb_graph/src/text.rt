@@ -1,5 +1,6 @@
 //! Texts: the bytes of ids, labels and fields.
 ghost use Rattle.std.specs.Prelude.{◌≡◌, IfOk, IfErr, ◌⊎◌, []};
+ghost use Rattle.std.specs.Result.{IsErrOf};
 ghost use Rattle.std.specs.List.{list_all};
 ghost use Rattle.sgb_graph.specs.Text.{IsText, is_text_byte};
 
@@ -24,12 +25,35 @@ impl Model for Text {
     ghost invariant = { λ t. IsText t.bytes.value.items };
 }
 
+impl PartialEq for Text {
+    ghost use Rattle.std.proofs.Common.{rules};
+    ghost use Rattle.std.specs.Prelude.{◌==◌};
+    ghost use Rattle.std.specs.Cmp.Lexicographic.{pointwise};
+    ghost use Rattle.std.specs.Cmp.Rules.{comparing};
+
+    ghost eq = { pointwise ◌==◌ };
+
+    ghost laws = { Prim.search (comparing, rules) };
+
+    fn eq(&self, other: &Text) -> bool {
+        self.bytes() == other.bytes()
+    }
+}
+
+impl Eq for Text {
+    ghost use Rattle.std.proofs.Common.{rules};
+    ghost use Rattle.std.specs.Cmp.Rules.{comparing};
+
+    ghost laws = { Prim.search (comparing, rules) };
+}
+
 impl Text {
     /// The text of these bytes, copied. Refused `BadOperand` where they are no text.
     pub fn new(alloc: Global, bytes: &[u8]) -> Result<Text, Refusal>
         ensures ok { IfOk result (λ t. (t ≡ bytes.now) × IsText bytes.now) }
         ensures err { IfErr result
             (λ e. (e ≡ Refusal.NoRoom) ⊎ ((e ≡ Refusal.BadOperand) × ¬ IsText bytes.now)) }
+        ensures room { IsErrOf result Refusal.NoRoom → IsText bytes.now }
     {
         if bytes.len() > 4095 || !are_text_bytes(bytes) {
             return Err(Refusal::BadOperand);
@@ -87,6 +111,28 @@ impl Model for Label {
     ghost view = { λ l. unwrap_or l.text [] };
 
     ghost invariant = { λ l. IsText (unwrap_or l.text []) };
+}
+
+impl PartialEq for Label {
+    ghost use Rattle.std.proofs.Common.{rules};
+    ghost use Rattle.std.specs.Prelude.{◌==◌};
+    ghost use Rattle.std.specs.Cmp.Lexicographic.{pointwise};
+    ghost use Rattle.std.specs.Cmp.Rules.{comparing};
+
+    ghost eq = { pointwise ◌==◌ };
+
+    ghost laws = { Prim.search (comparing, rules) };
+
+    fn eq(&self, other: &Label) -> bool {
+        self.bytes() == other.bytes()
+    }
+}
+
+impl Eq for Label {
+    ghost use Rattle.std.proofs.Common.{rules};
+    ghost use Rattle.std.specs.Cmp.Rules.{comparing};
+
+    ghost laws = { Prim.search (comparing, rules) };
 }
 
 impl Label {

@@ -61,7 +61,7 @@ impl<'a> Iterator for Arcs<'a> {
 
 // The arc that follows this one in its list.
 #[inline]
-fn next_after(slots: &[Option<Slot>], number: ArcNo) -> Option<ArcNo>
+pub(super) fn next_after(slots: &[Option<Slot>], number: ArcNo) -> Option<ArcNo>
     requires { number.0 < length slots.now }
     ensures { result ≡ next_at slots.now number.0 }
 {

@@ -28,6 +28,8 @@ impl Graph {
             vertices,
             arcs,
         } = parts;
+        let vertices = vertices.into_vec();
+        let arcs = arcs.into_vec();
         let mut graph = begin(alloc, vertices.len(), arcs.len())?;
         graph.lay_all(alloc, &vertices, &arcs)?;
         if !graph.can_name_all(&fields, &vertices, &arcs) {

@@ -7,7 +7,7 @@ ghost use Rattle.sgb_graph.specs.Fill.{SameNames, can_name_each, can_name_at, ca
 
 use super::Graph;
 use crate::{
-    ArcField, ArcNo, ArcPart, GraphField, Place, Text, Util, VertexField, VertexNo, VertexPart,
+    ArcField, ArcNo, ArcPart, GraphField, Label, Place, Util, VertexField, VertexNo, VertexPart,
 };
 
 impl Graph {
@@ -129,14 +129,13 @@ impl Graph {
         self.fill(Place::Arc(number, ArcField::B), b);
     }
 
-    fn fill_label(&mut self, vertex: VertexNo, label: Text)
+    fn fill_label(&mut self, vertex: VertexNo, label: Label)
         requires { vertex.0 < n_of self.old }
         ensures value { self.new ≡ with_label self.old vertex.0 label }
         ensures names { SameNames self.old self.new }
         ensures sound { IsGraph self.new }
     {
-        let done = self.set_label(vertex, label);
-        prove!(done.is_ok());
+        let _ = self.swap_label(vertex, label);
     }
 
     // Gives one field a value that it may hold.

@@ -2,7 +2,7 @@
 ghost use Rattle.std.specs.Prelude.{◌≡◌};
 ghost use Rattle.std.specs.List.{list_all};
 ghost use Rattle.sgb_graph.specs.Exchange.{fields_in};
-ghost use Rattle.sgb_graph.specs.Honest.{is_allowed, are_allowed, is_honest};
+ghost use Rattle.sgb_graph.specs.Honest.{are_allowed, is_honest};
 
 use super::{Graph, Slot, Vertex};
 use crate::Util;
@@ -55,17 +55,5 @@ fn are_allowed(letters: &[u8], values: &[Util]) -> bool
     values
         .iter()
         .zip(letters)
-        .all(|(value, letter)| is_allowed(*letter, value))
-}
-
-fn is_allowed(letter: u8, value: &Util) -> bool
-    ensures { result ≡ is_allowed letter value.now }
-{
-    match value {
-        Util::Zero => true,
-        Util::Int(number) => letter == b'I' || ((letter == b'V' || letter == b'A') && *number == 1),
-        Util::Vertex(_) => letter == b'V',
-        Util::Arc(_) => letter == b'A',
-        Util::Text(_) => letter == b'S',
-    }
+        .all(|(value, letter)| value.is_allowed(*letter))
 }

@@ -1,5 +1,6 @@
 //! New arcs and edges.
 ghost use Rattle.std.specs.Prelude.{◌≡◌, ◌⊎◌, ◌∷◌, ◌++◌, ◌+◌, ◌<◌, ◌≤◌, [], length, vec_len, vec_capacity, IfOk, IfErr, OnOk, OnErr, None, Some};
+ghost use Rattle.std.specs.Result.{IsErrOf};
 ghost use Rattle.sgb_graph.specs.Graph.{IsGraph, made_of};
 ghost use Rattle.sgb_graph.specs.Edit.{with_arc, with_edge, refusal_of_arc, refusal_of_edge};
 ghost use Rattle.sgb_graph.specs.Delta.{LeftBy};
@@ -28,6 +29,7 @@ impl Graph {
         ensures graph { OnOk result (self.new ≡ with_arc self.old from.0 to.0 len) }
         ensures left { IfOk result (λ p. LeftBy self.old p.1 self.new) }
         ensures err { IfErr result (λ e. (e ≡ Refusal.NoRoom) ⊎ (refusal_of_arc self.old from.0 to.0 ≡ Some e)) }
+        ensures room { IsErrOf result Refusal.NoRoom → refusal_of_arc self.old from.0 to.0 ≡ None }
         ensures unchanged { OnErr result (self.new ≡ self.old) }
         ensures sound { IsGraph self.new }
     {
@@ -62,6 +64,7 @@ impl Graph {
         ensures graph { OnOk result (self.new ≡ with_edge self.old from.0 to.0 len) }
         ensures left { IfOk result (λ p. LeftBy self.old p.1 self.new) }
         ensures err { IfErr result (λ e. (e ≡ Refusal.NoRoom) ⊎ (refusal_of_edge self.old from.0 to.0 ≡ Some e)) }
+        ensures room { IsErrOf result Refusal.NoRoom → refusal_of_edge self.old from.0 to.0 ≡ None }
         ensures unchanged { OnErr result (self.new ≡ self.old) }
         ensures sound { IsGraph self.new }
     {

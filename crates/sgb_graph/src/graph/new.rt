@@ -1,5 +1,6 @@
 //! Graphs without arcs.
 ghost use Rattle.std.specs.Prelude.{◌≡◌, ◌≤◌, ◌⊎◌, [], ◌∷◌, map, replicate, length, vec_len, All, IfOk, IfErr, None, Some};
+ghost use Rattle.std.specs.Result.{IsErrOf};
 ghost use Rattle.sgb_graph.specs.declared.field.Util.TheVariants.{Zero};
 ghost use Rattle.sgb_graph.specs.Graph.{IsGraph, IsId};
 ghost use Rattle.sgb_graph.specs.Types.{IsTypes};
@@ -18,6 +19,7 @@ impl Graph {
     pub fn new(alloc: Global, n: u32) -> Result<Graph, Refusal>
         ensures ok { IfOk result (λ g. (refusal_of_new n ≡ None) × (g ≡ new_graph n) × IsGraph g) }
         ensures err { IfErr result (λ e. (e ≡ Refusal.NoRoom) ⊎ (refusal_of_new n ≡ Some e)) }
+        ensures room { IsErrOf result Refusal.NoRoom → refusal_of_new n ≡ None }
     {
         if n > MOST_VERTICES {
             return Err(Refusal::TooLarge);

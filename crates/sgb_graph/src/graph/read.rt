@@ -1,12 +1,15 @@
 //! Reading a graph.
-ghost use Rattle.std.specs.Prelude.{◌≡◌, ◌<◌, ◌≤◌, All, IsSome, IfSome, IfNone, None, Some, option_map};
-ghost use Rattle.sgb_graph.specs.Graph.{IsGraph, IsId, n_of, m_of, made_of, label_of, arcs_of, arc_at, has_arc};
+ghost use Rattle.std.specs.Prelude.{◌≡◌, ◌<◌, ◌≤◌, length, All, IsSome, IfSome};
+ghost use Rattle.sgb_graph.specs.Graph.{IsGraph, IsId, IsTip, n_of, m_of, made_of, vertex_at, label_of, arcs_of, arc_at};
 ghost use Rattle.sgb_graph.specs.Text.{IsText};
 ghost use Rattle.sgb_graph.specs.Types.{IsTypes};
-ghost use Rattle.sgb_graph.specs.Edit.{owner_of, util_at};
+ghost use Rattle.sgb_graph.specs.Arena.{slot_at};
+ghost use Rattle.sgb_graph.specs.Exchange.{fields_in};
+ghost use Rattle.sgb_graph.specs.Edit.{owner_of, entry_at};
 
-use super::{Arcs, Graph};
-use crate::{ArcNo, Place, Tip, Types, Util, VertexNo};
+use super::arcs::next_after;
+use super::{Arcs, Graph, Slot};
+use crate::{ArcNo, Tip, Types, Util, VertexNo};
 
 /// A live arc: the vertex that lists it, its tip and its length.
 #[derive(Clone, Copy, Debug, PartialEq, Eq)]
@@ -17,7 +20,7 @@ pub struct ArcView {
 }
 
 impl Graph {
-    ghost use Rattle.sgb_graph.specs.Read.{arc_view};
+    ghost use Rattle.sgb_graph.specs.Read.{arc_view, ShowsEntry, IsNextOf};
 
     /// How many vertices there are.
     #[inline]
@@ -84,6 +87,8 @@ impl Graph {
         ensures value { result ≡ arcs_of self.now vertex.0 }
         ensures live { All (λ k. IsSome (arc_at self.now k)) result }
         ensures within { All (λ k. k < made_of self.now) result }
+        ensures owned { All (λ k. owner_of self.now k ≡ vertex.0) result }
+        ensures few { length result ≤ made_of self.now }
         ensures graph { IsGraph self.now }
     {
         Arcs::new(&self.slots, self.vertices[vertex.0 as usize].first)
@@ -94,6 +99,8 @@ impl Graph {
     pub fn arc(&self, number: ArcNo) -> Option<ArcView>
         requires { number.0 < made_of self.now }
         ensures value { result ≡ arc_view self.now number.0 }
+        ensures tip { IfSome result (λ a. IsTip (n_of self.now) a.tip) }
+        ensures entry { IfSome result (λ a. ShowsEntry (entry_at self.now number.0) a) }
         ensures graph { IsGraph self.now }
     {
         match &self.slots[number.0 as usize] {
@@ -104,5 +111,52 @@ impl Graph {
             }),
             None => None,
         }
+    }
+
+    /// The arc that follows a live one in its owner's list.
+    #[inline]
+    pub fn next_of(&self, number: ArcNo) -> Option<ArcNo>
+        requires { IsSome (arc_at self.now number.0) }
+        ensures { IsNextOf self.now number.0 result }
+    {
+        next_after(&self.slots, number)
+    }
+
+    /// The utility fields of a vertex, in the order of `VertexField`.
+    #[inline]
+    pub fn vertex_fields(&self, vertex: VertexNo) -> &[Util; 6]
+        requires { vertex.0 < n_of self.now }
+        ensures { result.now ≡ (vertex_at self.now vertex.0).fields }
+    {
+        &self.vertices[vertex.0 as usize].fields
+    }
+
+    /// The utility fields of a live arc, in the order of `ArcField`.
+    #[inline]
+    pub fn arc_fields(&self, number: ArcNo) -> &[Util; 2]
+        requires { IsSome (arc_at self.now number.0) }
+        ensures { result.now ≡ (entry_at self.now number.0).fields }
+    {
+        fields_at(&self.slots, number)
+    }
+
+    /// The utility fields of the graph itself, in the order of `GraphField`.
+    #[inline]
+    pub fn graph_fields(&self) -> &[Util; 6]
+        ensures { result.now ≡ self.now.fields }
+    {
+        &self.fields
+    }
+}
+
+// The fields of a live arc.
+#[inline]
+fn fields_at(slots: &[Option<Slot>], number: ArcNo) -> &[Util; 2]
+    requires { IsSome (slot_at slots.now number.0) }
+    ensures { result.now ≡ fields_in (slot_at slots.now number.0) }
+{
+    match &slots[number.0 as usize] {
+        Some(slot) => &slot.fields,
+        None => unreachable!(),
     }
 }

@@ -1,10 +1,10 @@
 //! Setting lengths, fields, labels, the id and the letters.
-ghost use Rattle.std.specs.Prelude.{◌≡◌, ◌<◌, length, IsTrue, IsSome, IfOk, IfErr, OnOk, OnErr, None, Some, slice_set, slice_index_or};
+ghost use Rattle.std.specs.Prelude.{◌≡◌, ◌<◌, ◌≤◌, length, IsTrue, IsSome, IfOk, IfErr, OnOk, OnErr, None, Some, slice_set, slice_index_or};
 ghost use Rattle.sgb_graph.specs.declared.field.Util.TheVariants as utils;
 ghost use Rattle.sgb_graph.specs.Exchange.{fields_in};
-ghost use Rattle.sgb_graph.specs.Graph.{IsGraph, has_arc, label_of};
+ghost use Rattle.sgb_graph.specs.Graph.{IsGraph, n_of, arc_at, has_arc, label_of};
 ghost use Rattle.sgb_graph.specs.Edit.{with_len, with_util, with_label, util_at, entry_at, stored, can_name, has_place, refusal_of_len, refusal_of_util, refusal_of_label, refusal_of_id};
-ghost use Rattle.sgb_graph.specs.Delta.{LeftBy};
+ghost use Rattle.sgb_graph.specs.Delta.{LeftBy, LeftByLen, LeftByLabel, LeftById};
 ghost use Rattle.sgb_graph.specs.Arena.{slot_at};
 ghost use Rattle.sgb_graph.specs.Set.{len_in, with_len_in, IsStorable};
 
@@ -28,8 +28,19 @@ impl Graph {
         if !self.has_arc(number) {
             return Err(Refusal::BadOperand);
         }
-        let old = replace_len(&mut self.slots, number, len);
+        let old = self.swap_len(number, len);
         Ok(GraphDelta::SetLen(number, old))
+    }
+
+    /// Gives an arc of the graph another length, and answers the one that it had. Takes no memory.
+    pub fn swap_len(&mut self, number: ArcNo, len: i64) -> i64
+        requires { IsSome (arc_at self.old number.0) }
+        ensures value { result ≡ (entry_at self.old number.0).len }
+        ensures graph { self.new ≡ with_len self.old number.0 len }
+        ensures left { LeftByLen self.old number result self.new }
+        ensures sound { IsGraph self.new }
+    {
+        replace_len(&mut self.slots, number, len)
     }
 
     /// Gives a utility field another value, where the number 0 and the empty text are stored as `Zero`. Answers what
@@ -72,9 +83,20 @@ impl Graph {
         if vertex.0 >= self.n() {
             return Err(Refusal::BadOperand);
         }
-        let label = Label::new(text);
-        let old = mem::replace(&mut self.vertices[vertex.0 as usize].label, label);
+        let old = self.swap_label(vertex, Label::new(text));
         Ok(GraphDelta::SetLabel(vertex, old))
+    }
+
+    // Gives a vertex another label, and answers the one that it had.
+    pub(super) fn swap_label(&mut self, vertex: VertexNo, label: Label) -> Label
+        requires { vertex.0 < n_of self.old }
+        ensures value { result ≡ label_of self.old vertex.0 }
+        ensures graph { self.new ≡ with_label self.old vertex.0 label }
+        ensures left { LeftByLabel self.old vertex result self.new }
+        ensures sound { IsGraph self.new }
+    {
+        let _ = label.bytes();
+        mem::replace(&mut self.vertices[vertex.0 as usize].label, label)
     }
 
     /// Gives the graph another id. Answers what `revert` needs, and takes no memory. Refused `BadOperand` above 160
@@ -92,8 +114,19 @@ impl Graph {
         if id.bytes().len() > 160 {
             return Err(Refusal::BadOperand);
         }
-        let old = mem::replace(&mut self.id, id);
-        Ok(GraphDelta::SetId(old))
+        Ok(GraphDelta::SetId(self.swap_id(id)))
+    }
+
+    /// Gives the graph another id, and answers the one that it had. Takes no memory.
+    pub fn swap_id(&mut self, id: Text) -> Text
+        requires { length id ≤ 160 }
+        ensures value { result ≡ self.old.id }
+        ensures graph { self.new ≡ record self.old { id = id } }
+        ensures left { LeftById self.old result self.new }
+        ensures sound { IsGraph self.new }
+    {
+        let _ = id.bytes();
+        mem::replace(&mut self.id, id)
     }
 
     /// Gives the graph other letters. Answers what `revert` needs, takes no memory and is never refused.

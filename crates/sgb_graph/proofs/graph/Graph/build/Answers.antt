@@ -1,4 +1,5 @@
-use Rattle.std.proofs.Common.{refl, sym, ◌∙◌, inr}
+use Rattle.std.proofs.Common.{refl, sym, ap, subst, length, ◌∙◌, inr}
+use Rattle.sgb_graph.specs.Fill.{can_name_vertices, can_name_arcs, FillsVertices, FillsArcs}
 use Rattle.std.proofs.lemmas.Result.{err_from_is_err_and}
 use Rattle.sgb_graph.proofs.Filling.{names_then, each-same}
 use Rattle.sgb_graph.proofs.Building.{blank_lays, lays_moved, unnamed_refused, named_parts, arcs-same, filled_names, arcs_filled_names, builds, too_many, not_laid, long_id}
@@ -7,7 +8,7 @@ use Rattle.sgb_graph.proofs.graph.Graph.build.Goals as goal
 pub returns-in_err-graph-clause-err : goal.returns-in_err-graph-clause-err
 returns-in_err-graph-clause-err c =
     let p = err_from_is_err_and c.from_residual.result c.from_residual.ensures.1 in
-    rw (p.1, p.2) (too_many c.args.parts c.len.result c.len-2.result c.in_err-graph.field-0.0 (c.len.ensures ∙ c.args.parts.vertices.ok.0) (c.len-2.ensures ∙ c.args.parts.arcs.ok.0) c.in_err-graph.ensures.err)
+    rw (p.1, p.2) (too_many c.args.parts c.len.result c.len-2.result c.in_err-graph.field-0.0 (c.len.ensures ∙ (c.into_vec-vertices.result.ok.0 ∙ ap length c.into_vec-vertices.ensures)) (c.len-2.ensures ∙ (c.into_vec-arcs.result.ok.0 ∙ ap length c.into_vec-arcs.ensures)) c.in_err-graph.ensures.err)
 
 pub lay_all-requires : goal.lay_all-requires
 lay_all-requires c =
@@ -16,26 +17,28 @@ lay_all-requires c =
 pub returns-in_err-lay_all-clause-err : goal.returns-in_err-lay_all-clause-err
 returns-in_err-lay_all-clause-err c =
     let p = err_from_is_err_and c.from_residual-in_err-lay_all.result c.from_residual-in_err-lay_all.ensures.1 in
-    rw (p.1, p.2) (not_laid c.args.parts c.in_err-lay_all.field-0.0 (rw (← c.deref.ensures.value, ← c.deref-2.ensures.value) c.in_err-lay_all.ensures.err))
+    rw (p.1, p.2) (not_laid c.args.parts c.in_err-lay_all.field-0.0 (rw (← (c.deref.ensures.value ∙ c.into_vec-vertices.ensures), ← (c.deref-2.ensures.value ∙ c.into_vec-arcs.ensures)) c.in_err-lay_all.ensures.err))
 
 pub returns-then-not-can_name_all-clause-err : goal.returns-then-not-can_name_all-clause-err
 returns-then-not-can_name_all-clause-err c =
-    let x = lays_moved _ _ _ _ c.lay_all.new.self c.deref.ensures.value c.deref-2.ensures.value c.in_ok-lay_all.ensures.ok in
-    inr (refl, unnamed_refused c.args.parts c.lay_all.new.self _ _ c.can_name_all.result x c.deref-3.ensures.value c.deref-4.ensures.value c.can_name_all.ensures c.if-not-can_name_all.true)
+    let x = lays_moved _ _ _ _ c.lay_all.new.self (c.deref.ensures.value ∙ c.into_vec-vertices.ensures) (c.deref-2.ensures.value ∙ c.into_vec-arcs.ensures) c.in_ok-lay_all.ensures.ok in
+    inr (refl, unnamed_refused c.args.parts c.lay_all.new.self _ _ c.can_name_all.result x (c.deref-3.ensures.value ∙ c.into_vec-vertices.ensures) (c.deref-4.ensures.value ∙ c.into_vec-arcs.ensures) c.can_name_all.ensures c.if-not-can_name_all.true)
 
 pub fill_vertices-requires-clause-names : goal.fill_vertices-requires-clause-names
 fill_vertices-requires-clause-names c =
-    (named_parts c.args.parts c.lay_all.new.self _ _ c.can_name_all.result c.deref-3.ensures.value c.deref-4.ensures.value c.can_name_all.ensures c.if-not-can_name_all.false).vertices
+    ap (can_name_vertices c.lay_all.new.self) c.into_vec-vertices.ensures
+    ∙ (named_parts c.args.parts c.lay_all.new.self _ _ c.can_name_all.result (c.deref-3.ensures.value ∙ c.into_vec-vertices.ensures) (c.deref-4.ensures.value ∙ c.into_vec-arcs.ensures) c.can_name_all.ensures c.if-not-can_name_all.false).vertices
 
 pub fill_arcs-requires-clause-names : goal.fill_arcs-requires-clause-names
 fill_arcs-requires-clause-names c =
-    arcs-same c.lay_all.new.self c.fill_vertices.new.self c.args.parts.arcs.items (filled_names _ _ _ c.fill_vertices.ensures)
-    ∙ (named_parts c.args.parts c.lay_all.new.self _ _ c.can_name_all.result c.deref-3.ensures.value c.deref-4.ensures.value c.can_name_all.ensures c.if-not-can_name_all.false).arcs
+    arcs-same c.lay_all.new.self c.fill_vertices.new.self c.into_vec-arcs.result.items (filled_names _ _ _ c.fill_vertices.ensures)
+    ∙ ap (can_name_arcs c.lay_all.new.self) c.into_vec-arcs.ensures
+    ∙ (named_parts c.args.parts c.lay_all.new.self _ _ c.can_name_all.result (c.deref-3.ensures.value ∙ c.into_vec-vertices.ensures) (c.deref-4.ensures.value ∙ c.into_vec-arcs.ensures) c.can_name_all.ensures c.if-not-can_name_all.false).arcs
 
 pub fill_own-requires : goal.fill_own-requires
 fill_own-requires c =
     each-same c.lay_all.new.self c.fill_arcs.new.self c.args.parts.fields (names_then _ _ _ (filled_names _ _ _ c.fill_vertices.ensures) (arcs_filled_names _ _ _ c.fill_arcs.ensures))
-    ∙ (named_parts c.args.parts c.lay_all.new.self _ _ c.can_name_all.result c.deref-3.ensures.value c.deref-4.ensures.value c.can_name_all.ensures c.if-not-can_name_all.false).own
+    ∙ (named_parts c.args.parts c.lay_all.new.self _ _ c.can_name_all.result (c.deref-3.ensures.value ∙ c.into_vec-vertices.ensures) (c.deref-4.ensures.value ∙ c.into_vec-arcs.ensures) c.can_name_all.ensures c.if-not-can_name_all.false).own
 
 pub returns-in_err-set_id-clause-err : goal.returns-in_err-set_id-clause-err
 returns-in_err-set_id-clause-err c =
@@ -44,6 +47,8 @@ returns-in_err-set_id-clause-err c =
 
 pub returns-clause-ok : goal.returns-clause-ok
 returns-clause-ok c =
-    let x = lays_moved _ _ _ _ c.lay_all.new.self c.deref.ensures.value c.deref-2.ensures.value c.in_ok-lay_all.ensures.ok in
-    builds c.args.parts c.lay_all.new.self c.fill_vertices.new.self c.fill_arcs.new.self c.fill_own.new.self c.set_types.new.self c.set_id.new.self x c.fill_vertices.ensures c.fill_arcs.ensures
+    let x = lays_moved _ _ _ _ c.lay_all.new.self (c.deref.ensures.value ∙ c.into_vec-vertices.ensures) (c.deref-2.ensures.value ∙ c.into_vec-arcs.ensures) c.in_ok-lay_all.ensures.ok in
+    builds c.args.parts c.lay_all.new.self c.fill_vertices.new.self c.fill_arcs.new.self c.fill_own.new.self c.set_types.new.self c.set_id.new.self x
+    (subst (λ vs. FillsVertices vs c.lay_all.new.self c.fill_vertices.new.self) c.into_vec-vertices.ensures c.fill_vertices.ensures)
+    (subst (λ rs. FillsArcs rs c.fill_vertices.new.self c.fill_arcs.new.self) c.into_vec-arcs.ensures c.fill_arcs.ensures)
     c.fill_own.ensures c.set_types.ensures.graph c.in_ok-set_id.ensures.graph c.in_ok-set_id.ensures.sound

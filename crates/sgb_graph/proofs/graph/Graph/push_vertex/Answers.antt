@@ -16,8 +16,8 @@ invariant_of-self-2 c =
     let storable : All IsStorable (map stored c.args.fields) = subst (All IsStorable) c.stored_six-fields.ensures.value c.stored_six-fields.ensures.storable in
     let six : length (map stored c.args.fields) ≡ 6 = ap length (sym c.stored_six-fields.ensures.value) ∙ c.stored_six-fields.ensures.six in
     let after : Opened b (with_vertex_last g (new_vertex c.args.label c.args.fields)) =
-    grow_opened a b g c.args.label c.args.fields _ (opened a g c.self.view_is c.self.invariant) (omega arith) c.new-label.ensures.text six c.requires storable
-    (vertex_is c.new-label.result c.args.label c.stored_six-fields.result (map stored c.args.fields) c.new-label.ensures.value c.stored_six-fields.ensures.value) refl refl refl refl refl c.in_ok-push.ensures.items in
+    grow_opened a b g c.args.label c.args.fields _ (opened a g c.self.view_is c.self.invariant) (omega arith) c.bytes.ensures.text six c.requires storable
+    (vertex_is c.args.label c.args.label c.stored_six-fields.result (map stored c.args.fields) refl c.stored_six-fields.ensures.value) refl refl refl refl refl c.in_ok-push.ensures.items in
     closed_arena b _ after
 
 pub returns-clause-ok : goal.returns-clause-ok
@@ -28,6 +28,6 @@ returns-clause-ok c =
     let storable : All IsStorable (map stored c.args.fields) = subst (All IsStorable) c.stored_six-fields.ensures.value c.stored_six-fields.ensures.storable in
     let six : length (map stored c.args.fields) ≡ 6 = ap length (sym c.stored_six-fields.ensures.value) ∙ c.stored_six-fields.ensures.six in
     let after : Opened b (with_vertex_last g (new_vertex c.args.label c.args.fields)) =
-    grow_opened a b g c.args.label c.args.fields _ (opened a g c.self.view_is c.self.invariant) (omega arith) c.new-label.ensures.text six c.requires storable
-    (vertex_is c.new-label.result c.args.label c.stored_six-fields.result (map stored c.args.fields) c.new-label.ensures.value c.stored_six-fields.ensures.value) refl refl refl refl refl c.in_ok-push.ensures.items in
+    grow_opened a b g c.args.label c.args.fields _ (opened a g c.self.view_is c.self.invariant) (omega arith) c.bytes.ensures.text six c.requires storable
+    (vertex_is c.args.label c.args.label c.stored_six-fields.result (map stored c.args.fields) refl c.stored_six-fields.ensures.value) refl refl refl refl refl c.in_ok-push.ensures.items in
     closed b _ after
