@@ -1,10 +1,16 @@
 -- What a journal keeps, through its calls.
-use Rattle.std.proofs.Common.{◌≡◌, ℕ, suc, ◌+◌, ◌-◌, ◌<◌, ◌≤◌, List, [], ◌∷◌, ◌++◌, length, get_or, take, drop, refl, sym, ap, ◌∙◌, subst, arith, add-one, Some, None, IsSome}
+use Rattle.std.proofs.Common.{◌≡◌, ℕ, suc, ◌+◌, ◌-◌, ◌<◌, ◌≤◌, List, [], ◌∷◌, ◌++◌, length, get_or, take, drop, refl, sym, ap, ◌∙◌, subst, arith, add-one, Bool, true, Some, None, IsSome}
 use Rattle.std.proofs.lemmas.List.{length-take, length-drop, length_push, take-append-drop, take_all, take_more, drop_all, drop_more}
 use Rattle.sgb_undo.specs.Outcome.{Outcome, Accepted, Refused, on_accepted}
 use Rattle.sgb_undo.specs.Replay.{fold, deltas_of, start_of}
-use Rattle.sgb_undo.specs.History.{History, IsJournal, Applies, Undoes, Redoes}
-use Rattle.sgb_undo.specs.Kept.{LedTo, IsKept, IsSound, history}
+use Rattle.sgb_undo.specs.History.{History, IsJournal, Applies, Undoes, Redoes, FirstMayWant}
+use Rattle.sgb_undo.specs.Private.Kept.{LedTo, IsKept, IsSound, history, places}
+
+-- room in buffers of the same capacities
+pub places-same : {a a' b b' n n' : ℕ} → n' ≡ n → a' ≡ a → b' ≡ b → n < places a b → n' < places a' b'
+places-same {a = a} {a' = a'} {b = b} {n = n} {n' = n'} count first second room =
+    subst (λ k. n' < places a' k) (sym second)
+    (subst (λ k. n' < places k b) (sym first) (subst (λ k. k < places a b) (sym count) room))
 
 -- one more delta at the end leads back first
 pub start_of-push : {M D : Type 0} (before : M → D → M) (n : M) (d : D) (ds : List D) → start_of before n (ds ++ d ∷ []) ≡ start_of before (before n d) ds
@@ -224,6 +230,12 @@ module _ {M C D R F : Type 0} {step : M → C → Outcome M D R F} {before : M �
       let named = subst (λ xs. IsSome (fold step n xs)) (ap (λ j. drop j cs) (sym count) ∙ at_place cs _ _ below at) some in
       let none = subst (λ o. IsSome (on_accepted o (λ v _. fold step v (drop (k + 1) cs)) None)) refused named in
       cc
+
+  -- it is the first to redo
+  pub FirstMayWant-waits : {c : C} {k : ℕ} {h : History M C D} (may_want : M → C → Bool) → IsSound step before can_revert n cs ds limit places → k < length cs → get_or cs k c ≡ c → history before n cs ds k ≡ h → may_want n c ≡ true → FirstMayWant may_want h.machine h.undone
+  FirstMayWant-waits may_want s below at seen want =
+      subst (λ h. FirstMayWant may_want h.machine h.undone) seen
+      (subst (FirstMayWant may_want n) (sym (at_place cs _ _ below at)) want)
 
   length-front : {k : ℕ} → IsSound step before can_revert n cs ds limit places → k ≡ length ds → length (take k cs) ≡ length ds
   length-front {k = k} s count = omega (arith, length-take k cs, length-deltas s)

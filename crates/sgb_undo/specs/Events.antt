@@ -1,6 +1,8 @@
 -- What events make of the standing and the undone commands.
-use Rattle.std.specs.Prelude.{◌≡◌, Bool, true, false, List, [], ◌∷◌, ◌++◌, ⊤, length}
-use Rattle.sgb_undo.specs.History.{History}
+use Rattle.std.specs.Prelude.{◌≡◌, ◌⊎◌, Bool, true, false, List, [], ◌∷◌, ◌++◌, ⊤, length, Some, IsTrue}
+use Rattle.sgb_undo.specs.Outcome.{Outcome, IsRefused}
+use Rattle.sgb_undo.specs.Replay.{fold}
+use Rattle.sgb_undo.specs.History.{History, grows_at, FirstMayWant}
 use Rattle.sgb_undo.specs.declared.runs.Event.{Event}
 use Rattle.sgb_undo.specs.declared.runs.Event.TheVariants.{Apply, Undo, Redo}
 
@@ -37,19 +39,26 @@ module _ {C : Type 0} where
   accepted_of [] bs = []
   accepted_of (e ∷ es) [] = []
 
-  -- Whether the event may be answered so where the lists are these. A command may be refused, and a redo too,
-  -- by the machine or for want of memory; an undo is refused only where nothing stands.
-  abbrev pub MayAnswer : Event C → Bool → List C × List C → Type 0
-  MayAnswer (Apply c) true lists = length lists.0 ≡ 65535 → ⊥
-  MayAnswer (Apply c) false lists = ⊤
-  MayAnswer Undo true lists = lists.0 ≡ [] → ⊥
-  MayAnswer Undo false lists = lists.0 ≡ []
-  MayAnswer Redo true lists = lists.1 ≡ [] → ⊥
-  MayAnswer Redo false lists = ⊤
+module _ {M C D R F : Type 0} (step : M → C → Outcome M D R F) (may_want : M → C → Bool) where
+  -- Whether the event may be answered so where the lists are these and m is the machine's value. A command is refused
+  -- only where as many stand as may, the machine refuses it, it may want for memory, or the journal grows; a redo only
+  -- where nothing is undone or its command may want for memory; an undo where nothing stands.
+  abbrev pub MayAnswer : M → Event C → Bool → List C × List C → Type 0
+  MayAnswer m (Apply c) true lists = length lists.0 ≡ 65535 → ⊥
+  MayAnswer m (Apply c) false lists =
+      (length lists.0 ≡ 65535) ⊎ IsRefused (step m c) ⊎ (may_want m c ≡ true) ⊎ (lists.1 ≡ []) × IsTrue (grows_at (length lists.0))
+  MayAnswer m Undo true lists = lists.0 ≡ [] → ⊥
+  MayAnswer m Undo false lists = lists.0 ≡ []
+  MayAnswer m Redo true lists = lists.1 ≡ [] → ⊥
+  MayAnswer m Redo false lists = (lists.1 ≡ []) ⊎ FirstMayWant may_want m lists.1
+
+  -- the same of the value that the standing commands give from the start
+  abbrev pub IsAnsweredRightly : M → Event C → Bool → List C × List C → Type 0
+  IsAnsweredRightly start e b lists = (m : M) × (fold step start lists.0 ≡ Some m) × MayAnswer m e b lists
 
   -- each event was answered as it may be when its turn came
-  abbrev pub AreAnsweredRightly : List (Event C) → List Bool → List C × List C → Type 0
-  AreAnsweredRightly (e ∷ es) (true ∷ bs) lists = MayAnswer e true lists × AreAnsweredRightly es bs (after e lists)
-  AreAnsweredRightly (e ∷ es) (false ∷ bs) lists = MayAnswer e false lists × AreAnsweredRightly es bs lists
-  AreAnsweredRightly [] bs lists = ⊤
-  AreAnsweredRightly (e ∷ es) [] lists = ⊤
+  abbrev pub AreAnsweredRightly : M → List (Event C) → List Bool → List C × List C → Type 0
+  AreAnsweredRightly start (e ∷ es) (true ∷ bs) lists = IsAnsweredRightly start e true lists × AreAnsweredRightly start es bs (after e lists)
+  AreAnsweredRightly start (e ∷ es) (false ∷ bs) lists = IsAnsweredRightly start e false lists × AreAnsweredRightly start es bs lists
+  AreAnsweredRightly start [] bs lists = ⊤
+  AreAnsweredRightly start (e ∷ es) [] lists = ⊤

@@ -1,5 +1,5 @@
 -- What a contract sees of a journal, and what its calls do to it.
-use Rattle.std.specs.Prelude.{◌≡◌, ◌+◌, ◌≤◌, List, [], ◌∷◌, ◌++◌, length, Some, IsSome}
+use Rattle.std.specs.Prelude.{◌≡◌, ℕ, ◌+◌, ◌≤◌, ◌%◌, ◌==◌, Bool, true, List, [], ◌∷◌, ◌++◌, length, Some, IsSome}
 use Rattle.sgb_undo.specs.Outcome.{Outcome, Accepted}
 use Rattle.sgb_undo.specs.Replay.{fold, deltas_of, start_of}
 
@@ -11,6 +11,15 @@ pub record History (M C D : Type 0) : Type 0 where
   pub undone : List C
   pub deltas : List D
   pub machine : M
+
+-- whether a journal in which so many commands stand, and none is undone, takes memory for the next one
+abbrev pub grows_at : ℕ → Bool
+grows_at n = n % 1024 == 0
+
+-- the first of the undone commands may want for memory at m
+abbrev pub FirstMayWant : {M C : Type 0} → (M → C → Bool) → M → List C → Type 0
+FirstMayWant may_want m [] = ⊥
+FirstMayWant may_want m (c ∷ cs) = may_want m c ≡ true
 
 -- a journal at its beginning
 abbrev pub begun : {M C D : Type 0} → M → History M C D

@@ -1,5 +1,5 @@
 pub mod Outcome
 pub mod Replay
 pub mod History
-pub mod Kept
 pub mod Events
+pub mod Private

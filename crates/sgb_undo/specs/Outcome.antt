@@ -6,6 +6,10 @@ pub data Outcome (M D R F : Type 0) : Type 0 where
   Refused : F → Outcome M D R F
 
 module _ {M D R F : Type 0} where
+  abbrev pub IsRefused : Outcome M D R F → Type 0
+  IsRefused (Accepted n d r) = ⊥
+  IsRefused (Refused r) = Unit {0}
+
   -- what f makes of the value after an accepted command and of its delta, and else the other answer
   abbrev pub on_accepted : {X : Type 0} → Outcome M D R F → (M → D → X) → X → X
   on_accepted (Accepted n d r) f other = f n d

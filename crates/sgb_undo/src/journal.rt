@@ -1,7 +1,9 @@
 //! The journal of a machine.
 
-ghost use Rattle.std.specs.Prelude.{◌≡◌, ◌↔◌, ◌<◌, ◌≤◌, ◌+◌, ◌⊎◌, ⊤, [], length, true, slice_get, vec_len, vec_capacity, Some, OnOk, OnErr, IfOk, IfErr, IsErr, IsErrOf};
+ghost use Rattle.std.specs.Prelude.{◌≡◌, ◌↔◌, ◌<◌, ◌≤◌, ◌+◌, ◌⊎◌, ⊤, [], length, true, slice_get, vec_len, vec_capacity, Some, OnOk, OnErr, IfOk, IfErr, IsErr, IsErrOf, IsTrue};
 ghost use Rattle.sgb_undo.specs.Outcome.{Refused};
+ghost use Rattle.sgb_undo.specs.History.{grows_at};
+ghost use Rattle.sgb_undo.specs.Private.Kept.{places};
 
 use crate::{JournalRefusal, NothingToUndo, Reversible};
 use std::alloc::{AllocError, Global};
@@ -9,6 +11,9 @@ use std::marker::Model;
 
 /// How many commands a journal holds at most, standing and undone together.
 pub const MOST_COMMANDS: usize = 65_535;
+
+/// A journal takes memory for so many commands at least, where a multiple of it stand.
+pub const GROWTH: usize = 1_024;
 
 /// A machine with the commands that it performed.
 ///
@@ -24,18 +29,18 @@ pub struct Journal<M: Reversible> {
 impl<M: Reversible> Model for Journal<M> {
     ghost use Rattle.std.specs.Prelude.{vec_len, vec_capacity};
     ghost use Rattle.sgb_undo.specs.History.{History};
-    ghost use Rattle.sgb_undo.specs.Kept.{history, IsSound};
+    ghost use Rattle.sgb_undo.specs.Private.Kept.{history, places, IsSound};
 
     ghost Value = { History M M.Command M.Delta };
 
     ghost view = { λ j. history M.before j.machine j.commands.items j.deltas.items (vec_len j.deltas) };
 
     ghost invariant = { λ j. IsSound M.step M.before M.can_revert
-        j.machine j.commands.items j.deltas.items 65535 (vec_capacity j.deltas) };
+        j.machine j.commands.items j.deltas.items 65535 (places (vec_capacity j.commands) (vec_capacity j.deltas)) };
 }
 
 impl<M: Reversible> Journal<M> {
-    ghost use Rattle.sgb_undo.specs.History.{begun, IsJournal, Applies, Undoes, Redoes};
+    ghost use Rattle.sgb_undo.specs.History.{begun, grows_at, FirstMayWant, IsJournal, Applies, Undoes, Redoes};
 
     /// A journal in which nothing stands and nothing is undone. It takes no memory.
     pub fn new(alloc: Global, machine: M) -> Self
@@ -51,16 +56,17 @@ impl<M: Reversible> Journal<M> {
 
     /// Performs a command, which then stands last, and forgets the undone ones.
     ///
-    /// Memory is taken only where nothing is undone, before the machine is asked. A command that is
-    /// refused is dropped, and everything stays as it was, the undone commands too.
+    /// The journal takes memory only where nothing is undone and a multiple of [`GROWTH`] stand,
+    /// before the machine is asked. A command that is refused is dropped, and everything stays as it
+    /// was, the undone commands too.
     pub fn apply(&mut self, command: M::Command) -> Result<M::Reply, JournalRefusal<M::Refusal>>
         ensures ok { IfOk result (λ reply. Applies M.step M.before self.old command reply self.new) }
 
-        ensures no_room { IsErrOf result JournalRefusal.NoRoom → self.old.undone ≡ [] }
+        ensures no_room { IsErrOf result JournalRefusal.NoRoom → (self.old.undone ≡ []) × IsTrue (grows_at (length self.old.standing)) }
         ensures full { IsErrOf result JournalRefusal.Full ↔ (length self.old.standing ≡ 65535) }
         ensures nothing { IsErrOf result JournalRefusal.NothingToRedo → ⊥ }
         ensures refused { (r : M.Refusal) → IsErrOf result (JournalRefusal.Machine r)
-            → (M.is_want_of_memory r ≡ true) ⊎ (M.step self.old.machine command ≡ Refused r) }
+            → ((M.is_want_of_memory r ≡ true) × (M.may_want self.old.machine command ≡ true)) ⊎ (M.step self.old.machine command ≡ Refused r) }
 
         ensures start { self.new.start ≡ self.old.start }
         ensures err { OnErr result (self.new ≡ self.old) }
@@ -111,7 +117,8 @@ impl<M: Reversible> Journal<M> {
         ensures nothing { IsErrOf result JournalRefusal.NothingToRedo ↔ (self.old.undone ≡ []) }
         ensures no_room { IsErrOf result JournalRefusal.NoRoom → ⊥ }
         ensures full { IsErrOf result JournalRefusal.Full → ⊥ }
-        ensures refused { (r : M.Refusal) → IsErrOf result (JournalRefusal.Machine r) → M.is_want_of_memory r ≡ true }
+        ensures refused { (r : M.Refusal) → IsErrOf result (JournalRefusal.Machine r)
+            → (M.is_want_of_memory r ≡ true) × FirstMayWant M.may_want self.old.machine self.old.undone }
 
         ensures start { self.new.start ≡ self.old.start }
         ensures err { OnErr result (self.new ≡ self.old) }
@@ -168,21 +175,22 @@ impl<M: Reversible> Journal<M> {
     }
 }
 
-/// Makes a place for one more command and its delta, where each command has its delta and so
-/// nothing is undone.
+/// Makes a place for one more command and its delta. It takes memory only where each command has its
+/// delta, so that nothing is undone, and a multiple of [`GROWTH`] stand.
 fn make_place<C, D>(commands: &mut Vec<C>, deltas: &mut Vec<D>) -> Result<(), AllocError>
     requires within { vec_len deltas.old ≤ vec_len commands.old }
-    requires placed { vec_len commands.old ≤ vec_capacity deltas.old }
+    requires placed { vec_len commands.old ≤ places (vec_capacity commands.old) (vec_capacity deltas.old) }
     ensures commands { commands.new.items ≡ commands.old.items }
     ensures deltas { deltas.new.items ≡ deltas.old.items }
-    ensures place { OnOk result (vec_len deltas.new < vec_capacity commands.new) }
-    ensures placed { OnOk result (vec_len deltas.new < vec_capacity deltas.new) }
-    ensures kept { vec_capacity deltas.old ≤ vec_capacity deltas.new }
+    ensures place { OnOk result (vec_len deltas.new < places (vec_capacity commands.new) (vec_capacity deltas.new)) }
+    ensures kept { places (vec_capacity commands.old) (vec_capacity deltas.old)
+        ≤ places (vec_capacity commands.new) (vec_capacity deltas.new) }
     ensures refused { OnErr result (vec_len deltas.old ≡ vec_len commands.old) }
+    ensures grows { OnErr result (IsTrue (grows_at (vec_len deltas.old))) }
 {
-    if deltas.len() == commands.len() {
-        commands.reserve(1)?;
-        deltas.reserve(1)?;
+    if deltas.len() == commands.len() && deltas.len() % GROWTH == 0 {
+        commands.reserve(GROWTH)?;
+        deltas.reserve(GROWTH)?;
     }
     Ok(())
 }

@@ -11,7 +11,7 @@ mod runs;
 #[cfg(test)]
 mod tests;
 
-pub use journal::{Journal, MOST_COMMANDS};
+pub use journal::{GROWTH, Journal, MOST_COMMANDS};
 pub use refusal::{JournalRefusal, NothingToUndo};
 pub use reversible::Reversible;
 pub use runs::{Event, apply_and_undo, perform_all};

@@ -1,7 +1,7 @@
 //! Why a call of a journal is refused.
 
 /// Why a command is not applied or not redone. `F` is the machine's own refusal.
-#[derive(Debug, Drop)]
+#[derive(Debug, Drop, PartialEq, Eq)]
 pub enum JournalRefusal<F> {
     /// There is no memory for one more command.
     NoRoom,

@@ -27,6 +27,9 @@ pub trait Reversible: Drop {
 
     ghost is_want_of_memory: { Self.Refusal → Bool };
 
+    // Whether the command may want for memory at this value.
+    ghost may_want: { Self → Self.Command → Bool };
+
     /// Performs a command, or refuses it and stays as it was.
     fn apply(
         &mut self,
@@ -35,7 +38,8 @@ pub trait Reversible: Drop {
         ensures accepted { IfOk result (λ a. step self.old command.now ≡ Accepted self.new a.0 a.1) }
         ensures can_revert { IfOk result (λ a. can_revert self.new a.0) }
         ensures before { IfOk result (λ a. before self.new a.0 ≡ self.old) }
-        ensures refused { IfErr result (λ r. (is_want_of_memory r ≡ true) ⊎ (step self.old command.now ≡ Refused r)) }
+        ensures refused { IfErr result (λ r.
+            ((is_want_of_memory r ≡ true) × (may_want self.old command.now ≡ true)) ⊎ (step self.old command.now ≡ Refused r)) }
         ensures err { OnErr result (self.new ≡ self.old) };
 
     /// Takes back the command that gave the delta. It takes no memory and is never refused.

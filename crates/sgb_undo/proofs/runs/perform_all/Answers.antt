@@ -14,7 +14,7 @@ loop-event-preserved g c =
       long = length-turn c.loop-event.yielded c.in-Some.event c.loop-event.accepted.items c.push_reserved.new.self.items c.perform.result pushed i.long;
       room = omega (arith, i.room, c.in-Some.ensures.steps.1, c.push_reserved.ensures.len, c.push_reserved.ensures.capacity);
       lists = lists-turn c.args.journal.now c.loop-event.journal c.perform.new.journal c.in-Some.event c.perform.result c.loop-event.yielded c.loop-event.accepted.items c.push_reserved.new.self.items pushed i.long i.lists c.perform.ensures.accepted c.perform.ensures.same;
-      right = answered-turn c.args.journal.now c.loop-event.journal c.in-Some.event c.perform.result c.loop-event.yielded c.loop-event.accepted.items c.push_reserved.new.self.items pushed i.long i.lists i.right c.perform.ensures.right;
+      right = answered-turn g.M.Reversible.step g.M.Reversible.may_want c.args.journal.now c.loop-event.journal c.in-Some.event c.perform.result c.loop-event.yielded c.loop-event.accepted.items c.push_reserved.new.self.items pushed i.long i.start i.lists i.right c.perform.ensures.right;
       start = start-turn c.args.journal.now c.loop-event.journal c.perform.new.journal c.perform.ensures.start i.start;
       sound = c.perform.ensures.sound;
     }

@@ -12,7 +12,7 @@ invariant-loop-event g l = record {
   long : length l.accepted.items ≡ length l.yielded;
   room : vec_len l.accepted + into_iter_len l.event-iterator ≤ vec_capacity l.accepted;
   lists : lists_of l.journal ≡ after_all (accepted_of l.yielded l.accepted.items) (lists_of l.fn.journal);
-  right : AreAnsweredRightly l.yielded l.accepted.items (lists_of l.fn.journal);
+  right : AreAnsweredRightly g.M.Reversible.step g.M.Reversible.may_want l.fn.journal.start l.yielded l.accepted.items (lists_of l.fn.journal);
   start : l.journal.start ≡ l.fn.journal.start;
   sound : IsJournal g.M.Reversible.step g.M.Reversible.before l.journal;
 }

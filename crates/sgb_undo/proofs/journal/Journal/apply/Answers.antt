@@ -1,5 +1,6 @@
 use Rattle.std.proofs.Common.{◌≡◌, ◌<◌, [], ◌∷◌, ◌++◌, refl, sym, ap, ◌∙◌, arith, rules, length, take, vec_len, vec_capacity}
-use Rattle.sgb_undo.proofs.Keeping.{Answers, commands-apply, IsJournal-seen, IsJournal-same, length-deltas, length-standing, IsSound-apply, Applies-sound}
+use Rattle.sgb_undo.specs.Private.Kept.{places}
+use Rattle.sgb_undo.proofs.Keeping.{Answers, commands-apply, IsJournal-seen, IsJournal-same, length-deltas, length-standing, IsSound-apply, Applies-sound, places-same}
 use Rattle.sgb_undo.proofs.journal.Journal.apply.Given.{Over}
 use Rattle.sgb_undo.proofs.journal.Journal.apply.Goals as goal
 use Rattle.sgb_undo.proofs.journal.Journal.apply.Goals.{After-push_reserved-in-Ok}
@@ -44,9 +45,10 @@ pub invariant_of-self-in-Ok : goal.invariant_of-self-in-Ok
 invariant_of-self-in-Ok g c =
     let held = length-deltas c.self.invariant in
     let room : vec_len c.self.inside.deltas < 65535 = omega (arith, c.self.inside.deltas.ok.0, c.self.invariant.limited) in
-    let placed : vec_len c.make_place.new.deltas < vec_capacity c.make_place.new.deltas = search rules in
+    let placed : vec_len c.make_place.new.deltas < places (vec_capacity c.make_place.new.commands) (vec_capacity c.make_place.new.deltas) = search rules in
     let same = ap length c.make_place.ensures.deltas in
-    let place : vec_len c.self.inside.deltas < vec_capacity c.push_reserved-in-Ok.new.self = omega (arith, c.make_place.new.deltas.ok.0, c.self.inside.deltas.ok.0, c.push_reserved-in-Ok.ensures.capacity) in
+    let count : vec_len c.self.inside.deltas ≡ vec_len c.make_place.new.deltas = omega (arith, c.make_place.new.deltas.ok.0, c.self.inside.deltas.ok.0) in
+    let place = places-same count (c.push_reserved.ensures.capacity ∙ c.truncate.ensures.capacity) c.push_reserved-in-Ok.ensures.capacity placed in
     IsSound-apply c.self.invariant (answer g c) c.self.inside.deltas.ok.0 room place (commands g c) (deltas g c)
 
 pub returns-in-Ok-clause-ok : goal.returns-in-Ok-clause-ok

@@ -1,5 +1,6 @@
-use Rattle.std.proofs.Common.{◌≡◌, ◌<◌, refl, sym, ap, ◌∙◌, arith, length, get_or, vec_len, inl, inr}
-use Rattle.sgb_undo.proofs.Keeping.{Answers, IsJournal-seen, IsJournal-same, length-deltas, undone-some, undone-accepted, IsSound-redo, Redoes-sound}
+use Rattle.std.proofs.Common.{◌≡◌, ◌<◌, refl, sym, ap, ◌∙◌, arith, length, get_or, vec_len, vec_capacity, inl, inr}
+use Rattle.sgb_undo.specs.Private.Kept.{places}
+use Rattle.sgb_undo.proofs.Keeping.{Answers, IsJournal-seen, IsJournal-same, length-deltas, undone-some, undone-accepted, FirstMayWant-waits, IsSound-redo, Redoes-sound}
 use Rattle.sgb_undo.proofs.journal.Journal.redo.Given.{Over}
 use Rattle.sgb_undo.proofs.journal.Journal.redo.Goals as goal
 use Rattle.sgb_undo.proofs.journal.Journal.redo.Goals.{After-push_reserved, In-Err}
@@ -49,7 +50,7 @@ push_reserved-requires g c =
 
 pub invariant_of-self : goal.invariant_of-self
 invariant_of-self g c =
-    IsSound-redo c.self.invariant (answer g c) c.self.inside.deltas.ok.0 (below g c) (waits g c) c.push_reserved.ensures.items c.push_reserved.ensures.capacity
+    IsSound-redo c.self.invariant (answer g c) c.self.inside.deltas.ok.0 (below g c) (waits g c) c.push_reserved.ensures.items (ap (places (vec_capacity c.self.inside.commands)) c.push_reserved.ensures.capacity)
 
 pub returns-in-Ok-clause-ok : goal.returns-in-Ok-clause-ok
 returns-in-Ok-clause-ok g c =
@@ -70,7 +71,10 @@ pub returns-in-Err-clause-refused : goal.returns-in-Err-clause-refused
 returns-in-Err-clause-refused g c = λ r e.
     let same : c.in-Err.want ≡ r = cc in
     elim c.in-Err.ensures.refused [
-      | inl want ↦ ap g.M.Reversible.is_want_of_memory (sym same) ∙ want
+      | inl want ↦ (
+        ap g.M.Reversible.is_want_of_memory (sym same) ∙ want.0,
+        FirstMayWant-waits g.M.Reversible.may_want c.self.invariant (below_refused g c) (waits_refused g c) c.self.view_is want.1,
+      )
       | inr refused ↦ absurd (undone-accepted c.self.invariant c.self.inside.deltas.ok.0 (below_refused g c) (waits_refused g c) refused)
     ]
 

@@ -1,5 +1,5 @@
--- What a journal keeps of its commands and deltas. Only its own proofs read this.
-use Rattle.std.specs.Prelude.{◌≡◌, ℕ, ◌≤◌, List, [], ◌∷◌, length, take, drop, IsSome}
+-- What a journal keeps of its commands and deltas.
+use Rattle.std.specs.Prelude.{◌≡◌, ℕ, ◌≤◌, ◌*◌, ◌/◌, min, List, [], ◌∷◌, length, take, drop, IsSome}
 use Rattle.sgb_undo.specs.Outcome.{Outcome, Accepted}
 use Rattle.sgb_undo.specs.Replay.{fold, start_of}
 use Rattle.sgb_undo.specs.History.{History}
@@ -13,6 +13,10 @@ history before m cs ds n = record {
   deltas = ds;
   machine = m;
 }
+
+-- how many commands with their deltas two buffers hold, of these capacities, by whole growths
+abbrev pub places : ℕ → ℕ → ℕ
+places commands deltas = min commands deltas / 1024 * 1024
 
 module _ {M C D R F : Type 0} (step : M → C → Outcome M D R F) (before : M → D → M) (can_revert : M → D → Type 0) where
   -- the command was accepted at the value to which the delta leads back from n
