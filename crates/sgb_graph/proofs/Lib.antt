@@ -12,6 +12,7 @@ pub mod Growing
 pub mod Holes
 pub mod HonestLemmas
 pub mod InsertLemmas
+pub mod Inserting
 pub mod Laid
 pub mod Laws
 pub mod NewLemmas

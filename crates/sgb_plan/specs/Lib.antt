@@ -1,0 +1,5 @@
+pub mod Distinct
+pub mod Id
+pub mod Length
+pub mod Name
+pub mod Plan

@@ -1,0 +1,12 @@
+//! What generated graphs and combinations share: plans of graphs, drawn lengths, names and ids.
+#![tactic(auto)]
+
+mod id;
+mod length;
+mod name;
+mod part;
+
+pub use id::{id_of, id_of_one, id_of_two};
+pub use length::{DrawnLength, LengthRange};
+pub use name::{append_dotted, dotted};
+pub use part::{Part, Seed};
