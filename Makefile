@@ -1,33 +1,36 @@
 # The program, its tests and its benchmark. All that is needed is the toolchain, whose command is `rt`,
 # with python3; the memory test takes a C compiler, and the benchmarks a C and a Rust compiler.
+# What the prover says goes to bin/prove.log, bin/quick.log and bin/test.log.
 
 PREFIX ?= /usr/local
 CC ?= cc
 # Where the benchmarks are built: outside this repository, so that `rt` here does not meet their copies.
 BENCH ?= /tmp/sgb_bench
 
-.PHONY: all demo test examples growths bench bench_flip bench_graph bench_lines install clean FORCE
+.PHONY: all demo test quick edits examples growths program bench bench_flip bench_graph bench_lines install clean FORCE
 
 all: bin/sgb
 
-# Proves the program and what it stands on, builds it, and leaves it as bin/sgb.
+# Proves the program and what it stands on, over what earlier runs kept, builds it, and leaves it as bin/sgb.
 bin/sgb: FORCE
-	cd crates/sgb && rt run -- --version
-	mkdir -p bin
-	cmp -s crates/sgb/out/sgb bin/sgb || cp crates/sgb/out/sgb bin/sgb
+	@python3 tests/gate.py prove
 
-# Shows a first script and its transcript.
-demo: bin/sgb
-	@echo '--- examples/first.sgb'
-	@cat examples/first.sgb
-	@echo '--- its transcript'
-	@bin/sgb run examples/first.sgb
+# Shows a first script and its transcript, and what else there is to see. It proves nothing.
+demo:
+	@sh examples/demo.sh
 
-# The whole gate: every proof from nothing, every test and every edit that must be refused; then the
-# examples, and the program with each of its growths refused.
+# The merge gate: every proof from nothing, every test, every edit that must be refused; then the proved program
+# on the examples, with each of its growths refused, and in its own tests.
 test:
-	rt ci
-	$(MAKE) examples growths
+	@python3 tests/gate.py test
+
+# For who works here: proves and tests the crates that changed, over what earlier runs kept.
+quick:
+	@python3 tests/gate.py quick
+
+# Tries the edits of crates/*/edits, or of the one crate CRATE, telling what refused each.
+edits:
+	@python3 tests/edits.py $(if $(CRATE),-v $(CRATE))
 
 # Compares each example's transcript, and those of the language's description.
 examples: bin/sgb
@@ -37,6 +40,10 @@ examples: bin/sgb
 # Runs scripts with each growth refused in its turn.
 growths: bin/sgb tests/out/refuse_growth.so
 	python3 tests/growths.py bin/sgb tests/out/refuse_growth.so
+
+# Runs the program with right and wrong arguments, files and pipes.
+program: bin/sgb
+	python3 tests/program.py bin/sgb
 
 tests/out/refuse_growth.so: tests/refuse_growth.c
 	mkdir -p tests/out

@@ -1,13 +1,13 @@
 #!/usr/bin/env python3
 """Tries the edits of crates/NAME/edits/: each turns what a function does, and the prover has to refuse it there.
 
-    edits.py [NAME..]
+    edits.py [-v] [NAME..]
 
 An edit is written as those in must-fail/ are. Many are tried at a time, at most one for a function: they are laid on one
 copy of the crate, the copy is checked over the work that `rt check` kept, and each edit must be refused at a function
 whose body it edits. Where no refusal names an edit, or the copy cannot be read, the edit is tried again alone; so is
 one that edits no body, which any refusal may meet. The crates themselves must be proved. With names it tries the
-edits of those crates alone, and tells what refused each.
+edits of those crates alone, and with -v it tells what refused each.
 """
 import importlib.machinery
 import importlib.util
@@ -32,7 +32,7 @@ VANISHED = re.compile(r'has no field|is not in scope|has no `|was not admitted')
 
 def kit():
     """The module of the toolchain's command `rt`, which knows the crates, their checks and the form of an edit."""
-    file = os.path.realpath(shutil.which('rt'))
+    file = os.path.realpath(shutil.which('rt') or sys.exit('the Rattle toolchain is not here: its command rt is not found'))
     loader = importlib.machinery.SourceFileLoader('rt', file)
     module = importlib.util.module_from_spec(importlib.util.spec_from_loader('rt', loader))
     loader.exec_module(module)
@@ -201,7 +201,10 @@ class Said:
         refused = re.findall(r'`Rattle\.%s\.proofs\.%s\.(?:\w+\.)?([^.`]+)`' % (crate, re.escape('.'.join(own))), told)
         folder = re.escape('/'.join(own))
         errors = [it for it in self.lines if re.match(r'(?:\./)?proofs/%s/\w+\.antt:\d+:\d+: error' % folder, it)]
-        return ('`%s`' % refused[0], not errors or any(not VANISHED.search(it) for it in errors)) if refused else None
+        refused += re.findall(r'error: `([^`]*)`', '\n'.join(errors))
+        is_own = told.startswith('not proved') and (refused or errors)
+        is_real = not errors or any(not VANISHED.search(it) for it in errors)
+        return ('`%s`' % refused[0] if refused else errors[0], is_real) if is_own else None
 
     def judge(self, edit, is_alone):
         """Whether an edit is refused as it must be, and by what; None where it is not named."""
@@ -269,7 +272,7 @@ def prove(crate):
                          stderr=subprocess.STDOUT, errors='replace')
     is_proved = ran.returncode == 0 and re.search(r'(?m)^logic=proved ', ran.stdout)
     if not is_proved:
-        print('\n'.join(ran.stdout.rstrip('\n').split('\n')[-12:]))
+        print('\n'.join(re.findall(r'(?m)^.*(?:error|: not proved|: no proof|: could not tell).*$', ran.stdout)[:6]))
     return bool(is_proved)
 
 
@@ -323,12 +326,12 @@ class Tally:
 
 
 def main():
-    names = sys.argv[1:]
+    names = [it for it in sys.argv[1:] if it != '-v']
     global GUARD
     GUARD = rtlib.guarded()
     crates = sorted(rtlib.crates_below(os.getcwd()), key=lambda it: len(it.below()))
     unknown = {*names} - {it.name for it in crates}
-    tally = Tally(bool(names))
+    tally = Tally('-v' in sys.argv)
     for it in sorted(unknown):
         tally.tell(False, it, 'no crate has this name')
     with ThreadPoolExecutor(workers()) as pool:

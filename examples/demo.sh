@@ -1,0 +1,27 @@
+#!/bin/sh
+# Runs a first script by `rt try`, which proves nothing and keeps nothing, and tells what else there is to see.
+set -eu
+cd "$(dirname "$0")/.."
+echo '--- examples/first.sgb, a script'
+cat examples/first.sgb
+echo
+echo '--- its transcript (the program is compiled for this run alone: about a minute)'
+(cd crates/sgb && rt try -- run 2>&1) < examples/first.sgb
+cat <<'END'
+
+That run is UNPROVED: `rt try` compiles the code and checks none of its contracts. `make` proves the program
+and each function that it stands on, in some minutes, and leaves it as bin/sgb. Then try
+
+    bin/sgb run examples/byhand.sgb         a house, drawn by edges, with labels
+    bin/sgb run examples/cutting.sgb        edits of a graph, undone and redone
+    bin/sgb run examples/fields.sgb         utility fields: numbers, texts, vertices and arcs
+    bin/sgb run examples/uniform.sgb        uniform numbers, drawn and taken back
+    bin/sgb run examples/refused.sgb        what is refused, and that it changes nothing
+
+The transcript of each lies beside it, as examples/cutting.out.
+
+    docs/language.md                        the language of scripts
+    crates/sgb_flip/src/flip.rt             the generator, each function with its contract
+    crates/sgb_flip/specs/Generator.antt    the definitions that those contracts name
+    docs/architecture.md                    the crates, and which clause keeps which promise
+END

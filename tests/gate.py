@@ -1,0 +1,229 @@
+#!/usr/bin/env python3
+"""Proves, tests and tells how far it is, one line a crate or part. What the prover says goes to a log.
+
+    gate.py prove   proves the program's crates, over what earlier runs kept, and leaves the program as bin/sgb
+    gate.py quick   checks and tests the crates that changed, and those above them, over the same work; no edits
+    gate.py test    the merge gate: all proofs and tests from nothing, the edits, and the proved program at work
+"""
+import os
+import re
+import resource
+import shutil
+import subprocess
+import sys
+import threading
+import time
+from concurrent.futures import FIRST_COMPLETED, ThreadPoolExecutor, wait
+
+from edits import rt, rtlib
+
+PROGRAM = 'bin/sgb'
+REFUSING = 'tests/out/refuse_growth.so'
+
+# The lines of `rt ci` that tell how far it is, and those of any command that tell what failed.
+PROGRESS = re.compile(r'rt: (?:\S+ (?:NOT )?proved|\S+: (?:its tests|trying its)|\S+ ran\b|FAILED|must-fail .*: (?:BAD|NOT))')
+FAILURE = re.compile(r'error|NOT (?:PROVED|REFUSED|proved)|BAD EDIT|FAILED|: not proved|: no proof|could not tell'
+                     r'|is not proved|is not in the layout|differ|rt: run rt fmt')
+
+
+def clock(seconds):
+    return '%d:%02d' % (seconds // 60, seconds % 60)
+
+
+def processor_time():
+    """The seconds of processor that the ended commands took, and all that they started."""
+    used = resource.getrusage(resource.RUSAGE_CHILDREN)
+    return used.ru_utime + used.ru_stime
+
+
+class Log:
+    """What all commands of a run say, in a file."""
+
+    def __init__(self, name):
+        os.makedirs('bin', exist_ok=True)
+        self.path = 'bin/%s.log' % name
+        self.file = open(self.path, 'w', encoding='utf-8')
+        self.start, self.writing = time.time(), threading.Lock()
+        print('what the prover says goes to %s' % self.path, flush=True)
+
+    def call(self, words, folder='.', tell=None):
+        """Runs a command and returns its status and its lines; `tell` gets each line as it comes."""
+        lines = []
+        with subprocess.Popen(words, cwd=folder, stdin=subprocess.DEVNULL, stdout=subprocess.PIPE,
+                              stderr=subprocess.STDOUT, encoding='utf-8', errors='replace') as ran:
+            for line in ran.stdout:
+                lines.append(line.rstrip('\n'))
+                with self.writing:
+                    self.file.write('%s: %s' % (os.path.basename(folder), line) if folder != '.' else line)
+                    self.file.flush()
+                if tell:
+                    tell(lines[-1])
+        return ran.returncode, lines
+
+    def explain(self, lines):
+        """Prints the lines that tell what failed."""
+        told = [it for it in lines if FAILURE.search(it)] or lines[-5:]
+        print('\n'.join('    ' + it[:200] for it in told[:30]))
+        print('    more in %s' % self.path, flush=True)
+
+
+def crates():
+    """The crates of the repository, each after those that it stands on."""
+    return sorted(rtlib.crates_below(os.getcwd()), key=lambda it: len(it.below()))
+
+
+def counted(lines):
+    """What the last line `N passed, M failed` counts."""
+    found = re.search(r'(\d+) passed, (\d+) failed$', lines[-1]) if lines else None
+    return (int(found[1]), int(found[2])) if found else None
+
+
+def prove_crate(log, crate):
+    """Proves a crate and prints a line of it, and returns whether it is proved."""
+    start = time.time()
+    if crate.makes_rlib() and crate.is_built():
+        print('%-12s was proved before' % crate.name, flush=True)
+        return True
+    words = ['rt', 'lib'] if crate.makes_rlib() else ['rt', 'run', '--', '--version']
+    status, lines = log.call(words, crate.folder)
+    counts = re.findall(r'(?m)^logic=proved .*functions=(\d+)', '\n'.join(lines))
+    is_proved = status == 0 and (bool(counts) or not crate.makes_rlib())
+    what = '%s functions proved' % counts[-1] if counts else 'was proved before' if is_proved else 'NOT PROVED'
+    print('%-12s %s, %d s' % (crate.name, what, time.time() - start), flush=True)
+    if not is_proved:
+        log.explain(lines)
+    return is_proved
+
+
+def prove():
+    """Proves the program's crates, two at a time where there is room, and leaves the program where it is run."""
+    log = Log('prove')
+    program = next(it for it in crates() if it.is_program)
+    left, running, proved = [*program.below(), program], {}, set()
+    lanes = 2 if rt.processors() >= 4 and rt.free() > 12_000_000_000 else 1
+    with ThreadPoolExecutor(lanes) as pool:
+        while left or running:
+            ready = [it for it in left if proved >= {below.name for below in it.below()}]
+            for crate in ready[:lanes - len(running)]:
+                left.remove(crate)
+                running[pool.submit(prove_crate, log, crate)] = crate
+            if not running:
+                break
+            for it in wait(running, return_when=FIRST_COMPLETED).done:
+                crate = running.pop(it)
+                if it.result():
+                    proved.add(crate.name)
+                else:
+                    left = []
+    if program.name not in proved:
+        return 1
+    take_program(program)
+    print('%s stands after %s' % (PROGRAM, clock(time.time() - log.start)))
+    return 0
+
+
+def take_program(program):
+    made = '%s/out/%s' % (program.folder, program.name)
+    if not os.path.isfile(PROGRAM) or rtlib.sum_of(made) != rtlib.sum_of(PROGRAM):
+        shutil.copy(made, PROGRAM + '.new')
+        os.replace(PROGRAM + '.new', PROGRAM)
+
+
+def changed(all_crates):
+    """The crates that git or the kept work tell changed, and those above them."""
+    listed = subprocess.run(['git', 'status', '--porcelain', '--', 'crates'], stdout=subprocess.PIPE, text=True).stdout
+    edited = set(re.findall(r'crates/(\w+)/(?:src|specs|proofs)/', listed))
+    lower = {below.name for it in all_crates for below in it.below()}
+    found = []
+    for it in all_crates:
+        is_kept = it.is_built() if it.name in lower else it.has_kept()
+        if it.name in edited or not is_kept or {below.name for below in found} & {below.name for below in it.below()}:
+            found.append(it)
+    return found, lower
+
+
+def quick():
+    log, passed, failed = Log('quick'), 0, []
+    found, lower = changed(crates())
+    for crate in found:
+        # (a library that others stand on is built by the same check)
+        steps = [('layout', [rtlib.RATTLE, 'fmt', '--check', *[it for it in rtlib.files_of(crate.folder)
+                                                               if it.endswith(('.rt', '.antt'))]]),
+                 ('proof', ['rt', 'lib' if crate.name in lower else 'check']),
+                 *[('tests', ['rt', 'test'])] * crate.has_tests()]
+        if {it.name for it in crate.below()} & {*failed}:
+            print('%-12s stands on what failed' % crate.name)
+            continue
+        for what, words in steps:
+            start = time.time()
+            status, lines = log.call(words, crate.folder)
+            print('%-12s %s: %s, %d s' % (crate.name, what, 'well' if status == 0 else 'FAILED', time.time() - start), flush=True)
+            if status:
+                failed.append(crate.name)
+                log.explain(lines)
+                break
+            passed += 1
+    print('quick: %d passed, %d failed%s' % (passed, len(failed), '' if found else ' (nothing changed)'))
+    return 1 if failed else 0
+
+
+class Gate:
+    """The parts of the merge gate, and what came of them."""
+
+    def __init__(self):
+        self.log, self.passed, self.failed = Log('test'), 0, 0
+
+    def tell(self, line):
+        if PROGRESS.match(line):
+            self.say(line[len('rt: '):])
+
+    def say(self, line):
+        print('%6s  %s' % (clock(time.time() - self.log.start), line[:160]), flush=True)
+
+    def part(self, name, words, tell=None):
+        """Runs a part, whose last line counts what passed and failed, of which each is printed unless `tell` picks some."""
+        start, used = time.time(), processor_time()
+        status, lines = self.log.call(words, tell=tell or self.say)
+        passed, failed = counted(lines) or (0, 1)
+        failed += status != 0 and failed == 0
+        self.passed, self.failed = self.passed + passed, self.failed + failed
+        self.say('%s: %d passed, %d failed; %s, processor %s' % (name, passed, failed, clock(time.time() - start),
+                                                                clock(processor_time() - used)))
+        if failed and tell:
+            self.log.explain(lines)
+
+    def run(self):
+        program = next(it for it in crates() if it.is_program)
+        made = '%s/out/%s' % (program.folder, program.name)
+        self.part('rt ci', ['rt', 'ci'], self.tell)
+        # rt ci sets aside all that was in out/, so what lies there is what LLVM made of the crate that it proved.
+        is_new = os.path.isfile(made) and os.path.getmtime(made) >= self.log.start
+        if is_new:
+            take_program(program)
+        else:
+            self.failed += 1
+            self.say('no proved program, so none of its examples and tests is run')
+        for name, words in self.parts_of_program() if is_new else []:
+            self.part(name, words)
+        self.part('the tests of tests/edits.py', [sys.executable, 'tests/test_edits.py'])
+        self.part('edits', [sys.executable, 'tests/edits.py'])
+        used, start = processor_time(), self.log.start
+        print('%.1f minutes of processor time, %.1f minutes by the clock' % (used / 60, (time.time() - start) / 60))
+        print('%d passed, %d failed' % (self.passed, self.failed))
+        return 1 if self.failed else 0
+
+    def parts_of_program(self):
+        self.log.call(['make', REFUSING])
+        yield 'examples', ['sh', 'tests/examples.sh', PROGRAM]
+        yield 'documents', [sys.executable, 'tests/documents.py', PROGRAM, 'docs/language.md']
+        yield 'growths', [sys.executable, 'tests/growths.py', PROGRAM, REFUSING]
+        if os.path.isfile('tests/program.py'):
+            yield 'program', [sys.executable, 'tests/program.py', PROGRAM]
+
+
+COMMANDS = {'prove': prove, 'quick': quick, 'test': lambda: Gate().run()}
+
+
+if __name__ == '__main__':
+    sys.stdout.reconfigure(encoding='utf-8', errors='replace')
+    sys.exit(COMMANDS[sys.argv[1]]())

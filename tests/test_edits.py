@@ -1,0 +1,140 @@
+#!/usr/bin/env python3
+"""Tests edits.py on two small crates of a repository of its own: what it must pass, and what it must tell.
+
+    test_edits.py
+
+It runs edits.py twice, which has to say the same both times.
+"""
+import os
+import re
+import subprocess
+import sys
+import tempfile
+
+EDITS = os.path.join(os.path.dirname(os.path.abspath(__file__)), 'edits.py')
+
+TINY = '''// Functions to try edits on.
+#![tactic(auto)]
+
+ghost use Rattle.std.specs.Prelude.{◌≡◌, ◌≤◌, ◌+◌, ◌*◌};
+
+/// What `raised` adds.
+const STEP: u32 = 2;
+
+/// A number raised by two.
+pub fn raised(x: u32) -> u32
+    requires room { x ≤ 100 }
+    ensures value { result ≡ x + 2 }
+{
+    x + STEP
+}
+
+/// A number that is no larger.
+pub fn lowered(x: u32) -> u32
+    ensures less { result ≤ x }
+{
+    x / 2
+}
+
+/// A number twice.
+pub fn doubled(x: u32) -> u32
+    requires room { x ≤ 100 }
+    ensures value { result ≡ 2 * x }
+{
+    x + x
+}
+
+/// At most nine.
+pub fn capped(x: u32) -> u32
+    ensures few { result ≤ 9 }
+{
+    if x < 9 { x } else { 9 }
+}
+'''
+
+PROOF = '''use Rattle.std.proofs.Common.{rules}
+use Rattle.tiny.proofs.capped.Goals as goal
+
+pub returns-then-x-lt9 : goal.returns-then-x-lt9
+returns-then-x-lt9 c = search rules
+'''
+
+OPEN = '''// A function that is not proved.
+#![tactic(auto)]
+
+ghost use Rattle.std.specs.Prelude.{◌≡◌, ◌+◌};
+
+/// Not the next number.
+pub fn next(x: u32) -> u32
+    ensures next { result ≡ x + 1 }
+{
+    x
+}
+'''
+
+# The edits: the crate, the name, the text and what it becomes, and what must be told of it.
+EDITS_TRIED = [
+    ('tiny', 'raised-by_one', 'x + STEP', 'x + STEP - 1', 'refused, as it must be: tiny::raised'),
+    ('tiny', 'doubled-plus_one', 'x + x', 'x + x + 1', 'refused, as it must be: tiny::doubled'),
+    ('tiny', 'doubled-thrice', 'x + x', 'x + 2 * x', 'refused, as it must be: tiny::doubled'),
+    ('tiny', 'STEP-of_three', 'STEP: u32 = 2', 'STEP: u32 = 3', 'refused, as it must be: tiny::raised'),
+    ('tiny', 'lowered-to_a_third', 'x / 2', 'x / 3', 'NOT REFUSED'),
+    ('tiny', 'lowered-nothing', 'x / 2', 'x / 2', 'it changes nothing'),
+    ('tiny', 'lowered-not_there', 'x / 7', 'x / 2', 'an \'old:\' text is in src/lib.rt 0 times'),
+    ('tiny', 'lowered-found_often', 'u32) -> u32', 'u32) -> u64', 'an \'old:\' text is in src/lib.rt 4 times'),
+    ('tiny', 'capped-of_no_name', 'if x < 9', 'if y < 9', 'it cannot be read'),
+    ('tiny', 'capped-at_eight', 'if x < 9', 'if x <= 8', 'a proof of tiny::capped names what it took away'),
+    ('open', 'next-after_all', '    x\n', '    x / 2\n', None),
+]
+
+# What else must be told, and what the runs end with.
+TOLD = ['tiny/edits/notes.txt: no edit',
+        'open: the crate is not proved, so none of its 1 edits was tried',
+        'tiny: 4 of 11 edits refused',
+        'edits: 4 passed, 8 failed']
+
+
+def write(file, text):
+    os.makedirs(os.path.dirname(file), exist_ok=True)
+    with open(file, 'w', encoding='utf-8') as it:
+        it.write(text)
+
+
+def make(room):
+    """Makes the repository with its edits."""
+    subprocess.run(['git', 'init', '-q', room], check=True)
+    write(room + '/crates.txt', 'tiny:\nopen:\n')
+    write(room + '/crates/tiny/src/lib.rt', TINY)
+    write(room + '/crates/tiny/proofs/capped/Answers.antt', PROOF)
+    write(room + '/crates/open/src/lib.rt', OPEN)
+    for crate, name, old, new, _ in EDITS_TRIED:
+        write('%s/crates/%s/edits/%s.edit' % (room, crate, name),
+              'file: src/lib.rt\nold: %s\nnew: %s\n' % (old.rstrip('\n'), new.rstrip('\n')))
+    write(room + '/crates/tiny/edits/notes.txt', 'This is no edit.\n')
+
+
+def run(room):
+    """What a run prints, without its times, and whether it passed."""
+    ran = subprocess.run([sys.executable, EDITS, '-v'], cwd=room, stdin=subprocess.DEVNULL, stdout=subprocess.PIPE,
+                         stderr=subprocess.STDOUT, errors='replace')
+    return re.sub(r'\d+ s\b', '_ s', ran.stdout), ran.returncode == 0
+
+
+def main():
+    with tempfile.TemporaryDirectory(prefix='sgb-test-edits-') as room:
+        make(room)
+        (first, is_well), (second, _) = run(room), run(room)
+    wanted = TOLD + ['%s/edits/%s.edit: %s' % (crate, name, told) for crate, name, _, _, told in EDITS_TRIED if told]
+    lines = first.splitlines()
+    found = [any(line.startswith(it) for line in lines) for it in wanted] + [not is_well, first == second]
+    for it, is_there in zip(wanted + ['a status of failure', 'the second run as the first'], found):
+        if not is_there:
+            print('test_edits: not told: %s' % it)
+    if not all(found):
+        print(first)
+    print('test_edits: %d passed, %d failed' % (sum(found), len(found) - sum(found)))
+    return 0 if all(found) else 1
+
+
+if __name__ == '__main__':
+    sys.exit(main())
