@@ -5,8 +5,6 @@ mod cycle;
 mod flip;
 mod laws;
 mod seeding;
-#[cfg(test)]
-mod tests;
 
 pub use flip::{Drawn, Flip};
 pub use laws::{draws_law, seeding_law, sequence_law, uniform_law};
