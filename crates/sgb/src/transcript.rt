@@ -4,7 +4,8 @@ use sgb_shell::{Ended, RunFault, run};
 use std::io::{BufWriter, IsTerminal, LineWriter, Read, Write};
 
 /// Runs the reader's script, and answers whether no line was refused. A person at a terminal sees
-/// each line at once; what goes to a file or a pipe is written in larger pieces.
+/// each line at once; what goes to a file or a pipe is written in larger pieces, the last of them
+/// before each read, which may wait for one who waits for an answer.
 pub fn print_transcript<R: Read + Drop>(rt: &HostRuntime, reader: R) -> Result<bool, RunFault> {
     let output = rt.stdout();
     if output.is_terminal() {

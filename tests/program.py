@@ -1,0 +1,177 @@
+#!/usr/bin/env python3
+"""Runs the program with good and bad command lines, scripts, readers and writers, and compares what it prints
+and its status with what the description of the program wants, which is written here by hand.
+
+    program.py PROGRAM
+"""
+import os
+import select
+import subprocess
+import sys
+import tempfile
+
+# The files of the folder in which the program runs.
+FILES = {'next': b'next\n', 'unfinished': b'next\nnext', 'refused': b'bogus\nnext\n', 'empty': b'',
+         '-': b'seed 7\n', '--help': b'unif 1\n'}
+
+NEXT = b'2029883356\n'
+REFUSED = b'line 1: refused 100 bad command\n'
+
+# The words of a command line, the status, and what standing output and standard error get.
+COMMAND_LINES = [
+    (['run', 'next'], 0, NEXT, b''),
+    (['run', 'unfinished'], 0, NEXT + b'2073281797\n', b''),
+    (['run', 'empty'], 0, b'', b''),
+    (['run'], 0, b'', b''),
+    (['run', 'refused'], 1, REFUSED + NEXT, b''),
+    # `-` is a file of that name, and `--` ends the flags.
+    (['run', '-'], 0, b'ok\n', b''),
+    (['run', '--', '-'], 0, b'ok\n', b''),
+    (['run', '--', '--help'], 0, b'0\n', b''),
+    (['run', '--', 'next'], 0, NEXT, b''),
+    ([], 2, b'', b'sgb: bad command line\n'),
+    ([''], 2, b'', b'sgb: bad command line\n'),
+    (['walk'], 2, b'', b'sgb: bad command line\n'),
+    (['next'], 2, b'', b'sgb: bad command line\n'),
+    (['--walk'], 2, b'', b'sgb: bad command line\n'),
+    (['run', '--walk'], 2, b'', b'sgb: bad command line\n'),
+    (['run', '-w', 'next'], 2, b'', b'sgb: bad command line\n'),
+    (['run', 'next', '--walk'], 2, b'', b'sgb: bad command line\n'),
+    (['run', 'next', 'next'], 2, b'', b'sgb: bad command line\n'),
+    (['run', 'next', '--', 'next'], 2, b'', b'sgb: bad command line\n'),
+    (['run', 'absent'], 2, b'', b'sgb: cannot open absent\n'),
+    (['run', '--', '--walk'], 2, b'', b'sgb: cannot open --walk\n'),
+    (['run', 'next/next'], 2, b'', b'sgb: cannot open next/next\n'),
+    # A directory opens, and then the read fails.
+    (['run', '.'], 2, b'', b'sgb: read failed\n'),
+]
+
+# Each tells the statuses and where the language is described. What else they say is free.
+HELP = [['--help'], ['-h'], ['help'], ['run', '--help'], ['run', '-h'], ['help', 'run']]
+
+# Scripts on standard input, up to the greatest that is run and past it.
+SCRIPTS = [
+    (b'next', 0, NEXT, b''),
+    (b'bogus\nnext', 1, REFUSED + NEXT, b''),
+    (b'next\nundo\nundo\n', 1, NEXT + b'undone\nline 3: refused 103 nothing to undo\n', b''),
+    (b'\n' * 16777216, 0, b'', b''),
+    (b'\n' * 16777217, 2, b'', b'sgb: too long\n'),
+    (b'next\n' + b'\n' * 16777211, 0, NEXT, b''),
+    (b'next\n' + b'\n' * 16777212, 2, NEXT, b'sgb: too long\n'),
+    # A fault has status 2 where lines were refused before.
+    (b'bogus\n' + b'\n' * 16777211, 2, REFUSED, b'sgb: too long\n'),
+    # The line that passes the end is not done.
+    (b'\n' * 16777213 + b'next', 2, b'', b'sgb: too long\n'),
+]
+
+# What one program sends, and what the other answers before it gets more.
+CONVERSATION = [
+    (b'next\n', NEXT),
+    (b'bogus\n', b'line 2: refused 100 bad command\n'),
+    (b'graph g 1\narc g 0 0 5\n', b'g: 1 vertices, 0 arcs\nA0\n'),
+    (b'gen\nne', b'seed 0, draws 1, unread 53\n'),
+    (b'xt\n', b'2073281797\n'),
+    (b'show g\n', b'"gb_new_graph(1)" ZZZZZZZZZZZZZZ\n1 vertices, 1 arcs, 1 numbers\nV0 ""\n  A0 V0 5\n'),
+    (b'undo\n', b'undone\n'),
+]
+
+
+class Tests:
+    def __init__(self, program, folder):
+        self.program = os.path.abspath(program)
+        self.folder = folder
+        self.passed = self.failed = 0
+
+    def tell(self, is_right, *words):
+        if is_right:
+            self.passed += 1
+        else:
+            self.failed += 1
+            print(*words)
+
+    def run(self, words, script=b'', **ends):
+        """The status of a run, and what it printed."""
+        if 'stdin' not in ends:
+            ends['input'] = script
+        ended = subprocess.run([self.program] + words, cwd=self.folder, stderr=subprocess.PIPE,
+                               **{'stdout': subprocess.PIPE, **ends})
+        return ended.returncode, ended.stdout, ended.stderr
+
+    def expect(self, wanted, what, words, script=b'', **ends):
+        met = self.run(words, script, **ends)
+        self.tell(met == wanted, what, 'ended', met, 'in place of', wanted)
+
+    def try_help(self):
+        for words in HELP:
+            status, said, complaint = self.run(words)
+            told = all(it in said for it in [b'\n  0 ', b'\n  1 ', b'\n  2 ', b'docs/language.md', b'sgb run'])
+            self.tell(status == 0 and told and complaint == b'', words, 'ended', status, said, complaint)
+        self.tell(self.run(['--version'])[::2] == (0, b''), 'the version is not told')
+
+    def try_readers(self):
+        read_failed = 2, b'', b'sgb: read failed\n'
+        opened = os.open(self.folder, os.O_RDONLY)
+        self.expect(read_failed, 'a directory as standard input', ['run'], stdin=opened)
+        os.close(opened)
+        with open(self.folder + '/written', 'wb', buffering=0) as only_written:
+            self.expect(read_failed, 'a file that is not to be read', ['run'], stdin=only_written)
+
+    def try_writers(self):
+        write_failed = 2, None, b'sgb: write failed\n'
+        long_script = b'next\n' * 100000
+        with open('/dev/full', 'wb', buffering=0) as full:
+            self.expect(write_failed, 'a full device', ['run'], b'next\n', stdout=full)
+            self.expect(write_failed, 'a full device, early', ['run'], long_script, stdout=full)
+            self.expect(write_failed, 'a full device, a refused line', ['run'], b'bogus\n', stdout=full)
+            self.expect(write_failed, 'a full device, help', ['--help'], stdout=full)
+            self.expect((0, None, b''), 'a full device, nothing to write', ['run'], stdout=full)
+        for script in b'next\n', long_script:
+            gone, pipe = os.pipe()
+            os.close(gone)
+            self.expect(write_failed, 'a closed pipe', ['run'], script, stdout=pipe)
+            os.close(pipe)
+
+    def answer(self, program, length):
+        """What the program answers, up to this length, within ten seconds."""
+        answer = b''
+        while len(answer) < length and select.select([program.stdout], [], [], 10)[0]:
+            more = os.read(program.stdout.fileno(), length - len(answer))
+            if not more:
+                break
+            answer += more
+        return answer
+
+    def converse(self):
+        program = subprocess.Popen([self.program, 'run'], stdin=subprocess.PIPE, stdout=subprocess.PIPE,
+                                   stderr=subprocess.PIPE, bufsize=0)
+        for sent, wanted in CONVERSATION:
+            program.stdin.write(sent)
+            met = self.answer(program, len(wanted))
+            self.tell(met == wanted, sent, 'is answered', met, 'in place of', wanted)
+            if met != wanted:
+                break
+        rest = program.communicate(b'next')
+        self.tell(rest == (b'2073281797\n', b''), 'the last line is answered', rest)
+        self.tell(program.returncode == 1, 'a conversation ended', program.returncode)
+
+
+def main():
+    with tempfile.TemporaryDirectory() as folder:
+        for name, script in FILES.items():
+            with open(os.path.join(folder, name), 'wb') as file:
+                file.write(script)
+        tests = Tests(sys.argv[1], folder)
+        for words, *wanted in COMMAND_LINES:
+            tests.expect(tuple(wanted), words, words)
+        for script, *wanted in SCRIPTS:
+            tests.expect(tuple(wanted), script[:20], ['run'], script)
+        tests.try_help()
+        tests.converse()
+        tests.try_writers()
+        tests.try_readers()
+    print('program: %d passed, %d failed' % (tests.passed, tests.failed))
+    return 1 if tests.failed else 0
+
+
+if __name__ == '__main__':
+    sys.exit(main())
