@@ -70,13 +70,12 @@ module _ {M C D R F : Type 0} (step : M → C → Outcome M D R F) (may_want : M
 
   -- the machine's value is that of the standing commands
   pub right-sound : {before : M → D → M} (h : History M C D) (e e' : Event C) (b b' : Bool) → IsJournal step before h → e ≡ e' → b ≡ b' → MayAnswer step may_want h.machine e' b' (lists_of h) → IsAnsweredRightly step may_want h.start e b (lists_of h)
-  right-sound h e e' b b' sound same same' may =
-      (
-        h.machine,
-        sound.value,
-        subst (λ e. MayAnswer step may_want h.machine e b (lists_of h)) (sym same)
+  right-sound h e e' b b' sound same same' may = (
+    h.machine,
+    sound.value,
+    subst (λ e. MayAnswer step may_want h.machine e b (lists_of h)) (sym same)
         (subst (λ b. MayAnswer step may_want h.machine e' b (lists_of h)) (sym same') may),
-      )
+  )
 
   -- one more event
   answered-more : (start : M) (e : Event C) (b : Bool) (now : List C × List C) (es : List (Event C)) (bs : List Bool) (first : List C × List C) → length bs ≡ length es → now ≡ after_all (accepted_of es bs) first → AreAnsweredRightly step may_want start es bs first → IsAnsweredRightly step may_want start e b now → AreAnsweredRightly step may_want start (es ++ e ∷ []) (bs ++ b ∷ []) first
