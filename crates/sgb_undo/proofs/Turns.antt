@@ -3,7 +3,7 @@ use Rattle.std.proofs.Common.{◌≡◌, ◌↔◌, ◌⊎◌, inl, inr, ◌+◌
 use Rattle.std.specs.Bool.{OnTrue, OnFalse}
 use Rattle.std.proofs.lemmas.List.{append_assoc, length_push}
 use Rattle.std.specs.Prelude.{Result}
-use Rattle.sgb_undo.specs.Outcome.{Outcome, Refused, IsRefused}
+use Rattle.sgb_undo.specs.Outcome.{Outcome, Refused, is_accepted}
 use Rattle.sgb_undo.specs.History.{History, IsJournal, Undoes, grows_at, FirstMayWant}
 use Rattle.sgb_undo.specs.Events.{lists_of, last_moved, after, after_all, accepted_of, MayAnswer, IsAnsweredRightly, AreAnsweredRightly}
 use Rattle.sgb_undo.specs.declared.runs.Event.{Event}
@@ -54,7 +54,7 @@ module _ {M C D R F : Type 0} (step : M → C → Outcome M D R F) (may_want : M
   apply-may h c (Err (refusals.Machine f)) no_room full nothing Q refused =
       elim (refused f refl) [
         | inl want ↦ inr (inr (inl want.1))
-        | inr e ↦ inr (inl (subst (λ o. IsRefused o) (sym e) tt))
+        | inr e ↦ inr (inl (ap is_accepted e))
       ]
 
   pub undo-may : (h : History M C D) (r : Result (Unit {0}) NothingToUndo) → (IsErr r ↔ (h.standing ≡ [])) → MayAnswer step may_want h.machine events.Undo (is_ok r) (lists_of h)
@@ -70,13 +70,12 @@ module _ {M C D R F : Type 0} (step : M → C → Outcome M D R F) (may_want : M
 
   -- the machine's value is that of the standing commands
   pub right-sound : {before : M → D → M} (h : History M C D) (e e' : Event C) (b b' : Bool) → IsJournal step before h → e ≡ e' → b ≡ b' → MayAnswer step may_want h.machine e' b' (lists_of h) → IsAnsweredRightly step may_want h.start e b (lists_of h)
-  right-sound h e e' b b' sound same same' may =
-      (
-        h.machine,
-        sound.value,
-        subst (λ e. MayAnswer step may_want h.machine e b (lists_of h)) (sym same)
+  right-sound h e e' b b' sound same same' may = (
+    h.machine,
+    sound.value,
+    subst (λ e. MayAnswer step may_want h.machine e b (lists_of h)) (sym same)
         (subst (λ b. MayAnswer step may_want h.machine e' b (lists_of h)) (sym same') may),
-      )
+  )
 
   -- one more event
   answered-more : (start : M) (e : Event C) (b : Bool) (now : List C × List C) (es : List (Event C)) (bs : List Bool) (first : List C × List C) → length bs ≡ length es → now ≡ after_all (accepted_of es bs) first → AreAnsweredRightly step may_want start es bs first → IsAnsweredRightly step may_want start e b now → AreAnsweredRightly step may_want start (es ++ e ∷ []) (bs ++ b ∷ []) first

@@ -1,6 +1,6 @@
 -- What events make of the standing and the undone commands.
 use Rattle.std.specs.Prelude.{◌≡◌, ◌⊎◌, Bool, true, false, List, [], ◌∷◌, ◌++◌, ⊤, length, Some, IsTrue}
-use Rattle.sgb_undo.specs.Outcome.{Outcome, IsRefused}
+use Rattle.sgb_undo.specs.Outcome.{Outcome, is_accepted}
 use Rattle.sgb_undo.specs.Replay.{fold}
 use Rattle.sgb_undo.specs.History.{History, grows_at, FirstMayWant}
 use Rattle.sgb_undo.specs.declared.runs.Event.{Event}
@@ -46,7 +46,7 @@ module _ {M C D R F : Type 0} (step : M → C → Outcome M D R F) (may_want : M
   abbrev pub MayAnswer : M → Event C → Bool → List C × List C → Type 0
   MayAnswer m (Apply c) true lists = length lists.0 ≡ 65535 → ⊥
   MayAnswer m (Apply c) false lists =
-      (length lists.0 ≡ 65535) ⊎ IsRefused (step m c) ⊎ (may_want m c ≡ true) ⊎ (lists.1 ≡ []) × IsTrue (grows_at (length lists.0))
+      (length lists.0 ≡ 65535) ⊎ (is_accepted (step m c) ≡ false) ⊎ (may_want m c ≡ true) ⊎ (lists.1 ≡ []) × IsTrue (grows_at (length lists.0))
   MayAnswer m Undo true lists = lists.0 ≡ [] → ⊥
   MayAnswer m Undo false lists = lists.0 ≡ []
   MayAnswer m Redo true lists = lists.1 ≡ [] → ⊥

@@ -1,4 +1,5 @@
 -- What a machine answers to a command.
+use Rattle.std.specs.Prelude.{Bool, true, false}
 
 -- it accepts: the value after it, the delta and the reply; or it refuses
 pub data Outcome (M D R F : Type 0) : Type 0 where
@@ -6,9 +7,9 @@ pub data Outcome (M D R F : Type 0) : Type 0 where
   Refused : F → Outcome M D R F
 
 module _ {M D R F : Type 0} where
-  abbrev pub IsRefused : Outcome M D R F → Type 0
-  IsRefused (Accepted n d r) = ⊥
-  IsRefused (Refused r) = Unit {0}
+  abbrev pub is_accepted : Outcome M D R F → Bool
+  is_accepted (Accepted n d r) = true
+  is_accepted (Refused r) = false
 
   -- what f makes of the value after an accepted command and of its delta, and else the other answer
   abbrev pub on_accepted : {X : Type 0} → Outcome M D R F → (M → D → X) → X → X
