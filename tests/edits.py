@@ -1,13 +1,13 @@
 #!/usr/bin/env python3
 """Tries the edits of crates/NAME/edits/: each turns what a function does, and the prover has to refuse it there.
 
-    edits.py [-v] [NAME..]
+    edits.py [-v] [NAME | FILE ..]
 
 An edit is written as those in must-fail/ are. Many are tried at a time, at most one for a function: they are laid on one
 copy of the crate, the copy is checked over the work that `rt check` kept, and each edit must be refused at a function
 whose body it edits. Where no refusal names an edit, or the copy cannot be read, the edit is tried again alone; so is
 one that edits no body, which any refusal may meet. The crates themselves must be proved. With names it tries the
-edits of those crates alone, and with -v it tells what refused each.
+edits of those crates alone, with files those edits, also of must-fail/, and with -v it tells what refused each.
 """
 import importlib.machinery
 import importlib.util
@@ -112,7 +112,7 @@ class Edit:
 
     def __init__(self, crate, file, functions):
         self.crate, self.file = crate, file
-        self.label = '%s/edits/%s' % (crate.name, os.path.basename(file))
+        self.label = os.path.relpath(file)
         self.texts, self.why = rt.read_edit(file, crate.folder)
         self.functions = [] if self.why else self.edited(functions)
         if not self.why and all(rtlib.text_of('%s/%s' % (crate.folder, it)) == text for it, text in self.texts.items()):
@@ -137,16 +137,16 @@ class Edit:
         return [*found.values()]
 
 
-def edits_of(crate):
-    """The edits of a crate, and what lies beside them."""
+def edits_of(crate, files):
+    """The edits of a crate, all or those in these files, and what lies beside them."""
     folder = '%s/edits' % crate.folder
-    names = sorted(os.listdir(folder)) if os.path.isdir(folder) else []
-    unread = [it for it in names if not NAME.fullmatch(it) or not os.path.isfile('%s/%s' % (folder, it))]
-    if not names:
+    found = ['%s/%s' % (folder, it) for it in sorted(os.listdir(folder))] if os.path.isdir(folder) and not files else files
+    unread = [it for it in found if not NAME.fullmatch(os.path.basename(it)) or not os.path.isfile(it)]
+    if not found:
         return [], []
     texts = {os.path.relpath(file, crate.folder): text for file, text in rtlib.blanked(crate.folder).items()}
     functions = {path: functions_of(path, text) for path, text in texts.items() if path.endswith('.rt')}
-    return [Edit(crate, '%s/%s' % (folder, it), functions) for it in names if it not in unread], unread
+    return [Edit(crate, it, functions) for it in found if it not in unread], [os.path.relpath(it) for it in unread]
 
 
 def groups_of(edits):
@@ -296,13 +296,13 @@ class Tally:
         if self.tells_all or not well:
             print('%s: %s%s' % (label, 'refused, as it must be: ' if well else '', why), flush=True)
 
-    def try_all(self, pool, crates):
+    def try_all(self, pool, crates, files):
         """Proves the crates, lowest first, and tries the edits of each; one line a crate."""
         running = []
         for crate in crates:
-            edits, unread = edits_of(crate)
+            edits, unread = edits_of(crate, [it for it in files if it.startswith(crate.folder + '/')])
             for it in unread:
-                self.tell(False, '%s/edits/%s' % (crate.name, it), 'no edit: those are named FUNCTION-what_is_wrong.edit')
+                self.tell(False, it, 'no edit: those are named FUNCTION-what_is_wrong.edit')
             for it in [it for it in edits if it.why]:
                 self.tell(False, it.label, it.why)
             good, is_proved, took = [it for it in edits if not it.why], True, 0
@@ -326,16 +326,18 @@ class Tally:
 
 
 def main():
-    names = [it for it in sys.argv[1:] if it != '-v']
+    words = [it for it in sys.argv[1:] if it != '-v']
+    files = [os.path.abspath(it) for it in words if it.endswith('.edit')]
+    names = [it for it in words if not it.endswith('.edit')]
     global GUARD
     GUARD = rtlib.guarded()
     crates = sorted(rtlib.crates_below(os.getcwd()), key=lambda it: len(it.below()))
-    unknown = {*names} - {it.name for it in crates}
     tally = Tally('-v' in sys.argv)
-    for it in sorted(unknown):
+    for it in sorted({*names} - {it.name for it in crates}):
         tally.tell(False, it, 'no crate has this name')
+    wanted = [it for it in crates if not words or it.name in names or any(file.startswith(it.folder + '/') for file in files)]
     with ThreadPoolExecutor(workers()) as pool:
-        tally.try_all(pool, [it for it in crates if not names or it.name in names])
+        tally.try_all(pool, wanted, files)
     print('edits: %d passed, %d failed' % (tally.passed, tally.failed))
     return 1 if tally.failed else 0
 

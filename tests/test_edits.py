@@ -88,7 +88,7 @@ EDITS_TRIED = [
 ]
 
 # What else must be told, and what the runs end with.
-TOLD = ['tiny/edits/notes.txt: no edit',
+TOLD = ['crates/tiny/edits/notes.txt: no edit',
         'open: the crate is not proved, so none of its 1 edits was tried',
         'tiny: 4 of 11 edits refused',
         'edits: 4 passed, 8 failed']
@@ -124,7 +124,7 @@ def main():
     with tempfile.TemporaryDirectory(prefix='sgb-test-edits-') as room:
         make(room)
         (first, is_well), (second, _) = run(room), run(room)
-    wanted = TOLD + ['%s/edits/%s.edit: %s' % (crate, name, told) for crate, name, _, _, told in EDITS_TRIED if told]
+    wanted = TOLD + ['crates/%s/edits/%s.edit: %s' % (crate, name, told) for crate, name, _, _, told in EDITS_TRIED if told]
     lines = first.splitlines()
     found = [any(line.startswith(it) for line in lines) for it in wanted] + [not is_well, first == second]
     for it, is_there in zip(wanted + ['a status of failure', 'the second run as the first'], found):
