@@ -19,7 +19,7 @@ pub struct Name {
 
 impl Model for Name {
     ghost use Rattle.std.specs.Prelude.{List, ℕ, ◌++◌, ◌-◌, take, length, replicate};
-    ghost use Rattle.sgb_script.specs.Name.{IsPadded};
+    ghost use Rattle.sgb_script.specs.Private.Padding.{IsPadded};
 
     ghost Value = { List ℕ };
 
@@ -29,7 +29,7 @@ impl Model for Name {
 
     ghost inverse = { λ t. record { bytes = t ++ replicate (32 - length t) 0; len = length t } };
 
-    ghost use Rattle.sgb_script.specs.Padding.{bytes_back, len_back};
+    ghost use Rattle.sgb_script.specs.Private.Padding.{bytes_back, len_back};
 
     ghost inverse_ok = { λ n h i. record {
       bytes = bytes_back n.len n.bytes h i;
