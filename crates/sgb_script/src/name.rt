@@ -10,7 +10,7 @@ pub const NAME_LIMIT: usize = 32;
 
 /// The name of a graph in a session: a letter, then letters, digits and `_`, at most 32 bytes in all. It takes no
 /// memory, and is copied like a number.
-#[derive(Clone, Copy, Debug, PartialEq, Eq)]
+#[derive(Clone, Copy, Debug)]
 pub struct Name {
     // The bytes of the name, and zeros behind them.
     bytes: [u8; NAME_LIMIT],
@@ -35,6 +35,29 @@ impl Model for Name {
       bytes = bytes_back n.len n.bytes h i;
       len = len_back n.len n.bytes h i;
     } };
+}
+
+impl PartialEq for Name {
+    ghost use Rattle.std.proofs.Common.{rules};
+    ghost use Rattle.std.specs.Prelude.{◌==◌};
+    ghost use Rattle.std.specs.Cmp.Lexicographic.{pointwise};
+    ghost use Rattle.std.specs.Cmp.Rules.{comparing};
+
+    ghost eq = { pointwise ◌==◌ };
+
+    ghost laws = { Prim.search (comparing, rules) };
+
+    #[inline]
+    fn eq(&self, other: &Name) -> bool {
+        self.bytes() == other.bytes()
+    }
+}
+
+impl Eq for Name {
+    ghost use Rattle.std.proofs.Common.{rules};
+    ghost use Rattle.std.specs.Cmp.Rules.{comparing};
+
+    ghost laws = { Prim.search (comparing, rules) };
 }
 
 impl Name {
