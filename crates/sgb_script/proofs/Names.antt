@@ -5,7 +5,8 @@ use Rattle.std.specs.Prelude.{replicate}
 use Rattle.std.proofs.lemmas.Bool.{cases_lt, leb-true, le-leb, false_from_ne_true, and_right}
 use Rattle.std.proofs.lemmas.List.{drop-replicate, length-replicate}
 use Rattle.std.proofs.Math.Seq.{take-append_seam, drop-append_seam}
-use Rattle.sgb_script.specs.Name.{IsPadded, is_name, is_letter, is_name_byte}
+use Rattle.sgb_script.specs.Name.{is_name, is_letter, is_name_byte}
+use Rattle.sgb_script.specs.Private.Padding.{IsPadded}
 
 long_tail : (n : ℕ) → 32 < suc n → nat_le n 31 ≡ false
 long_tail n h = false_from_ne_true _ (λ t. let k : n ≤ 31 = leb-true n 31 t in absurd (omega arith))

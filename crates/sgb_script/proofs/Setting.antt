@@ -1,12 +1,14 @@
 -- What a line that sets a field asks for, by its four words.
 use Rattle.std.proofs.Common.{◌≡◌, List, [], ◌∷◌, Option, Some, None, refl, sym, ap, ◌∙◌, subst, ℕ, IsTrue, Result, Err, ◌⊎◌, inl, inr}
 use Rattle.std.specs.Option.{option_map, option_and_then}
-use Rattle.sgb_script.specs.Words.{Word, Plain, Quoted, four_of, AreTexts, HasTexts}
+use Rattle.sgb_script.specs.Words.{Word, Plain, Quoted}
+use Rattle.sgb_script.specs.Private.Words.{four_of, AreTexts, HasTexts}
 use Rattle.sgb_graph.specs.declared.field.Place.{Place}
 use Rattle.sgb_graph.specs.declared.field.Util.{Util}
 use Rattle.sgb_graph.specs.declared.field.Util.TheVariants as utils
-use Rattle.sgb_script.specs.Arguments.{the_name, the_place, the_value, is_text}
-use Rattle.sgb_script.specs.Line.{line_after, takes_memory, Reads}
+use Rattle.sgb_script.specs.Arguments.{the_name, the_place, the_value}
+use Rattle.sgb_script.specs.Line.{line_after, takes_memory}
+use Rattle.sgb_script.specs.Private.Reading.{is_text, Reads}
 use Rattle.sgb_script.specs.declared.refusal.ShellRefusal.{ShellRefusal}
 use Rattle.sgb_script.specs.declared.refusal.ShellRefusal.TheVariants.{NoRoom, ScriptSyntax}
 use Rattle.sgb_script.specs.declared.line.Keyword.TheVariants as keywords

@@ -6,7 +6,8 @@ use Rattle.std.proofs.lemmas.Bool.{cases_Bool, cases_lt, ne_eqb, eq-eqb, eqb-tru
 use Rattle.std.proofs.lemmas.List.{append-nil, nil_from_length, length-drop, drop-drop, take_all}
 use Rattle.std.proofs.lemmas.List.Folds.{length-prefix_len}
 use Rattle.std.proofs.lemmas.List.Splits.{slice_split_first}
-use Rattle.sgb_script.specs.Words.{is_nothing, one_of, two_of, three_of, four_of, Word, Plain, Quoted, plain_words, words_in, words_of, begins_with_space, ends_with_space, is_quotable}
+use Rattle.sgb_script.specs.Private.Words.{is_nothing, one_of, two_of, three_of, four_of}
+use Rattle.sgb_script.specs.Words.{Word, Plain, Quoted, plain_words, words_in, words_of, begins_with_space, ends_with_space, is_quotable}
 
 abbrev pub is_space : ℕ → Bool
 is_space b = b == 32

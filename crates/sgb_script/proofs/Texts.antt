@@ -4,7 +4,8 @@ use Rattle.std.specs.Option.{option_map}
 use Rattle.std.specs.List.{slice_split, onto_first, list_all, list_any}
 use Rattle.std.proofs.lemmas.Bool.{cases_Bool, leb-true}
 use Rattle.sgb_graph.specs.Text.{IsText, is_text_byte}
-use Rattle.sgb_script.specs.Words.{Word, Plain, Quoted, words_in, words_of, is_quotable, begins_with_space, ends_with_space, AreTexts, HasTexts}
+use Rattle.sgb_script.specs.Words.{Word, Plain, Quoted, words_in, words_of, is_quotable, begins_with_space, ends_with_space}
+use Rattle.sgb_script.specs.Private.Words.{AreTexts, HasTexts}
 use Rattle.sgb_script.specs.Line.{is_printable_byte}
 
 abbrev is_inside : ℕ → Bool

@@ -1,5 +1,5 @@
 -- What a word says where a name, a number, a place or a value is wanted.
-use Rattle.std.specs.Prelude.{ℕ, ◌==◌, Bool, true, false, ◌&&◌, if◌then◌else◌, List, [], ◌∷◌, length, codes, ℤ, Option, None, Some, option_and_then}
+use Rattle.std.specs.Prelude.{ℕ, ◌==◌, ◌&&◌, if◌then◌else◌, List, [], ◌∷◌, length, codes, ℤ, Option, None, Some, option_and_then}
 use Rattle.std.specs.Option.{option_map}
 use Rattle.std.specs.List.{list_all}
 use Rattle.std.specs.Str.{bytes_eq}
@@ -94,11 +94,3 @@ value_in (c ∷ cs) =
 abbrev pub the_value : Word → Option Util
 the_value (Plain w) = value_in w
 the_value (Quoted t) = Some (utils.Text t)
-
-abbrev pub is_text : Option Util → Bool
-is_text None = false
-is_text (Some utils.Zero) = false
-is_text (Some (utils.Int z)) = false
-is_text (Some (utils.Vertex k)) = false
-is_text (Some (utils.Arc k)) = false
-is_text (Some (utils.Text t)) = true

@@ -1,7 +1,7 @@
 pub mod Name
-pub mod Padding
 pub mod Words
 pub mod Numbers
 pub mod Arguments
 pub mod Line
 pub mod Refusal
+pub mod Private

@@ -1,5 +1,5 @@
 -- One line of a script: what its words ask for.
-use Rattle.std.specs.Prelude.{◌≡◌, ℕ, ◌==◌, nat_lt, nat_le, Bool, true, false, not, ◌&&◌, ◌||◌, ◌⊎◌, IsTrue, if◌then◌else◌, List, [], ◌∷◌, length, slice_index, codes, Option, None, Some, option_and_then, Result, Ok, Err}
+use Rattle.std.specs.Prelude.{ℕ, ◌==◌, nat_lt, nat_le, Bool, true, false, not, ◌&&◌, ◌||◌, if◌then◌else◌, List, [], ◌∷◌, length, slice_index, codes, Option, None, Some, option_and_then}
 use Rattle.std.specs.Option.{option_map}
 use Rattle.std.specs.List.{list_all}
 use Rattle.std.specs.Str.{bytes_eq}
@@ -13,8 +13,6 @@ use Rattle.sgb_script.specs.declared.command.Edit.TheVariants.{Arc, Edge, Cut, L
 use Rattle.sgb_script.specs.declared.command.Query.TheVariants as queries
 use Rattle.sgb_script.specs.declared.command.Line.{Line}
 use Rattle.sgb_script.specs.declared.command.Line.TheVariants.{Nothing, Change, Undo, Redo, Ask}
-use Rattle.sgb_script.specs.declared.refusal.ShellRefusal.{ShellRefusal}
-use Rattle.sgb_script.specs.declared.refusal.ShellRefusal.TheVariants.{NoRoom, ScriptSyntax}
 
 abbrev pub keyword_of : List ℕ → Option Keyword
 keyword_of w =
@@ -112,8 +110,3 @@ has_text line = false
 abbrev pub takes_memory : Option Line → Bool
 takes_memory None = false
 takes_memory (Some line) = has_text line
-
--- what the reading of a line answers: the line, 100 where it is none, or 1 where it takes memory
-abbrev pub Reads : Option Line → Result Line ShellRefusal → Type 0
-Reads asked (Ok line) = asked ≡ Some line
-Reads asked (Err e) = ((e ≡ ScriptSyntax) × (asked ≡ None)) ⊎ ((e ≡ NoRoom) × IsTrue (takes_memory asked))

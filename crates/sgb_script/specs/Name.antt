@@ -1,5 +1,5 @@
 -- The names of graphs.
-use Rattle.std.specs.Prelude.{◌≡◌, ℕ, ◌-◌, ◌≤◌, Bool, false, ◌&&◌, ◌||◌, ◌==◌, nat_le, IsTrue, List, [], ◌∷◌, length, take, drop, replicate}
+use Rattle.std.specs.Prelude.{ℕ, Bool, false, ◌&&◌, ◌||◌, ◌==◌, nat_le, List, [], ◌∷◌, length}
 use Rattle.std.specs.List.{list_all}
 
 abbrev pub is_letter : ℕ → Bool
@@ -13,10 +13,3 @@ is_name_byte c = is_letter c || (nat_le 48 c && nat_le c 57) || c == 95
 unfoldable pub is_name : List ℕ → Bool
 is_name [] = false
 is_name (c ∷ cs) = is_letter c && list_all is_name_byte cs && nat_le (length cs) 31
-
--- a name of so many bytes, and zeros up to 32
-pub record IsPadded (n : ℕ) (bytes : List ℕ) : Type 0 where
-  pub name : IsTrue (is_name (take n bytes))
-  pub size : length bytes ≡ 32
-  pub len : n ≤ 32
-  pub padding : drop n bytes ≡ replicate (32 - n) 0

@@ -1,11 +1,7 @@
 -- The words of a line.
-use Rattle.std.specs.Prelude.{◌≡◌, ℕ, ◌==◌, nat_le, Bool, true, false, not, ◌&&◌, ◌||◌, ◌⊎◌, if◌then◌else◌, List, [], ◌∷◌, ◌++◌, map, length, filter, slice_index, Option, None, Some}
+use Rattle.std.specs.Prelude.{ℕ, ◌==◌, nat_le, Bool, false, not, ◌&&◌, ◌||◌, if◌then◌else◌, List, [], ◌∷◌, ◌++◌, map, length, filter, slice_index, Option, None, Some}
 use Rattle.std.specs.Option.{option_map}
 use Rattle.std.specs.List.{slice_split, list_any}
-use Rattle.sgb_graph.specs.Text.{IsText}
-use Rattle.sgb_script.specs.declared.words.Word.TheVariants as borrowed
-use Rattle.sgb_script.specs.declared.words.Word as borrowed_word
-use denote.Ref.{Bor}
 
 -- a word, or what stands between two quotes
 pub data Word : Type 0 where
@@ -41,53 +37,3 @@ words_in (p ∷ t ∷ q ∷ more) =
 
 unfoldable pub words_of : List ℕ → Option (List Word)
 words_of line = words_in (slice_split (λ b. b == 34) line)
-
--- ---- words in hand
-
--- a word as the program holds it, which borrows its bytes from the line
-abbrev pub seen : borrowed_word.Word → Word
-seen (borrowed.Plain w) = Plain w.now
-seen (borrowed.Quoted t) = Quoted t.now
-
--- the first word and what follows it; nothing where no word is left or the line is none
-abbrev pub Splits : Option (List Word) → Option (borrowed_word.Word × Bor (List ℕ)) → Type 0
-Splits words None = (words ≡ None) ⊎ (words ≡ Some [])
-Splits words (Some r) = words ≡ option_map (λ ws. seen r.0 ∷ ws) (words_of r.1.now)
-
--- no word is left
-abbrev pub is_nothing : Option (List Word) → Bool
-is_nothing None = false
-is_nothing (Some []) = true
-is_nothing (Some (w ∷ ws)) = false
-
--- so many words, and no more
-abbrev pub one_of : Option (List Word) → Option Word
-one_of None = None
-one_of (Some []) = None
-one_of (Some (a ∷ [])) = Some a
-one_of (Some (a ∷ b ∷ ws)) = None
-
-abbrev pub two_of : Option (List Word) → Option (Word × Word)
-two_of None = None
-two_of (Some []) = None
-two_of (Some (a ∷ ws)) = option_map (λ b. (a, b)) (one_of (Some ws))
-
-abbrev pub three_of : Option (List Word) → Option (Word × Word × Word)
-three_of None = None
-three_of (Some []) = None
-three_of (Some (a ∷ ws)) = option_map (λ p. (a, p.0, p.1)) (two_of (Some ws))
-
-abbrev pub four_of : Option (List Word) → Option (Word × Word × Word × Word)
-four_of None = None
-four_of (Some []) = None
-four_of (Some (a ∷ ws)) = option_map (λ p. (a, p.0, p.1, p.2)) (three_of (Some ws))
-
--- what stands between quotes are texts
-abbrev pub AreTexts : List Word → Type 0
-AreTexts [] = Unit {0}
-AreTexts (Plain w ∷ ws) = AreTexts ws
-AreTexts (Quoted t ∷ ws) = IsText t × AreTexts ws
-
-abbrev pub HasTexts : Option (List Word) → Type 0
-HasTexts None = Unit {0}
-HasTexts (Some ws) = AreTexts ws

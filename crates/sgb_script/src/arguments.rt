@@ -1,7 +1,7 @@
 //! The arguments of a line: what a word says where a name, a number, a place or a value is wanted.
 ghost use Rattle.std.specs.Prelude.{◌≡◌};
 ghost use Rattle.std.specs.Option.{option_map, option_copied};
-ghost use Rattle.sgb_script.specs.Words.{seen};
+ghost use Rattle.sgb_script.specs.Private.Words.{seen};
 ghost use Rattle.sgb_script.specs.Arguments.{the_number, the_vertex, the_arc, the_name, the_text, the_letters, the_place, place_in, value_in, vertex_field, arc_field, graph_field};
 
 use crate::Name;

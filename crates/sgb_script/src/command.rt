@@ -4,7 +4,7 @@ use crate::Name;
 use sgb_graph::{ArcNo, Place, Text, Types, Util, VertexNo};
 
 /// A command that changes the session. It stands in the journal, so that it can be undone.
-#[derive(Debug, Drop)]
+#[derive(Debug, Drop, PartialEq, Eq)]
 pub enum Command {
     /// `seed S`: the generator starts anew (`gb_init_rand`).
     Seed(i64),
@@ -24,7 +24,7 @@ pub enum Command {
 ///
 /// A number that a script writes for a vertex or an arc and that no graph can give out is the greatest of 32 bits
 /// here, which no graph gives out either.
-#[derive(Debug, Drop)]
+#[derive(Debug, Drop, PartialEq, Eq)]
 pub enum Edit {
     /// `arc G u v len`: a new arc (`gb_new_arc`).
     Arc(VertexNo, VertexNo, i64),
@@ -56,7 +56,7 @@ pub enum Query {
 }
 
 /// One line of a script, as it was read.
-#[derive(Debug, Drop)]
+#[derive(Debug, Drop, PartialEq, Eq)]
 pub enum Line {
     /// An empty line, a line of spaces or a comment.
     Nothing,

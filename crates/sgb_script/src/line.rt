@@ -3,9 +3,11 @@ ghost use Rattle.std.specs.Prelude.{◌≡◌, ◌⊎◌, MatchOption, IfOk, IfE
 ghost use Rattle.std.specs.List.{list_all};
 ghost use Rattle.std.specs.Option.{option_and_then};
 ghost use Rattle.sgb_graph.specs.Text.{IsText};
-ghost use Rattle.sgb_script.specs.Words.{words_of, seen, AreTexts, HasTexts};
-ghost use Rattle.sgb_script.specs.Arguments.{the_value, is_text};
-ghost use Rattle.sgb_script.specs.Line.{line_of, asked_of, line_after, keyword_of, none, takes_memory, is_printable_byte, Reads};
+ghost use Rattle.sgb_script.specs.Words.{words_of};
+ghost use Rattle.sgb_script.specs.Arguments.{the_value};
+ghost use Rattle.sgb_script.specs.Line.{line_of, asked_of, line_after, keyword_of, none, takes_memory, is_printable_byte};
+ghost use Rattle.sgb_script.specs.Private.Words.{seen, AreTexts, HasTexts};
+ghost use Rattle.sgb_script.specs.Private.Reading.{is_text, Reads};
 ghost use Rattle.sgb_script.specs.declared.refusal.ShellRefusal.TheVariants.{NoRoom, ScriptSyntax};
 ghost use Rattle.sgb_script.specs.declared.line.Keyword.TheVariants as keywords;
 

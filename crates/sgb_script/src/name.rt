@@ -10,7 +10,7 @@ pub const NAME_LIMIT: usize = 32;
 
 /// The name of a graph in a session: a letter, then letters, digits and `_`, at most 32 bytes in all. It takes no
 /// memory, and is copied like a number.
-#[derive(Clone, Copy, Debug, PartialEq, Eq)]
+#[derive(Clone, Copy, Debug)]
 pub struct Name {
     // The bytes of the name, and zeros behind them.
     bytes: [u8; NAME_LIMIT],
@@ -19,7 +19,7 @@ pub struct Name {
 
 impl Model for Name {
     ghost use Rattle.std.specs.Prelude.{List, ℕ, ◌++◌, ◌-◌, take, length, replicate};
-    ghost use Rattle.sgb_script.specs.Name.{IsPadded};
+    ghost use Rattle.sgb_script.specs.Private.Padding.{IsPadded};
 
     ghost Value = { List ℕ };
 
@@ -29,12 +29,35 @@ impl Model for Name {
 
     ghost inverse = { λ t. record { bytes = t ++ replicate (32 - length t) 0; len = length t } };
 
-    ghost use Rattle.sgb_script.specs.Padding.{bytes_back, len_back};
+    ghost use Rattle.sgb_script.specs.Private.Padding.{bytes_back, len_back};
 
     ghost inverse_ok = { λ n h i. record {
       bytes = bytes_back n.len n.bytes h i;
       len = len_back n.len n.bytes h i;
     } };
+}
+
+impl PartialEq for Name {
+    ghost use Rattle.std.proofs.Common.{rules};
+    ghost use Rattle.std.specs.Prelude.{◌==◌};
+    ghost use Rattle.std.specs.Cmp.Lexicographic.{pointwise};
+    ghost use Rattle.std.specs.Cmp.Rules.{comparing};
+
+    ghost eq = { pointwise ◌==◌ };
+
+    ghost laws = { Prim.search (comparing, rules) };
+
+    #[inline]
+    fn eq(&self, other: &Name) -> bool {
+        self.bytes() == other.bytes()
+    }
+}
+
+impl Eq for Name {
+    ghost use Rattle.std.proofs.Common.{rules};
+    ghost use Rattle.std.specs.Cmp.Rules.{comparing};
+
+    ghost laws = { Prim.search (comparing, rules) };
 }
 
 impl Name {

@@ -2,7 +2,8 @@
 ghost use Rattle.std.specs.Prelude.{◌≡◌, ◌<◌, ◌≤◌, ◌==◌, ◌∷◌, ◌&&◌, ◌||◌, not, length, slice_index, Some, None};
 ghost use Rattle.std.specs.Option.{option_map};
 ghost use Rattle.std.specs.List.{prefix_len, list_any};
-ghost use Rattle.sgb_script.specs.Words.{words_of, seen, Splits, is_nothing, one_of, two_of, three_of, four_of, is_quotable};
+ghost use Rattle.sgb_script.specs.Words.{words_of, is_quotable};
+ghost use Rattle.sgb_script.specs.Private.Words.{seen, Splits, is_nothing, one_of, two_of, three_of, four_of};
 
 const SPACE: u8 = b' ';
 

@@ -1,4 +1,5 @@
-use Rattle.sgb_script.specs.Words.{seen, words_of}
+use Rattle.sgb_script.specs.Words.{words_of}
+use Rattle.sgb_script.specs.Private.Words.{seen}
 use Rattle.sgb_script.proofs.Texts.{rest_texts}
 use Rattle.sgb_script.proofs.line.asked.Goals as goal
 

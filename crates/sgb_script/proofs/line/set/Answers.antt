@@ -1,6 +1,7 @@
 use Rattle.std.proofs.Common.{◌≡◌, Err, sym, ap, ◌∙◌, rules}
 use Rattle.std.specs.Option.{option_map}
-use Rattle.sgb_script.specs.Words.{seen, words_of}
+use Rattle.sgb_script.specs.Words.{words_of}
+use Rattle.sgb_script.specs.Private.Words.{seen}
 use Rattle.sgb_script.specs.Arguments.{the_value}
 use Rattle.sgb_script.proofs.Setting.{last_text, by_value, refused}
 use Rattle.sgb_script.proofs.line.set.Goals as goal

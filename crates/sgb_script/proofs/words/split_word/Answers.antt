@@ -1,7 +1,8 @@
 use Rattle.std.proofs.Common.{◌∙◌, ap, subst, inr, arith}
 use Rattle.std.proofs.lemmas.Bool.{ne_eqb}
 use Rattle.std.proofs.lemmas.Grind.{common_steps}
-use Rattle.sgb_script.specs.Words.{Splits, words_of}
+use Rattle.sgb_script.specs.Words.{words_of}
+use Rattle.sgb_script.specs.Private.Words.{Splits}
 use Rattle.sgb_script.proofs.Splitting.{no_word, letter_behind, after_spaces, quote_first}
 use Rattle.sgb_script.proofs.words.split_word.Goals as goal
 

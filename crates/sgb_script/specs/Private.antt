@@ -1,0 +1,4 @@
+-- What serves private functions only.
+pub mod Padding
+pub mod Words
+pub mod Reading

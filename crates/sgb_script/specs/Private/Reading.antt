@@ -1,0 +1,22 @@
+-- What the functions that read a line answer.
+use Rattle.std.specs.Prelude.{◌≡◌, Bool, true, false, ◌⊎◌, IsTrue, Option, None, Some, Result, Ok, Err}
+use Rattle.sgb_graph.specs.declared.field.Util.{Util}
+use Rattle.sgb_graph.specs.declared.field.Util.TheVariants as utils
+use Rattle.sgb_script.specs.declared.command.Line.{Line}
+use Rattle.sgb_script.specs.declared.refusal.ShellRefusal.{ShellRefusal}
+use Rattle.sgb_script.specs.declared.refusal.ShellRefusal.TheVariants.{NoRoom, ScriptSyntax}
+use Rattle.sgb_script.specs.Line.{takes_memory}
+
+-- the value of a field is a text
+abbrev pub is_text : Option Util → Bool
+is_text None = false
+is_text (Some utils.Zero) = false
+is_text (Some (utils.Int z)) = false
+is_text (Some (utils.Vertex k)) = false
+is_text (Some (utils.Arc k)) = false
+is_text (Some (utils.Text t)) = true
+
+-- what the reading of a line answers: the line, 100 where it is none, or 1 where it takes memory
+abbrev pub Reads : Option Line → Result Line ShellRefusal → Type 0
+Reads asked (Ok line) = asked ≡ Some line
+Reads asked (Err e) = ((e ≡ ScriptSyntax) × (asked ≡ None)) ⊎ ((e ≡ NoRoom) × IsTrue (takes_memory asked))
