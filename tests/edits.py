@@ -119,8 +119,8 @@ class Edit:
             self.why = 'it changes nothing'
 
     def edited(self, functions):
-        """The functions whose bodies hold the edit's texts, each sought in what the pairs before it made."""
-        found, path, texts = {}, None, {}
+        """The functions whose bodies hold the edit's texts, none where a text stands outside; a pair meets what those before it made."""
+        found, path, texts, self.places = {}, None, {}, set()
         for line in rtlib.text_of(self.file).split('\n'):
             if line.startswith('file: '):
                 path = line[len('file: '):].strip()
@@ -128,13 +128,12 @@ class Edit:
             elif line.startswith('old: '):
                 before, old, after = texts[path].partition(line[len('old: '):])
                 at = before.count('\n')
+                self.places.add('%s:%d' % (path, at + 1))
                 inside = [it for it in functions.get(path, []) if it.lines[0] <= at <= it.lines[1]]
-                if not inside:
-                    return []
-                found[inside[-1].key] = inside[-1]
+                found[inside[-1].key if inside else None] = inside[-1] if inside else None
             elif line.startswith('new:'):
                 texts[path] = before + line[len('new:'):].removeprefix(' ') + after
-        return [*found.values()]
+        return [] if None in found else [*found.values()]
 
 
 def edits_of(crate, files):
@@ -254,7 +253,9 @@ def try_group(edits):
     said, left = check(edits[0].crate, edits)
     found, checks = {}, 1
     if said.unread:
-        halves = [edits[:len(edits) // 2], edits[len(edits) // 2:]]
+        broken = [it for it in edits if any(said.unread.startswith((at + ':', './%s:' % at)) for at in it.places)]
+        rest = [it for it in edits if it not in broken]
+        halves = [[it] for it in broken] + [rest] if broken and rest else [edits[:len(edits) // 2], edits[len(edits) // 2:]]
     else:
         judged = {it: said.judge(it, False) for it in edits if it not in left}
         found = {it: told for it, told in judged.items() if told[0]}

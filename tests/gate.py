@@ -19,6 +19,8 @@ from edits import rt, rtlib
 
 PROGRAM = 'bin/sgb'
 REFUSING = 'tests/out/refuse_growth.so'
+# How many lines of a part, and of those that explain a failure, are printed.
+SHOWN = 30
 
 # The lines of `rt ci` that tell how far it is, and those of any command that tell what failed.
 PROGRESS = re.compile(r'rt: (?:\S+ (?:NOT )?proved|\S+: (?:its tests|trying its)|\S+ ran\b|FAILED|must-fail .*: (?:BAD|NOT))')
@@ -63,7 +65,7 @@ class Log:
     def explain(self, lines):
         """Prints the lines that tell what failed."""
         told = [it for it in lines if FAILURE.search(it)] or lines[-5:]
-        print('\n'.join('    ' + it[:200] for it in told[:30]))
+        print('\n'.join('    ' + it[:200] for it in told[:SHOWN]))
         print('    more in %s' % self.path, flush=True)
 
 
@@ -181,16 +183,24 @@ class Gate:
         print('%6s  %s' % (clock(time.time() - self.log.start), line[:160]), flush=True)
 
     def part(self, name, words, tell=None):
-        """Runs a part, whose last line counts what passed and failed, of which each is printed unless `tell` picks some."""
-        start, used = time.time(), processor_time()
-        status, lines = self.log.call(words, tell=tell or self.say)
+        """Runs a part, whose last line counts what passed and failed. Its first lines are printed, or those that `tell` picks."""
+        start, used, told = time.time(), processor_time(), []
+
+        def say(line):
+            told.append(line)
+            if len(told) <= SHOWN and not counted([line]):
+                self.say(line)
+
+        status, lines = self.log.call(words, tell=tell or say)
         passed, failed = counted(lines) or (0, 1)
         failed += status != 0 and failed == 0
         self.passed, self.failed = self.passed + passed, self.failed + failed
-        self.say('%s: %d passed, %d failed; %s, processor %s' % (name, passed, failed, clock(time.time() - start),
-                                                                clock(processor_time() - used)))
-        if failed and tell:
+        if tell and failed:
             self.log.explain(lines)
+        elif len(told) > SHOWN:
+            self.say('.. more in %s' % self.log.path)
+        self.say('%s: %d passed, %d failed, in %s, %s of processor' % (name, passed, failed, clock(time.time() - start),
+                                                                      clock(processor_time() - used)))
 
     def run(self):
         program = next(it for it in crates() if it.is_program)
