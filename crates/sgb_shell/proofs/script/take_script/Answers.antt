@@ -20,7 +20,7 @@ returns-then-is_err g c =
     let whole : length (run.script ++ bytes) ≡ length run.script + n = length-append run.script bytes ∙ ap (λ k. length run.script + k) size in
     let short : length bytes ≤ 4096 = let long = c.if-count-eq0.array_long in let was = run.space in let within = read.1 in omega arith in
     let taken = takes_err _ _ _ _ run.script _ _ _ _ _ _ c.take.result (sym c.is_err.ensures.value ∙ c.if-is_err.true)
-        (c.take.ensures.takes _ run.script (still_few run.script bytes _ n run.rest size read.0) (progress_kept _ _ _ _ _ _ _ _ _ read.6 run.progress)) in record {
+    (c.take.ensures.takes _ run.script (still_few run.script bytes _ n run.rest size read.0) (progress_kept _ _ _ _ _ _ _ _ _ read.6 run.progress)) in record {
       script = run.script ++ bytes;
       few = let rest = run.rest in let within = read.0 in omega arith;
       seldom = let few = run.seldom in let more = read.5 in omega arith;
@@ -41,7 +41,7 @@ loop-room-preserved g c =
     let size : length bytes ≡ n = ap length c.split_at.ensures.front ∙ length-take-le n c.read_on.new.chunk read.1 in
     let whole : length (run.script ++ bytes) ≡ length run.script + n = length-append run.script bytes ∙ ap (λ k. length run.script + k) size in
     let taken = takes_ok _ _ _ _ run.script _ _ _ _ _ _ c.take.result (sym c.is_err.ensures.value ∙ c.if-is_err.false)
-        (c.take.ensures.takes _ run.script (still_few run.script bytes _ n run.rest size read.0) (progress_kept _ _ _ _ _ _ _ _ _ read.6 run.progress)) in record {
+    (c.take.ensures.takes _ run.script (still_few run.script bytes _ n run.rest size read.0) (progress_kept _ _ _ _ _ _ _ _ _ read.6 run.progress)) in record {
       script = run.script ++ bytes;
       taken = Consumes-trans _ _ _ run.script bytes run.taken (subst (Consumes _ _) (sym c.split_at.ensures.front) read.2);
       rest = let rest = run.rest in let within = read.0 in omega arith;
