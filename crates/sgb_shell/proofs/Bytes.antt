@@ -4,14 +4,14 @@ use Rattle.std.proofs.lemmas.Bool.{cases_Bool, eqb-true, ne_eqb, eq-eqb, lt-ltb,
 use Rattle.std.proofs.lemmas.List.{take_all, take-append-le, take_more}
 use Rattle.std.specs.Prelude.{nat_lt}
 use Rattle.sgb_shell.specs.Lines.{whole_lines, unfinished, lines}
-use Rattle.sgb_shell.specs.Performing.{Kept}
-use Rattle.sgb_shell.specs.Reaching.{Reached, Stopped, Holds, Progress, Finishes, Takes}
-use Rattle.sgb_shell.proofs.Courses.{stopped-append}
+use Rattle.sgb_shell.specs.Private.Performing.{Kept}
+use Rattle.sgb_shell.specs.Private.Reaching.{Reached, Stopped, Holds, Progress, Finishes, Takes}
+use Rattle.sgb_shell.proofs.Courses.{stopped-append, stopped-earlier}
 use Rattle.sgb_shell.proofs.LineEnds.{parts-split, whole-newline, unfinished-newline, whole-byte, unfinished-byte}
 
 pub newline_taken : {X E : Type 0} (held now : Option (List ℕ)) (failed failed' : Bool) (script : List ℕ) (byte : ℕ) (journal : Kept) (kept : List ℕ) (is_long : Bool) (count refused : ℕ) (result : Result X E)
-    → byte ≡ 10 → Finishes held now failed failed' (whole_lines script ++ unfinished script ∷ []) journal count refused result → kept ≡ [] → is_long ≡ false
-    → Takes held now failed failed' (script ++ byte ∷ []) journal kept is_long count refused result
+    → byte ≡ 10 → Finishes held now failed failed' (whole_lines script) (whole_lines script ++ unfinished script ∷ []) journal count refused result → kept ≡ [] → is_long ≡ false
+    → Takes held now failed failed' script (script ++ byte ∷ []) journal kept is_long count refused result
 newline_taken held now failed failed' script byte journal kept is_long count refused (Ok x) newline f empty short =
     let same : script ++ 10 ∷ [] ≡ script ++ byte ∷ [] = ap (λ b. script ++ b ∷ []) (sym newline) in
     let none : unfinished (script ++ byte ∷ []) ≡ [] = ap unfinished (sym same) ∙ unfinished-newline script in (
@@ -23,7 +23,7 @@ newline_taken held now failed failed' script byte journal kept is_long count ref
     )
 newline_taken held now failed failed' script byte journal kept is_long count refused (Err e) newline f empty short =
     let same : script ++ 10 ∷ [] ≡ script ++ byte ∷ [] = ap (λ b. script ++ b ∷ []) (sym newline) in
-    (subst (Stopped held now) (sym (whole-newline script) ∙ ap whole_lines same) f.0, f.1)
+    (subst (Stopped held now (whole_lines script)) (sym (whole-newline script) ∙ ap whole_lines same) f.0, f.1)
 
 -- what is kept of a line has its length, up to 8,192
 length-kept : (kept line : List ℕ) (is_long : Bool) → Holds kept is_long line → length kept ≡ min 8192 (length line)
@@ -66,12 +66,12 @@ byte_dropped held now script byte journal kept is_long count refused ne full p =
 -- ---- the end of the script
 
 pub ended_line : {X E : Type 0} (held now : Option (List ℕ)) (failed failed' : Bool) (script : List ℕ) (journal : Kept) (kept : List ℕ) (is_long : Bool) (count refused : ℕ) (result : Result X E)
-    → Holds kept is_long (unfinished script) → (length kept ≡ 0 → ⊥) → Finishes held now failed failed' (whole_lines script ++ unfinished script ∷ []) journal count refused result
-    → Finishes held now failed failed' (lines script) journal count refused result
+    → Holds kept is_long (unfinished script) → (length kept ≡ 0 → ⊥) → Finishes held now failed failed' (whole_lines script) (whole_lines script ++ unfinished script ∷ []) journal count refused result
+    → Finishes held now failed failed' (whole_lines script) (lines script) journal count refused result
 ended_line held now failed failed' script journal kept is_long count refused result h some f =
     let ne : (length (unfinished script) == 0) ≡ false = ne_eqb (length (unfinished script)) 0 (λ e. some (omega (arith, length-kept kept (unfinished script) is_long h))) in
     let all : lines script ≡ whole_lines script ++ unfinished script ∷ [] = rw ne (parts-split script) in
-    subst (λ ls. Finishes held now failed failed' ls journal count refused result) (sym all) f
+    subst (λ ls. Finishes held now failed failed' (whole_lines script) ls journal count refused result) (sym all) f
 
 pub ended_none : (held now : Option (List ℕ)) (script : List ℕ) (journal : Kept) (kept : List ℕ) (is_long : Bool) (count refused : ℕ)
     → Progress held now script journal kept is_long count refused → length kept ≡ 0 → Reached held now (lines script) journal count refused
@@ -105,8 +105,10 @@ whole-extends script (b ∷ more) =
     ]
 
 -- what is written of the lines so far is a front of what all the bytes give
-pub bytes_failed : (held now : Option (List ℕ)) (script bytes : List ℕ) (i : ℕ) → Stopped held now (whole_lines (script ++ take i bytes)) → Stopped held now (whole_lines (script ++ bytes))
-bytes_failed held now script bytes i s =
-    let more = whole-extends (script ++ take i bytes) (drop i bytes) in
-    let all : (script ++ take i bytes) ++ drop i bytes ≡ script ++ bytes = append_assoc script (take i bytes) (drop i bytes) ∙ ap (λ t. script ++ t) (take-append-drop i bytes) in
-    subst (Stopped held now) (sym more.1 ∙ ap whole_lines all) (stopped-append held now (whole_lines (script ++ take i bytes)) more.0 s)
+pub bytes_failed : (held now : Option (List ℕ)) (script bytes : List ℕ) (i j : ℕ) → Stopped held now (whole_lines (script ++ take i bytes)) (whole_lines (script ++ take j bytes)) → Stopped held now (whole_lines script) (whole_lines (script ++ bytes))
+bytes_failed held now script bytes i j s =
+    let first = whole-extends script (take i bytes) in
+    let more = whole-extends (script ++ take j bytes) (drop j bytes) in
+    let all : (script ++ take j bytes) ++ drop j bytes ≡ script ++ bytes = append_assoc script (take j bytes) (drop j bytes) ∙ ap (λ t. script ++ t) (take-append-drop j bytes) in
+    let past = stopped-earlier held now (whole_lines script) first.0 (whole_lines (script ++ take j bytes)) (subst (λ ls. Stopped held now ls (whole_lines (script ++ take j bytes))) first.1 s) in
+    subst (Stopped held now (whole_lines script)) (sym more.1 ∙ ap whole_lines all) (stopped-append held now (whole_lines script) (whole_lines (script ++ take j bytes)) more.0 past)

@@ -10,9 +10,9 @@ use Rattle.std.proofs.lemmas.List.Sums.{fold-append}
 use Rattle.sgb_shell.specs.declared.answer.Answer.{Answer}
 use Rattle.sgb_shell.specs.declared.answer.Answer.TheVariants as answers
 use Rattle.sgb_script.specs.Line.{line_of, is_printable_byte}
-use Rattle.sgb_shell.specs.Performing.{Kept, IsBegun, Does, lists_of}
+use Rattle.sgb_shell.specs.Private.Performing.{Kept, IsBegun, Does, lists_of}
 use Rattle.sgb_print.specs.Print.{AppendsFront, Prints}
-use Rattle.sgb_shell.specs.Reaching.{Reached, Stopped, Holds, Finishes}
+use Rattle.sgb_shell.specs.Private.Reaching.{Reached, Stopped, Holds, Finishes}
 use Rattle.sgb_shell.specs.Answer.{answer_text}
 use Rattle.sgb_shell.specs.Transcript.{Course, course, start, advance, goes_on, unit_told, refusals, state_of}
 use Rattle.sgb_shell.proofs.Performing.{machine_is}
@@ -131,18 +131,21 @@ reached_more held now now' ls line old new count refused count' refused' answer 
 
 pub stopped_more : (held now now' : Option (List ℕ)) (ls : List (List ℕ)) (line : List ℕ) (old new : Kept) (count refused count' : ℕ) (answer : Answer)
     → Reached held now ls old count refused → Does old new (line_of line) answer → count' ≡ length ls + 1
-    → AppendsFront now now' (answer_text count' new.machine answer) → Stopped held now' (ls ++ line ∷ [])
-stopped_more held now now' ls line old new count refused count' answer r d counted written = record {
-  no_room = with_number d.no_room (length ls + 1) r.no_room;
-  text = record {
-    front = (course r.no_room ls).text ++ written.front;
-    rest = written.rest;
-    whole = text_more held now ls line old new count refused answer r d
-        ∙ ap (λ t. (course r.no_room ls).text ++ t) (ap (λ k. answer_text k new.machine answer) (sym counted) ∙ written.whole)
-        ∙ sym (append_assoc (course r.no_room ls).text written.front written.rest);
-    appends = Appends-trans held now now' _ _ r.text written.appends;
-  };
-}
+    → AppendsFront now now' (answer_text count' new.machine answer) → Stopped held now' ls (ls ++ line ∷ [])
+stopped_more held now now' ls line old new count refused count' answer r d counted written =
+    let no_room = with_number d.no_room (length ls + 1) r.no_room in
+    let first : (course no_room ls).text ≡ (course r.no_room ls).text = ap (λ c. c.text) (course-with_number d.no_room (length ls + 1) r.no_room ls (omega arith)) in record {
+      no_room = no_room;
+      text = record {
+        more = written.front;
+        rest = written.rest;
+        whole = text_more held now ls line old new count refused answer r d
+            ∙ ap (λ t. (course r.no_room ls).text ++ t) (ap (λ k. answer_text k new.machine answer) (sym counted) ∙ written.whole)
+            ∙ sym (append_assoc (course r.no_room ls).text written.front written.rest)
+            ∙ ap (λ t. t ++ written.front ++ written.rest) (sym first);
+        appends = subst (λ t. Appends held now' (t ++ written.front)) (sym first) (Appends-trans held now now' _ _ r.text written.appends);
+      };
+    }
 
 -- ---- lines behind the one where the writer failed
 
@@ -153,16 +156,50 @@ text_from-grows no_room c (l ∷ ls) =
     let first = answer_text (c.lines + 1) (state_of (advance no_room c l).lists.standing) (unit_told (list_any (λ n. n == c.lines + 1) no_room) c.lists (line_of l)).1 in
     (first ++ more.0, more.1 ∙ append_assoc c.text first more.0)
 
-pub stopped-append : (held now : Option (List ℕ)) (ls more : List (List ℕ)) → Stopped held now ls → Stopped held now (ls ++ more)
+text-grows : (no_room : List ℕ) (ls more : List (List ℕ)) → (rest : List ℕ) × ((course no_room (ls ++ more)).text ≡ (course no_room ls).text ++ rest)
 unfolding course
-stopped-append held now ls more s =
-    let grown = text_from-grows s.no_room (course_from s.no_room start ls) more in record {
+text-grows no_room ls more =
+    let grown = text_from-grows no_room (course_from no_room start ls) more in
+    (grown.0, ap (λ c. c.text) (fold-append (advance no_room) start ls more) ∙ grown.1)
+
+pub stopped-append : (held now : Option (List ℕ)) (first ls more : List (List ℕ)) → Stopped held now first ls → Stopped held now first (ls ++ more)
+stopped-append held now first ls more s =
+    let grown = text-grows s.no_room ls more in
+    let front = (course s.no_room first).text ++ s.text.more in record {
       no_room = s.no_room;
       text = record {
-        front = s.text.front;
+        more = s.text.more;
         rest = s.text.rest ++ grown.0;
-        whole = ap (λ c. c.text) (fold-append (advance s.no_room) start ls more) ∙ grown.1 ∙ ap (λ t. t ++ grown.0) s.text.whole ∙ append_assoc s.text.front s.text.rest grown.0;
+        whole = grown.1 ∙ ap (λ t. t ++ grown.0) s.text.whole ∙ append_assoc front s.text.rest grown.0;
         appends = s.text.appends;
+      };
+    }
+
+-- what is past more lines is past fewer
+pub stopped-earlier : (held now : Option (List ℕ)) (first more all : List (List ℕ)) → Stopped held now (first ++ more) all → Stopped held now first all
+stopped-earlier held now first more all s =
+    let grown = text-grows s.no_room first more in
+    let t = (course s.no_room first).text in
+    let same : (course s.no_room (first ++ more)).text ++ s.text.more ≡ t ++ (grown.0 ++ s.text.more) = ap (λ x. x ++ s.text.more) grown.1 ∙ append_assoc t grown.0 s.text.more in record {
+      no_room = s.no_room;
+      text = record {
+        more = grown.0 ++ s.text.more;
+        rest = s.text.rest;
+        whole = s.text.whole ∙ ap (λ x. x ++ s.text.rest) same;
+        appends = subst (Appends held now) same s.text.appends;
+      };
+    }
+
+-- the writer failed where all was written
+pub stopped-reached : (held now : Option (List ℕ)) (ls : List (List ℕ)) (journal : Kept) (count refused : ℕ) → Reached held now ls journal count refused → Stopped held now ls ls
+stopped-reached held now ls journal count refused r =
+    let t = (course r.no_room ls).text in record {
+      no_room = r.no_room;
+      text = record {
+        more = [];
+        rest = [];
+        whole = sym (append-nil t) ∙ sym (append-nil (t ++ []));
+        appends = subst (Appends held now) (sym (append-nil t)) r.text;
       };
     }
 
@@ -177,7 +214,7 @@ pub finished : {X E : Type 0} (held now now' : Option (List ℕ)) (failed failed
     → length ls < 2 ^ 32 → Reached held now ls old count refused → Does old new (line_of line) answer
     → count' ≡ min (count + 1) (2 ^ 64 - 1) → refused' ≡ min (refused + refusals answer) (2 ^ 64 - 1)
     → Prints now now' failed failed' result (answer_text count' new.machine answer)
-    → Finishes held now' failed failed' (ls ++ line ∷ []) new count' refused' result
+    → Finishes held now' failed failed' ls (ls ++ line ∷ []) new count' refused' result
 finished held now now' failed failed' ls line old new count refused count' refused' answer (Ok x) few r d counted refusing printed =
     let is_count : count ≡ length ls = r.lines in
     let one_more : count' ≡ length ls + 1 = grows count (length ls) 1 count' (omega arith) few (omega arith) counted ∙ ap (λ k. k + 1) is_count in

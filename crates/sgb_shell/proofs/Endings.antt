@@ -2,10 +2,11 @@
 use Rattle.std.proofs.Common.{◌≡◌, ℕ, Bool, true, List, Option, Ok, Err, sym, ◌∙◌, inl, inr}
 use Rattle.sgb_shell.specs.declared.fault.RunFault.{RunFault}
 use Rattle.sgb_shell.specs.declared.fault.RunFault.TheVariants.{Read, Write, TooLong, NoRoom}
-use Rattle.sgb_shell.specs.Lines.{lines}
-use Rattle.sgb_shell.specs.Performing.{Kept}
-use Rattle.sgb_shell.specs.Reaching.{Reached, Stopped}
-use Rattle.sgb_shell.specs.Run.{Runs, TakesScript}
+use Rattle.sgb_shell.specs.Lines.{whole_lines, lines}
+use Rattle.sgb_shell.specs.Private.Performing.{Kept}
+use Rattle.sgb_shell.specs.Private.Reaching.{Reached, Stopped}
+use Rattle.sgb_shell.specs.Run.{Runs}
+use Rattle.sgb_shell.specs.Private.Taking.{TakesScript}
 
 pub script_failed : {X : Type 0} (left left' : Option (List ℕ)) (rf : Bool) (reads : ℕ) (held held' : Option (List ℕ)) (wf : Bool) (j : Kept) (kept : List ℕ) (il : Bool) (count refused : ℕ) (fault : RunFault)
     → TakesScript {X = X} left left' rf reads held held' wf j kept il count refused (Err fault) → Runs left left' rf reads held held' wf (Err fault)
@@ -18,10 +19,10 @@ script_failed left left' rf reads held held' wf j kept il count refused Read t =
 }
 script_failed left left' rf reads held held' wf j kept il count refused Write t = record {
   script = t.script;
-  no_room = t.ends.3.no_room;
+  no_room = t.ends.3.4.no_room;
   few = t.few;
   seldom = t.seldom;
-  ends = (t.ends.0, t.ends.1, t.ends.2, inl t.ends.3.text);
+  ends = (t.ends.0, t.ends.1, t.ends.2, inl (t.ends.3.0, t.ends.3.1, t.ends.3.2, t.ends.3.3, t.ends.3.4.text));
 }
 script_failed left left' rf reads held held' wf j kept il count refused TooLong t = record {
   script = t.script;
@@ -48,7 +49,7 @@ script_ended left left' rf reads held mid held' wf wf' j j' kept il count refuse
 pub last_line_failed : {X : Type 0} (left left' : Option (List ℕ)) (rf : Bool) (reads : ℕ) (held mid held' : Option (List ℕ)) (wf wf' : Bool) (j : Kept) (kept : List ℕ) (il : Bool)
     (count refused : ℕ) (x : X)
     → (t : TakesScript left left' rf reads held mid wf j kept il count refused (Ok x))
-    → Stopped held held' (lines t.script) × (wf' ≡ true)
+    → Stopped held held' (whole_lines t.script) (lines t.script) × (wf' ≡ true)
     → Runs left left' rf reads held held' wf' (Err Write)
 last_line_failed left left' rf reads held mid held' wf wf' j kept il count refused x t f = record {
   script = t.script;

@@ -4,6 +4,7 @@ mod Sessions
 mod Performing
 mod LineEnds
 mod Courses
+mod Standing
 mod Bytes
 mod Taking
 mod Endings

@@ -1,8 +1,8 @@
 -- What the journal's calls do to the lists of a script's course.
 use Rattle.std.proofs.Common.{◌≡◌, ◌↔◌, ◌⊎◌, Bool, true, false, cond, IsTrue, ◌==◌, List, [], ◌∷◌, ◌++◌, length, Option, None, Some, Result, Ok, Err, refl, sym, ap, ◌∙◌, subst, inl, inr}
-use Rattle.std.specs.Prelude.{unwrap_or, IfOk, OnErr, IsErrOf}
-use Rattle.std.proofs.lemmas.Bool.{ne_eqb, eq-eqb}
-use Rattle.sgb_undo.specs.History.{IsJournal, Applies, Undoes, Redoes}
+use Rattle.std.specs.Prelude.{unwrap_or, IfOk, OnErr, IsErrOf, ◌&&◌, ◌||◌}
+use Rattle.std.proofs.lemmas.Bool.{ne_eqb, eq-eqb, or_left}
+use Rattle.sgb_undo.specs.History.{IsJournal, Applies, Undoes, Redoes, FirstMayWant, grows_at}
 use Rattle.sgb_undo.specs.Outcome.{Refused}
 use Rattle.sgb_undo.specs.Replay.{fold}
 use Rattle.sgb_undo.specs.declared.refusal.JournalRefusal.{JournalRefusal}
@@ -16,12 +16,12 @@ use Rattle.sgb_script.specs.declared.command.Query.{Query}
 use Rattle.sgb_script.specs.Line.{has_text, takes_memory}
 use Rattle.sgb_shell.specs.declared.reply.Reply.{Reply}
 use Rattle.sgb_script.specs.declared.refusal.ShellRefusal.{ShellRefusal}
-use Rattle.sgb_script.specs.declared.refusal.ShellRefusal.TheVariants.{NoRoom, BadSpecs, TooLarge, NoGraph, BadOperand, ScriptSyntax, TableFull, NameTaken, NothingToUndo, NothingToRedo, JournalFull}
+use Rattle.sgb_script.specs.declared.refusal.ShellRefusal.TheVariants.{NoRoom, CheckWrong, Syntax, BadSpecs, LengthRange, TooLarge, NoGraph, BadOperand, ScriptSyntax, TableFull, NameTaken, NothingToUndo, NothingToRedo, JournalFull, Stuck}
 use Rattle.sgb_shell.specs.Lines.{all_but_last}
-use Rattle.sgb_shell.specs.Performing.{Kept, IsBegun, Does, lists_of, answer_from}
+use Rattle.sgb_shell.specs.Private.Performing.{Kept, IsBegun, Does, lists_of, answer_from}
 use Rattle.sgb_script.specs.Refusal.{is_no_room}
-use Rattle.sgb_shell.specs.State.{empty, step, before}
-use Rattle.sgb_shell.specs.Transcript.{Lists, Told, asked_of, state_of, answered, with_command, last_command, undoing, redoing}
+use Rattle.sgb_shell.specs.State.{empty, step, before, may_want}
+use Rattle.sgb_shell.specs.Transcript.{Lists, Told, asked_of, state_of, answered, with_command, are_none, grows, changing, last_command, undoing, redoing}
 
 pub all_but_last-push : {X : Type 0} (xs : List X) (x : X) → all_but_last (xs ++ x ∷ []) ≡ xs
 all_but_last-push [] x = refl
@@ -52,7 +52,10 @@ stays old new answer same = ap (λ j. tells (lists_of j) answer) (sym same)
 
 no_room_is : (r : ShellRefusal) → is_no_room r ≡ true → r ≡ NoRoom
 no_room_is NoRoom e = refl
+no_room_is CheckWrong e = cc
+no_room_is Syntax e = cc
 no_room_is BadSpecs e = cc
+no_room_is LengthRange e = cc
 no_room_is TooLarge e = cc
 no_room_is NoGraph e = cc
 no_room_is BadOperand e = cc
@@ -62,44 +65,58 @@ no_room_is ScriptSyntax e = cc
 no_room_is NothingToUndo e = cc
 no_room_is NothingToRedo e = cc
 no_room_is JournalFull e = cc
+no_room_is Stuck e = cc
 
 -- whatever the test says
 either_way : {X : Type 0} (b : Bool) (x : X) → cond b x x ≡ x
 either_way true x = refl
 either_way false x = refl
 
+or_second : (a b : Bool) → b ≡ true → (a || b) ≡ true
+or_second true b e = refl
+or_second false b e = e
+
+grown : (l : Lists) → (l.undone ≡ []) × IsTrue (grows_at (length l.standing)) → grows l ≡ true
+grown l g = ap (λ u. are_none u && grows_at (length l.standing)) g.0 ∙ g.1
+
+-- a change that finds no room, where it may want for some
+wanting : (l : Lists) (c : Command) → (length l.standing == 65535) ≡ false → (grows l || may_want (state_of l.standing) c) ≡ true → changing true l c ≡ tells l (answers.Refused NoRoom)
+wanting l c not_full wants = rw (not_full, wants) (either_way (has_text (Change c)) (tells l (answers.Refused NoRoom)))
+
 -- a change that the journal answered
 pub changed : (old new : Kept) (c : Command) (r : Result Reply (JournalRefusal ShellRefusal)) → IsBegun old
     → IfOk r (λ reply. Applies step before old c reply new)
+    → (IsErrOf r journals.NoRoom → (old.undone ≡ []) × IsTrue (grows_at (length old.standing)))
     → (IsErrOf r journals.Full ↔ (length old.standing ≡ 65535))
     → (IsErrOf r journals.NothingToRedo → ⊥)
-    → ((f : ShellRefusal) → IsErrOf r (journals.Machine f) → (is_no_room f ≡ true) ⊎ (step old.machine c ≡ Refused f))
+    → ((f : ShellRefusal) → IsErrOf r (journals.Machine f) → ((is_no_room f ≡ true) × (may_want old.machine c ≡ true)) ⊎ (step old.machine c ≡ Refused f))
     → OnErr r (new ≡ old) → IsJournal step before new → Does old new (Some (Change c)) (answer_from r)
-changed old new c (Ok reply) b a full nothing refused same sound =
+changed old new c (Ok reply) b a no_room full nothing refused same sound =
     let not_full : (length old.standing == 65535) ≡ false = ne_eqb _ _ (λ e. let bad = full.1 e in cc) in record {
       no_room = false;
       told = rw not_full (ap (answered (lists_of old) (with_command (lists_of old) c)) (ap (λ s. step s c) (machine_is old b) ∙ a.accepted)
           ∙ ap (λ l. tells (l) (answers.Replied reply)) (same_lists _ _ _ _ (sym a.standing) (sym a.undone)));
       begun = record { start = a.start ∙ b.start; sound = sound };
     }
-changed old new c (Err journals.NoRoom) b a full nothing refused same sound =
+changed old new c (Err journals.NoRoom) b a no_room full nothing refused same sound =
     let not_full : (length old.standing == 65535) ≡ false = ne_eqb _ _ (λ e. let bad = full.1 e in cc) in record {
       no_room = true;
-      told = rw not_full (either_way (has_text (Change c)) (tells (lists_of old) (answers.Refused NoRoom)) ∙ stays old new (answers.Refused NoRoom) same);
+      told = wanting (lists_of old) c not_full (or_left _ _ (grown (lists_of old) (no_room refl))) ∙ stays old new (answers.Refused NoRoom) same;
       begun = subst IsBegun (sym same) b;
     }
-changed old new c (Err journals.Full) b a full nothing refused same sound = record {
+changed old new c (Err journals.Full) b a no_room full nothing refused same sound = record {
   no_room = false;
   told = rw (eq-eqb (length old.standing) 65535 (full.0 refl)) (stays old new (answers.Refused JournalFull) same);
   begun = subst IsBegun (sym same) b;
 }
-changed old new c (Err journals.NothingToRedo) b a full nothing refused same sound = absurd (nothing refl)
-changed old new c (Err (journals.Machine f)) b a full nothing refused same sound =
+changed old new c (Err journals.NothingToRedo) b a no_room full nothing refused same sound = absurd (nothing refl)
+changed old new c (Err (journals.Machine f)) b a no_room full nothing refused same sound =
     let not_full : (length old.standing == 65535) ≡ false = ne_eqb _ _ (λ e. let bad = full.1 e in cc) in
     elim (refused f refl) [
       | inl wants ↦ record {
         no_room = true;
-        told = rw not_full (either_way (has_text (Change c)) (tells (lists_of old) (answers.Refused NoRoom)) ∙ stays old new (answers.Refused NoRoom) same ∙ ap (λ g. tells (lists_of new) (answers.Refused g)) (sym (no_room_is f wants)));
+        told = wanting (lists_of old) c not_full (or_second (grows (lists_of old)) _ (ap (λ s. may_want s c) (machine_is old b) ∙ wants.1))
+            ∙ stays old new (answers.Refused NoRoom) same ∙ ap (λ g. tells (lists_of new) (answers.Refused g)) (sym (no_room_is f wants.0));
         begun = subst IsBegun (sym same) b;
       }
       | inr refuses ↦ record {
@@ -117,16 +134,16 @@ undid old new b u sound = record {
   begun = record { start = u.start ∙ b.start; sound = sound };
 }
 
-refused_redo : (standing undone : List Command) → (undone ≡ [] → ⊥) → redoing true standing undone ≡ tells (listed standing undone) (answers.Refused NoRoom)
-refused_redo standing [] some = absurd (some refl)
-refused_redo standing (c ∷ cs) some = refl
+refused_redo : (standing undone : List Command) → FirstMayWant may_want (state_of standing) undone → redoing true standing undone ≡ tells (listed standing undone) (answers.Refused NoRoom)
+refused_redo standing [] wants = absurd wants
+refused_redo standing (c ∷ cs) wants = rw wants refl
 
 pub redid : (old new : Kept) (r : Result Reply (JournalRefusal ShellRefusal)) → IsBegun old
     → IfOk r (λ reply. Redoes step before old reply new)
     → (IsErrOf r journals.NothingToRedo ↔ (old.undone ≡ []))
     → (IsErrOf r journals.NoRoom → ⊥)
     → (IsErrOf r journals.Full → ⊥)
-    → ((f : ShellRefusal) → IsErrOf r (journals.Machine f) → is_no_room f ≡ true)
+    → ((f : ShellRefusal) → IsErrOf r (journals.Machine f) → (is_no_room f ≡ true) × FirstMayWant may_want old.machine old.undone)
     → OnErr r (new ≡ old) → IsJournal step before new → Does old new (Some Redo) (answer_from r)
 redid old new (Ok reply) b d nothing no_room full refused same sound = record {
   no_room = false;
@@ -144,9 +161,10 @@ redid old new (Err journals.NothingToRedo) b d nothing no_room full refused same
   begun = subst IsBegun (sym same) b;
 }
 redid old new (Err (journals.Machine f)) b d nothing no_room full refused same sound =
-    let some : old.undone ≡ [] → ⊥ = λ e. let bad = nothing.1 e in cc in record {
+    let wants = refused f refl in record {
       no_room = true;
-      told = refused_redo old.standing old.undone some ∙ ap (λ g. tells (lists_of old) (answers.Refused g)) (sym (no_room_is f (refused f refl))) ∙ stays old new (answers.Refused f) same;
+      told = refused_redo old.standing old.undone (subst (λ s. FirstMayWant may_want s old.undone) (sym (machine_is old b)) wants.1)
+          ∙ ap (λ g. tells (lists_of old) (answers.Refused g)) (sym (no_room_is f wants.0)) ∙ stays old new (answers.Refused f) same;
       begun = subst IsBegun (sym same) b;
     }
 

@@ -1,6 +1,6 @@
 -- What an edit of a graph does to the session.
-use Rattle.std.proofs.Common.{◌≡◌, ◌<◌, ℕ, List, length, set, Some, None, Ok, Err, sym, ap, ◌∙◌, subst, inl, inr, cond, arith}
-use Rattle.std.specs.Prelude.{nat_lt}
+use Rattle.std.proofs.Common.{◌≡◌, ◌<◌, ℕ, List, length, set, refl, true, Option, Some, None, Ok, Err, sym, ap, ◌∙◌, subst, inl, inr, cond, arith}
+use Rattle.std.specs.Prelude.{nat_lt, is_none, ◌&&◌, ◌||◌}
 use Rattle.std.specs.List.{position_or_len}
 use Rattle.std.specs.Str.{bytes_eq}
 use Rattle.std.proofs.lemmas.Bool.{cases_Bool, ltb-true}
@@ -11,17 +11,22 @@ use Rattle.sgb_graph.specs.declared.refusal.Refusal.TheVariants as graphs
 use Rattle.sgb_graph.specs.Graph.{GraphOf}
 use Rattle.sgb_graph.specs.Delta.{LeftBy}
 use Rattle.sgb_graph.proofs.Reverting.{reverted_is}
-use Rattle.sgb_undo.specs.Outcome.{Accepted}
+use Rattle.sgb_undo.specs.Outcome.{Accepted, is_accepted}
 use Rattle.sgb_script.specs.declared.command.Edit as script
+use Rattle.sgb_script.specs.declared.command.Edit.TheVariants as edits
+use Rattle.sgb_script.specs.declared.command.Line.TheVariants.{Change}
+use Rattle.sgb_script.specs.Line.{has_text}
+use Rattle.sgb_graph.specs.declared.field.Util.TheVariants as utils
 use Rattle.sgb_script.specs.declared.command.Command.TheVariants.{Edit}
 use Rattle.sgb_script.specs.declared.refusal.ShellRefusal.TheVariants as shells
 use Rattle.sgb_shell.specs.declared.reply.Delta.TheVariants as kept
 use Rattle.sgb_shell.specs.declared.reply.Reply.{Reply}
 use Rattle.sgb_shell.specs.declared.table.Entry.{Entry}
 use Rattle.sgb_shell.specs.Drawing.{Drawing}
-use Rattle.sgb_shell.specs.Edits.{edited, edit_takes_memory, refusal_from}
-use Rattle.sgb_shell.specs.State.{State, StepOutcome, Performs, step, editing, unless_refused, where_found}
-use Rattle.sgb_shell.specs.Table.{find, no_entry, entry_in, graph_in, with_graph, MakesAt}
+use Rattle.sgb_shell.specs.Edits.{edited, refusal_from, edit_takes_memory}
+use Rattle.sgb_shell.specs.State.{State, StepOutcome, step, may_want, editing, unless_refused, where_found}
+use Rattle.sgb_shell.specs.Table.{find, no_entry, entry_in, graph_in, with_graph}
+use Rattle.sgb_shell.specs.Private.Making.{edit_has_text, Performs, MakesAt, edit_may_want}
 
 abbrev pub state : Drawing → List Entry → State
 state d t = record { generator = d; table = t }
@@ -53,7 +58,7 @@ step_is s name e i at = ap (λ o. where_found o (λ j. editing s j (edited (grap
 
 -- an edit that was made
 pub edit_done : (d : Drawing) (t u : List Entry) (name : List ℕ) (e : script.Edit) (i : ℕ) (a : GraphDelta × Reply) → find t name ≡ Some i → i < length t
-    → MakesAt (edit_takes_memory e) t u i (edited (graph_in t i) e) (Ok a) → Performs (state d t) (state d u) (Edit name e) (Ok (kept.Edit i a.0, a.1))
+    → MakesAt (edit_may_want e) t u i (edited (graph_in t i) e) (Ok a) → Performs (state d t) (state d u) (Edit name e) (Ok (kept.Edit i a.0, a.1))
 edit_done d t u name e i a at within m =
     let x = edited (graph_in t i) e in
     let table : u ≡ with_graph t i x.graph = m.1 ∙ ap (with_graph t i) m.2.1 in
@@ -70,18 +75,44 @@ edit_done d t u name e i a at within m =
           ∙ (ap (λ v. with_graph v i (graph_in t i)) m.1 ∙ (replaced_twice t i m.0 (graph_in t i) within ∙ same_graph_back t i))),
     )
 
+-- what an edit may want for, seen from the session
+has_text_is : (name : List ℕ) (e : script.Edit) → has_text (Change (Edit name e)) ≡ edit_has_text e
+has_text_is name (edits.Arc u v len) = refl
+has_text_is name (edits.Edge u v len) = refl
+has_text_is name (edits.Cut k) = refl
+has_text_is name (edits.Len k len) = refl
+has_text_is name (edits.Set place utils.Zero) = refl
+has_text_is name (edits.Set place (utils.Int z)) = refl
+has_text_is name (edits.Set place (utils.Vertex v)) = refl
+has_text_is name (edits.Set place (utils.Arc a)) = refl
+has_text_is name (edits.Set place (utils.Text t)) = refl
+has_text_is name (edits.Types types) = refl
+has_text_is name (edits.Label v text) = refl
+has_text_is name (edits.Id text) = refl
+
+accepted_is : (o : Option Refusal) (made : StepOutcome) → is_accepted made ≡ true → is_accepted (unless_refused o made) ≡ is_none o
+accepted_is None made accepted = accepted
+accepted_is (Some r) made accepted = refl
+
+edit_wants : (s : State) (name : List ℕ) (e : script.Edit) (i : ℕ) → find s.table name ≡ Some i → may_want s (Edit name e) ≡ edit_may_want e (edited (graph_in s.table i) e).refusal
+edit_wants s name e i at =
+    let x = edited (graph_in s.table i) e in
+    ap (λ b. edit_takes_memory e && (b || is_accepted (step s (Edit name e)))) (has_text_is name e)
+    ∙ ap (λ b. edit_takes_memory e && (edit_has_text e || b))
+    (ap is_accepted (step_is s name e i at) ∙ accepted_is x.refusal (Accepted (record s { table = with_graph s.table i x.graph }) (kept.Edit i x.delta) x.reply) refl)
+
 no_room_is : (r : Refusal) → r ≡ graphs.NoRoom → refusal_from r ≡ shells.NoRoom
 no_room_is r e = ap refusal_from e
 
 -- an edit that was not made
 pub edit_refused : (d : Drawing) (t u : List Entry) (name : List ℕ) (e : script.Edit) (i : ℕ) (r : Refusal) → find t name ≡ Some i
-    → MakesAt (edit_takes_memory e) t u i (edited (graph_in t i) e) (Err r) → Performs (state d t) (state d u) (Edit name e) (Err (refusal_from r))
+    → MakesAt (edit_may_want e) t u i (edited (graph_in t i) e) (Err r) → Performs (state d t) (state d u) (Edit name e) (Err (refusal_from r))
 edit_refused d t u name e i r at m =
     let x = edited (graph_in t i) e in
     let same : u ≡ t = m.1 ∙ (ap (with_graph t i) m.2.0 ∙ same_graph_back t i) in (
       ap (state d) same,
       elim m.2.1 [
-        | inl wants ↦ inl (no_room_is r wants.0, wants.1)
+        | inl wants ↦ inl (no_room_is r wants.0, edit_wants (state d t) name e i at ∙ wants.1)
         | inr refuses ↦ inr (step_is (state d t) name e i at ∙ ap (λ o. unless_refused o (Accepted (state d (with_graph t i x.graph)) (kept.Edit i x.delta) x.reply)) refuses)
       ],
     )

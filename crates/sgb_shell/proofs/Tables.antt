@@ -13,8 +13,10 @@ use Rattle.sgb_graph.specs.Reverted.{reverted}
 use Rattle.sgb_graph.proofs.Reverting.{reverted_is}
 use Rattle.sgb_shell.specs.declared.reply.Reply.{Reply}
 use Rattle.sgb_shell.specs.declared.table.Entry.{Entry}
-use Rattle.sgb_shell.specs.Edits.{Edited, Makes}
-use Rattle.sgb_shell.specs.Table.{held, entry_in, graph_in, with_graph, slot_in, slot_with_graph, MakesAt, MakesInSlot}
+use Rattle.sgb_shell.specs.Edits.{Edited}
+use Rattle.sgb_shell.specs.Table.{entry_in, graph_in, with_graph}
+use Rattle.sgb_shell.specs.Private.Making.{Makes, MakesAt, MakesInSlot}
+use Rattle.sgb_shell.specs.Private.Slots.{held, slot_in, slot_with_graph}
 
 -- of lists
 pub map-append : {X Y : Type 0} (f : X → Y) (xs ys : List X) → map f (xs ++ ys) ≡ map f xs ++ map f ys
@@ -58,26 +60,26 @@ slot_edited ss i g =
     map-set held ss i (Some (record (held (slot_in ss i)) { graph = g }))
     ∙ ap (λ (e : Entry). set (map held ss) i (record e { graph = g })) (sym (entry_shown ss i))
 
-pub made_shown : (memory : Bool) (ss ts : List (Option Entry)) (i : ℕ) (e : GraphOf → Edited) (result : Result (GraphDelta × Reply) Refusal)
-    → MakesInSlot memory ss ts i (e (held (slot_in ss i)).graph) result → MakesAt memory (map held ss) (map held ts) i (e (graph_in (map held ss) i)) result
-made_shown memory ss ts i e result m =
+pub made_shown : (wants : Option Refusal → Bool) (ss ts : List (Option Entry)) (i : ℕ) (e : GraphOf → Edited) (result : Result (GraphDelta × Reply) Refusal)
+    → MakesInSlot wants ss ts i (e (held (slot_in ss i)).graph) result → MakesAt wants (map held ss) (map held ts) i (e (graph_in (map held ss) i)) result
+made_shown wants ss ts i e result m =
     let same : (held (slot_in ss i)).graph ≡ graph_in (map held ss) i = ap (λ (x : Entry). x.graph) (sym (entry_shown ss i)) in (
       m.0,
       ap (map held) m.1 ∙ slot_edited ss i m.0,
-      subst (λ g. Makes memory g m.0 (e g) result) same m.2,
+      subst (λ g. Makes wants g m.0 (e g) result) same m.2,
     )
 
 slot_is : (ss : List (Option Entry)) (i : ℕ) (d : Option Entry) (x : Entry) → i < length ss → get_or ss i d ≡ Some x → held (slot_in ss i) ≡ x
 slot_is ss i d x within at = ap held (get_or_default ss i None d within ∙ at)
 
-pub made_in_slot : (memory : Bool) (ss : List (Option Entry)) (i : ℕ) (d : Option Entry) (x : Entry) (h : GraphOf) (e : GraphOf → Edited) (result : Result (GraphDelta × Reply) Refusal)
-    → i < length ss → get_or ss i d ≡ Some x → Makes memory x.graph h (e x.graph) result
-    → MakesInSlot memory ss (set ss i (Some (record { name = x.name; graph = h }))) i (e (held (slot_in ss i)).graph) result
-made_in_slot memory ss i d x h e result within at made =
+pub made_in_slot : (wants : Option Refusal → Bool) (ss : List (Option Entry)) (i : ℕ) (d : Option Entry) (x : Entry) (h : GraphOf) (e : GraphOf → Edited) (result : Result (GraphDelta × Reply) Refusal)
+    → i < length ss → get_or ss i d ≡ Some x → Makes wants x.graph h (e x.graph) result
+    → MakesInSlot wants ss (set ss i (Some (record { name = x.name; graph = h }))) i (e (held (slot_in ss i)).graph) result
+made_in_slot wants ss i d x h e result within at made =
     let same : x ≡ held (slot_in ss i) = sym (slot_is ss i d x within at) in (
       h,
       ap (λ (y : Entry). set ss i (Some (record { name = y.name; graph = h }))) same,
-      subst (λ (y : Entry). Makes memory y.graph h (e y.graph) result) same made,
+      subst (λ (y : Entry). Makes wants y.graph h (e y.graph) result) same made,
     )
 
 pub reverted_in_slot : (ss : List (Option Entry)) (i : ℕ) (d : Option Entry) (x : Entry) (delta : GraphDelta) (h : GraphOf)

@@ -1,10 +1,15 @@
 -- What stays true while bytes are taken.
-use Rattle.std.proofs.Common.{◌≡◌, ◌<◌, ◌≤◌, ◌+◌, ◌^◌, ℕ, Bool, true, false, List, [], ◌∷◌, ◌++◌, length, Option, Result, Ok, Err, refl, arith, length-append}
+use Rattle.std.proofs.Common.{◌≡◌, ◌<◌, ◌≤◌, ◌+◌, ◌^◌, ℕ, Bool, true, false, List, [], ◌∷◌, ◌++◌, length, Option, Result, Ok, Err, refl, sym, arith, length-append, append-nil}
 use Rattle.std.specs.Prelude.{is_err}
-use Rattle.std.specs.Io.KnownBytes.{Consumes}
-use Rattle.sgb_shell.specs.Performing.{Kept}
+use Rattle.std.specs.Io.KnownBytes.{Consumes, Keeps}
+use Rattle.std.proofs.KnownBytes.{Consumes-kept, Appends-kept}
+use Rattle.sgb_shell.specs.declared.fault.RunFault.{RunFault}
+use Rattle.sgb_shell.specs.declared.fault.RunFault.TheVariants.{Read, Write, TooLong, NoRoom}
+use Rattle.sgb_shell.specs.Private.Taking.{ReadsOn, TakesScript}
+use Rattle.sgb_shell.proofs.Courses.{stopped-reached}
+use Rattle.sgb_shell.specs.Private.Performing.{Kept}
 use Rattle.sgb_shell.specs.Lines.{whole_lines}
-use Rattle.sgb_shell.specs.Reaching.{Progress, Stopped, Takes}
+use Rattle.sgb_shell.specs.Private.Reaching.{Progress, Stopped, Takes}
 
 pub record Going (room room' : ℕ) (Goes : Option (List ℕ) → List ℕ → Type 0) : Type 0 where
   pub large : 8192 ≤ room
@@ -24,18 +29,60 @@ pub record Running (left left' : Option (List ℕ)) (read_failed : Bool) (reads 
   pub large : 8192 ≤ places
   pub space : chunk ≡ 4096
 
+-- what was written stays where a reader or a writer is only asked
+pub progress_kept : (held now now' : Option (List ℕ)) (script : List ℕ) (j : Kept) (kept : List ℕ) (il : Bool) (count refused : ℕ)
+    → Keeps now now' → Progress held now script j kept il count refused → Progress held now' script j kept il count refused
+progress_kept held now now' script j kept il count refused same p = record {
+  reached = record {
+    no_room = p.reached.no_room;
+    above = p.reached.above;
+    lines = p.reached.lines;
+    lists = p.reached.lists;
+    refused = p.reached.refused;
+    text = Appends-kept held now now' _ p.reached.text same;
+    begun = p.reached.begun;
+  };
+  holds = p.holds;
+}
+
+-- a read, or the flush before it, failed
+pub failed_read : {X : Type 0} (left mid left' : Option (List ℕ)) (rf rf' : Bool) (reads reads' : ℕ) (held now held' : Option (List ℕ)) (wf wf' : Bool)
+    (j : Kept) (kept : List ℕ) (il : Bool) (count refused places room chunk most : ℕ) (bytes : List ℕ) (fault : RunFault)
+    → Running left mid rf reads held now wf j kept il count refused places room chunk
+    → ReadsOn mid left' rf' reads reads' now held' wf' most bytes (Err fault)
+    → TakesScript {X = X} left left' rf' reads' held held' wf' j kept il count refused (Err fault)
+failed_read left mid left' rf rf' reads reads' held now held' wf wf' j kept il count refused places room chunk most bytes Read run r = record {
+  script = run.script;
+  few = let rest = run.rest in omega arith;
+  seldom = let few = run.seldom in let more = r.2 in omega arith;
+  ends = (Consumes-kept left mid left' _ run.taken r.0, r.1, r.4, progress_kept held now held' _ _ _ _ _ _ r.3 run.progress);
+}
+failed_read left mid left' rf rf' reads reads' held now held' wf wf' j kept il count refused places room chunk most bytes Write run r = record {
+  script = run.script;
+  few = let rest = run.rest in omega arith;
+  seldom = let few = run.seldom in let same = r.2 in omega arith;
+  ends = (
+    Consumes-kept left mid left' _ run.taken r.0,
+    r.1,
+    r.4,
+    (run.script, [], sym (append-nil run.script), omega arith, stopped-reached held held' (whole_lines run.script) j count refused (progress_kept held now held' _ _ _ _ _ _ r.3 run.progress).reached),
+  );
+}
+failed_read left mid left' rf rf' reads reads' held now held' wf wf' j kept il count refused places room chunk most bytes TooLong run r = absurd r
+failed_read left mid left' rf rf' reads reads' held now held' wf wf' j kept il count refused places room chunk most bytes NoRoom run r = absurd r
+
 pub still_few : (script bytes : List ℕ) (room n : ℕ) → length script + room ≡ 16777216 → length bytes ≡ n → n ≤ room → length (script ++ bytes) < 2 ^ 32
 still_few script bytes room n rest size within = omega (arith, length-append script bytes)
 
-pub takes_ok : {X E : Type 0} (held now : Option (List ℕ)) (wf wf' : Bool) (script : List ℕ) (j : Kept) (kept : List ℕ) (il : Bool) (count refused : ℕ) (r : Result X E)
-    → is_err r ≡ false → Takes held now wf wf' script j kept il count refused r → Progress held now script j kept il count refused × (wf' ≡ wf)
-takes_ok held now wf wf' script j kept il count refused (Ok x) e t = t
-takes_ok held now wf wf' script j kept il count refused (Err x) e t = cc
+pub takes_ok : {X E : Type 0} (held now : Option (List ℕ)) (wf wf' : Bool) (before script : List ℕ) (j : Kept) (kept : List ℕ) (il : Bool) (count refused : ℕ) (r : Result X E)
+    → is_err r ≡ false → Takes held now wf wf' before script j kept il count refused r → Progress held now script j kept il count refused × (wf' ≡ wf)
+takes_ok held now wf wf' before script j kept il count refused (Ok x) e t = t
+takes_ok held now wf wf' before script j kept il count refused (Err x) e t = cc
 
-pub takes_err : {X E : Type 0} (held now : Option (List ℕ)) (wf wf' : Bool) (script : List ℕ) (j : Kept) (kept : List ℕ) (il : Bool) (count refused : ℕ) (r : Result X E)
-    → is_err r ≡ true → Takes held now wf wf' script j kept il count refused r → Stopped held now (whole_lines script) × (wf' ≡ true)
-takes_err held now wf wf' script j kept il count refused (Ok x) e t = cc
-takes_err held now wf wf' script j kept il count refused (Err x) e t = t
+pub takes_err : {X E : Type 0} (held now : Option (List ℕ)) (wf wf' : Bool) (before script : List ℕ) (j : Kept) (kept : List ℕ) (il : Bool) (count refused : ℕ) (r : Result X E)
+    → is_err r ≡ true → Takes held now wf wf' before script j kept il count refused r → Stopped held now (whole_lines before) (whole_lines script) × (wf' ≡ true)
+takes_err held now wf wf' before script j kept il count refused (Ok x) e t = cc
+takes_err held now wf wf' before script j kept il count refused (Err x) e t = t
 
 pub one_byte : (bytes : List ℕ) → length bytes ≡ 1 → (more : ℕ) × (bytes ≡ more ∷ [])
 one_byte [] e = absurd (omega arith)

@@ -1,5 +1,5 @@
 -- What the edits of the script make of a graph.
-use Rattle.std.specs.Prelude.{◌≡◌, ℕ, ◌+◌, ◌⊎◌, Option, None, Some, Bool, true, false, Result, Ok, Err}
+use Rattle.std.specs.Prelude.{ℕ, ◌+◌, Option, None, Bool, true, false}
 use Rattle.sgb_graph.specs.declared.delta.GraphDelta.{GraphDelta}
 use Rattle.sgb_graph.specs.declared.delta.GraphDelta.TheVariants as kept
 use Rattle.sgb_graph.specs.declared.field.ArcNo.{ArcNo}
@@ -10,11 +10,11 @@ use Rattle.sgb_graph.specs.declared.refusal.Refusal.TheVariants as graphs
 use Rattle.sgb_graph.specs.Graph.{GraphOf, made_of, label_of}
 use Rattle.sgb_graph.specs.Edit.{with_arc, with_edge, without_arc, with_len, with_util, with_label, util_at, stored, refusal_of_arc, refusal_of_edge, refusal_of_cut, refusal_of_len, refusal_of_util, refusal_of_label, refusal_of_id}
 use Rattle.sgb_graph.specs.Edit as arcs
-use Rattle.sgb_graph.specs.Delta.{LeftBy, cut_arc}
+use Rattle.sgb_graph.specs.Delta.{cut_arc}
 use Rattle.sgb_script.specs.declared.command.Edit.{Edit}
 use Rattle.sgb_script.specs.declared.command.Edit.TheVariants.{Arc, Edge, Cut, Len, Set, Types, Label, Id}
 use Rattle.sgb_script.specs.declared.refusal.ShellRefusal.{ShellRefusal}
-use Rattle.sgb_script.specs.declared.refusal.ShellRefusal.TheVariants.{NoRoom, TooLarge, BadOperand}
+use Rattle.sgb_script.specs.declared.refusal.ShellRefusal.TheVariants.{NoRoom, CheckWrong, Syntax, BadSpecs, LengthRange, TooLarge, BadOperand, Stuck}
 use Rattle.sgb_shell.specs.declared.reply.Reply.{Reply}
 use Rattle.sgb_shell.specs.declared.reply.Reply.TheVariants as replies
 
@@ -96,17 +96,13 @@ edit_takes_memory (Types types) = false
 edit_takes_memory (Label v text) = true
 edit_takes_memory (Id text) = true
 
--- the edit is made, or it is refused, or memory was wanted and may be
-abbrev pub Makes : Bool → GraphOf → GraphOf → Edited → Result (GraphDelta × Reply) Refusal → Type 0
-Makes memory old new e (Ok a) = (e.refusal ≡ None) × (new ≡ e.graph) × (a.0 ≡ e.delta) × (a.1 ≡ e.reply) × LeftBy old a.0 new
-Makes memory old new e (Err r) = (new ≡ old) × (((r ≡ graphs.NoRoom) × (memory ≡ true)) ⊎ (e.refusal ≡ Some r))
-
 -- the session's refusal for a graph's
 abbrev pub refusal_from : Refusal → ShellRefusal
 refusal_from graphs.NoRoom = NoRoom
+refusal_from graphs.CheckWrong = CheckWrong
+refusal_from graphs.Syntax = Syntax
+refusal_from graphs.BadSpecs = BadSpecs
+refusal_from graphs.LengthRange = LengthRange
 refusal_from graphs.TooLarge = TooLarge
 refusal_from graphs.BadOperand = BadOperand
-
-abbrev pub with_done : Result GraphDelta Refusal → Result (GraphDelta × Reply) Refusal
-with_done (Ok d) = Ok (d, replies.Done)
-with_done (Err r) = Err r
+refusal_from graphs.Stuck = Stuck

@@ -2,10 +2,9 @@ pub mod Answer
 pub mod Drawing
 pub mod Edits
 pub mod Lines
-pub mod Performing
-pub mod Reaching
 pub mod Run
 pub mod State
 pub mod Status
 pub mod Table
 pub mod Transcript
+pub mod Private

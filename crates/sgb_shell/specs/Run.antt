@@ -5,14 +5,19 @@ use Rattle.sgb_shell.specs.declared.fault.RunEnd.{RunEnd}
 use Rattle.sgb_shell.specs.declared.fault.RunFault.{RunFault}
 use Rattle.sgb_shell.specs.declared.fault.RunFault.TheVariants.{Read, Write, TooLong, NoRoom}
 use Rattle.sgb_shell.specs.Lines.{whole_lines, lines}
-use Rattle.sgb_shell.specs.Performing.{Kept}
-use Rattle.sgb_print.specs.Print.{AppendsFront}
-use Rattle.sgb_shell.specs.Reaching.{Progress, Stopped}
 use Rattle.sgb_shell.specs.Transcript.{course, transcript, whole_transcript}
+
+-- known bytes grow by a front of bs that goes past `first`
+pub record AppendsPast (old new : Option (List ℕ)) (first bs : List ℕ) : Type 0 where
+  pub more : List ℕ
+  pub rest : List ℕ
+  pub whole : bs ≡ first ++ more ++ rest
+  pub appends : Appends old new (first ++ more)
 
 -- What a run did that took the bytes of a script. `left` are the bytes that the reader had, `held` those
 -- of the writer, before and after; the two truth values tell whether a read and a write failed, and `reads`
--- how many reads were made.
+-- how many reads were made. Where a write failed, nothing was read behind it: all that was due before the last read, of
+-- at most 4,096 bytes, had been written.
 abbrev pub Ends : List ℕ → List ℕ → Option (List ℕ) → Option (List ℕ) → Bool → ℕ → Option (List ℕ) → Option (List ℕ) → Bool → Result RunEnd RunFault → Type 0
 Ends script no_room left left' read_failed reads held held' write_failed (Ok end) =
     Consumes left left' script × IsAtEnd left' × (read_failed ≡ false) × (write_failed ≡ false)
@@ -26,7 +31,9 @@ Ends script no_room left left' read_failed reads held held' write_failed (Err To
     × Appends held held' (whole_transcript no_room script)
 Ends script no_room left left' read_failed reads held held' write_failed (Err Write) =
     Consumes left left' script × (read_failed ≡ false) × (write_failed ≡ true)
-    × (AppendsFront held held' (whole_transcript no_room script) ⊎ IsAtEnd left' × AppendsFront held held' (transcript no_room script))
+    × (((before last : List ℕ) × (script ≡ before ++ last) × (length last ≤ 4096)
+    × AppendsPast held held' (whole_transcript no_room before) (whole_transcript no_room script))
+    ⊎ IsAtEnd left' × AppendsPast held held' (whole_transcript no_room script) (transcript no_room script))
 Ends script no_room left left' read_failed reads held held' write_failed (Err NoRoom) =
     (script ≡ []) × (reads ≡ 0) × Consumes left left' [] × (read_failed ≡ false) × (write_failed ≡ false) × Appends held held' []
 
@@ -37,26 +44,3 @@ pub record Runs (left left' : Option (List ℕ)) (read_failed : Bool) (reads : �
   pub few : length script ≤ 16777216
   pub seldom : reads ≤ length script + 1
   pub ends : Ends script no_room left left' read_failed reads held held' write_failed result
-
--- the same before the last line, which no newline ends, is answered
-abbrev pub ScriptEnds : {X : Type 0} → List ℕ → Option (List ℕ) → Option (List ℕ) → Bool → Option (List ℕ) → Option (List ℕ) → Bool
-    → Kept → List ℕ → Bool → ℕ → ℕ → Result X RunFault → Type 0
-ScriptEnds script left left' read_failed held held' write_failed journal kept is_long count refused (Ok x) =
-    Consumes left left' script × IsAtEnd left' × (read_failed ≡ false) × (write_failed ≡ false)
-    × Progress held held' script journal kept is_long count refused
-ScriptEnds script left left' read_failed held held' write_failed journal kept is_long count refused (Err Read) =
-    Consumes left left' script × (read_failed ≡ true) × (write_failed ≡ false)
-    × Progress held held' script journal kept is_long count refused
-ScriptEnds script left left' read_failed held held' write_failed journal kept is_long count refused (Err TooLong) =
-    (length script ≡ 16777216) × ((more : ℕ) × Consumes left left' (script ++ more ∷ [])) × (read_failed ≡ false) × (write_failed ≡ false)
-    × Progress held held' script journal kept is_long count refused
-ScriptEnds script left left' read_failed held held' write_failed journal kept is_long count refused (Err Write) =
-    Consumes left left' script × (read_failed ≡ false) × (write_failed ≡ true) × Stopped held held' (whole_lines script)
-ScriptEnds script left left' read_failed held held' write_failed journal kept is_long count refused (Err NoRoom) = ⊥
-
-pub record TakesScript {X : Type 0} (left left' : Option (List ℕ)) (read_failed : Bool) (reads : ℕ) (held held' : Option (List ℕ)) (write_failed : Bool)
-    (journal : Kept) (kept : List ℕ) (is_long : Bool) (count refused : ℕ) (result : Result X RunFault) : Type 0 where
-  pub script : List ℕ
-  pub few : length script ≤ 16777216
-  pub seldom : reads ≤ length script + 1
-  pub ends : ScriptEnds script left left' read_failed held held' write_failed journal kept is_long count refused result

@@ -1,5 +1,5 @@
 -- The session's state, and what each command does to it.
-use Rattle.std.specs.Prelude.{◌≡◌, ℕ, ◌≤◌, ◌<◌, ◌-◌, ◌^◌, ◌||◌, nat_le, if◌then◌else◌, pos, unsigned_abs, int_lt, List, [], ◌∷◌, ◌++◌, length, take, insert, remove, Option, None, Some, Bool, true, false, Result, Ok, Err, ◌⊎◌}
+use Rattle.std.specs.Prelude.{ℕ, ◌≤◌, ◌<◌, ◌-◌, ◌^◌, ◌&&◌, ◌||◌, nat_le, if◌then◌else◌, pos, unsigned_abs, int_lt, List, [], ◌∷◌, ◌++◌, length, take, insert, remove, Option, None, Some, Bool, true, false}
 use Rattle.sgb_flip.specs.Generator.{drawn, uniform}
 use Rattle.sgb_graph.specs.declared.refusal.Refusal.{Refusal}
 use Rattle.sgb_graph.specs.Graph.{GraphOf, n_of, m_of}
@@ -7,9 +7,11 @@ use Rattle.sgb_graph.specs.New.{new_graph}
 use Rattle.sgb_graph.specs.Edit.{refusal_of_new}
 use Rattle.sgb_graph.specs.Delta.{LeftBy}
 use Rattle.sgb_graph.specs.Reverted.{reverted}
-use Rattle.sgb_undo.specs.Outcome.{Outcome, Accepted, Refused}
+use Rattle.sgb_undo.specs.Outcome.{Outcome, Accepted, Refused, is_accepted}
 use Rattle.sgb_script.specs.declared.command.Command.{Command}
 use Rattle.sgb_script.specs.declared.command.Command.TheVariants.{Seed, Next, Unif, Graph, Edit, Drop}
+use Rattle.sgb_script.specs.declared.command.Line.TheVariants.{Change}
+use Rattle.sgb_script.specs.Line.{has_text}
 use Rattle.sgb_script.specs.declared.refusal.ShellRefusal.{ShellRefusal}
 use Rattle.sgb_script.specs.declared.refusal.ShellRefusal.TheVariants.{NoRoom, BadSpecs, TooLarge, NoGraph, TableFull, NameTaken}
 use Rattle.sgb_shell.specs.declared.reply.Delta.{Delta}
@@ -82,7 +84,7 @@ step s (Graph name n) = unless_taken s name
 step s (Edit name e) = where_found (find s.table name) (λ i. editing s i (edited (graph_in s.table i) e))
 step s (Drop name) = where_found (find s.table name) (dropping s)
 
--- whether a command may want for memory
+-- whether a command takes memory: a new graph, arc or edge, and a text
 abbrev pub takes_memory : Command → Bool
 takes_memory (Seed n) = false
 takes_memory Next = false
@@ -90,6 +92,11 @@ takes_memory (Unif m) = false
 takes_memory (Graph name n) = true
 takes_memory (Edit name e) = edit_takes_memory e
 takes_memory (Drop name) = false
+
+-- Whether a command may want for memory at a state: it takes some, and either its text does, or it is accepted. So a
+-- command without a text that is refused for another reason wants for nothing.
+abbrev pub may_want : State → Command → Bool
+may_want s c = takes_memory c && (has_text (Change c) || is_accepted (step s c))
 
 -- the state that a delta leads back to
 abbrev pub before : State → Delta → State
@@ -106,9 +113,3 @@ can_revert s (kept.Draws n) = n ≤ s.generator.draws
 can_revert s kept.Made = 0 < length s.table
 can_revert s (kept.Edit i d) = (i < length s.table) × ((g : GraphOf) × LeftBy g d (graph_in s.table i))
 can_revert s (kept.Dropped i name g) = (i ≤ length s.table) × (length s.table < 64)
-
--- a command was performed, with a delta that leads back; or it changed nothing, since it is refused, or since memory
--- was wanted and may be
-abbrev pub Performs : State → State → Command → Result (Delta × Reply) ShellRefusal → Type 0
-Performs old new c (Ok a) = (step old c ≡ Accepted new a.0 a.1) × can_revert new a.0 × (before new a.0 ≡ old)
-Performs old new c (Err r) = (new ≡ old) × (((r ≡ NoRoom) × (takes_memory c ≡ true)) ⊎ (step old c ≡ Refused r))

@@ -1,8 +1,9 @@
 -- What a script is answered.
-use Rattle.std.specs.Prelude.{ℕ, ◌+◌, ◌==◌, Bool, if◌then◌else◌, List, [], ◌∷◌, ◌++◌, length, Option, None, Some, ◌&&◌, unwrap_or, fold as fold_list}
+use Rattle.std.specs.Prelude.{ℕ, ◌+◌, ◌==◌, Bool, true, false, if◌then◌else◌, List, [], ◌∷◌, ◌++◌, length, Option, None, Some, ◌&&◌, ◌||◌, unwrap_or, fold as fold_list}
 use Rattle.std.specs.List.{list_any}
 use Rattle.sgb_undo.specs.Outcome.{Accepted, Refused}
 use Rattle.sgb_undo.specs.Replay.{fold}
+use Rattle.sgb_undo.specs.History.{grows_at}
 use Rattle.sgb_script.specs.declared.command.Command.{Command}
 use Rattle.sgb_script.specs.declared.command.Query.{Query}
 use Rattle.sgb_script.specs.declared.command.Query.TheVariants as queries
@@ -14,7 +15,7 @@ use Rattle.sgb_script.specs.declared.refusal.ShellRefusal.TheVariants.{NoRoom, N
 use Rattle.sgb_shell.specs.Answer.{answer_text}
 use Rattle.sgb_script.specs.Line.{line_of, has_text}
 use Rattle.sgb_shell.specs.Lines.{all_but_last, whole_lines, lines}
-use Rattle.sgb_shell.specs.State.{State, StepOutcome, empty, step}
+use Rattle.sgb_shell.specs.State.{State, StepOutcome, empty, step, may_want}
 use Rattle.sgb_shell.specs.Table.{find}
 
 -- the commands that stand, and those that are undone, the next to redo first
@@ -39,12 +40,21 @@ answered l accepted (Refused r) = (l, answers.Refused r)
 abbrev pub with_command : Lists → Command → Lists
 with_command l c = record { standing = l.standing ++ c ∷ []; undone = [] }
 
--- a command; its text takes memory before the journal is asked
+abbrev pub are_none : List Command → Bool
+are_none [] = true
+are_none (c ∷ cs) = false
+
+-- whether the journal takes memory for one command more
+abbrev pub grows : Lists → Bool
+grows l = are_none l.undone && grows_at (length l.standing)
+
+-- A command. Its text takes memory before the journal is asked; the journal may grow for it, and then its step may want
+-- for memory.
 abbrev pub changing : Bool → Lists → Command → Told
 changing no_room l c =
     if no_room && has_text (Change c) then (l, answers.Refused NoRoom)
     else (if length l.standing == 65535 then (l, answers.Refused JournalFull)
-    else (if no_room then (l, answers.Refused NoRoom)
+    else (if no_room && (grows l || may_want (state_of l.standing) c) then (l, answers.Refused NoRoom)
     else answered l (with_command l c) (step (state_of l.standing) c)))
 
 abbrev pub last_command : List Command → Option Command
@@ -62,7 +72,7 @@ abbrev pub redoing : Bool → List Command → List Command → Told
 redoing no_room standing [] = (record { standing = standing; undone = [] }, answers.Refused NothingToRedo)
 redoing no_room standing (c ∷ cs) =
     let l : Lists = record { standing = standing; undone = c ∷ cs } in
-    if no_room then (l, answers.Refused NoRoom)
+    if no_room && may_want (state_of standing) c then (l, answers.Refused NoRoom)
     else answered l (record { standing = standing ++ c ∷ []; undone = cs }) (step (state_of standing) c)
 
 abbrev pub shown_or_refused : Option ℕ → Answer
@@ -75,7 +85,8 @@ asked_of s queries.Gen = answers.Generator
 asked_of s queries.List = answers.Graphs
 asked_of s (queries.Show name) = shown_or_refused (find s.table name)
 
--- What a unit does. Want of memory touches none but a command and a redo.
+-- What a unit does. Want of memory touches only a command and a redo that may want for it, and a command for which the
+-- journal grows.
 abbrev pub unit_told : Bool → Lists → Option Line → Told
 unit_told no_room l None = (l, answers.Refused ScriptSyntax)
 unit_told no_room l (Some Nothing) = (l, answers.Silent)

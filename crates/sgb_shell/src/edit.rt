@@ -3,7 +3,8 @@ ghost use Rattle.std.specs.Prelude.{◌≡◌, true, false, MatchResult};
 ghost use Rattle.sgb_graph.specs.declared.refusal.Refusal.TheVariants.{NoRoom};
 ghost use Rattle.sgb_shell.specs.declared.reply.Reply.TheVariants.{Done};
 ghost use Rattle.sgb_script.specs.declared.command.Edit.TheVariants.{Arc, Edge, Set, Label, Id};
-ghost use Rattle.sgb_shell.specs.Edits.{Makes, edited, edit_takes_memory, is_text_value, with_done};
+ghost use Rattle.sgb_shell.specs.Edits.{edited, is_text_value};
+ghost use Rattle.sgb_shell.specs.Private.Making.{Makes, edit_may_want, with_done};
 
 use crate::reply::Reply;
 use sgb_graph::{ArcNo, Graph, GraphDelta, Place, Refusal, Text, Util, VertexNo};
@@ -16,7 +17,7 @@ pub(crate) fn make_edit(
     graph: &mut Graph,
     edit: &Edit,
 ) -> Result<(GraphDelta, Reply), Refusal>
-    ensures { Makes (edit_takes_memory edit.now) graph.old graph.new (edited graph.old edit.now) result }
+    ensures { Makes (edit_may_want edit.now) graph.old graph.new (edited graph.old edit.now) result }
 {
     match edit {
         Edit::Arc(from, to, len) => make_arc(graph, *from, *to, *len),
@@ -36,7 +37,7 @@ fn make_arc(
     to: VertexNo,
     len: i64,
 ) -> Result<(GraphDelta, Reply), Refusal>
-    ensures { Makes true graph.old graph.new (edited graph.old (Arc from to len)) result }
+    ensures { Makes (edit_may_want (Arc from to len)) graph.old graph.new (edited graph.old (Arc from to len)) result }
 {
     let (number, delta) = graph.new_arc(from, to, len)?;
     Ok((delta, Reply::Arc(number)))
@@ -48,7 +49,7 @@ fn make_edge(
     to: VertexNo,
     len: i64,
 ) -> Result<(GraphDelta, Reply), Refusal>
-    ensures { Makes true graph.old graph.new (edited graph.old (Edge from to len)) result }
+    ensures { Makes (edit_may_want (Edge from to len)) graph.old graph.new (edited graph.old (Edge from to len)) result }
 {
     let (number, delta) = graph.new_edge(from, to, len)?;
     Ok((delta, Reply::Edge(number, ArcNo(number.0 + 1))))
@@ -60,7 +61,7 @@ fn set_value(
     place: Place,
     value: &Util,
 ) -> Result<(GraphDelta, Reply), Refusal>
-    ensures { Makes (is_text_value value.now) graph.old graph.new (edited graph.old (Set place value.now)) result }
+    ensures { Makes (edit_may_want (Set place value.now)) graph.old graph.new (edited graph.old (Set place value.now)) result }
 {
     let copy = copy_of_value(alloc, value)?;
     done(graph.set_util(place, copy))
@@ -72,14 +73,14 @@ fn set_label(
     vertex: VertexNo,
     text: &Text,
 ) -> Result<(GraphDelta, Reply), Refusal>
-    ensures { Makes true graph.old graph.new (edited graph.old (Label vertex text.now)) result }
+    ensures { Makes (edit_may_want (Label vertex text.now)) graph.old graph.new (edited graph.old (Label vertex text.now)) result }
 {
     let copy = copy_of_text(alloc, text)?;
     done(graph.set_label(vertex, copy))
 }
 
 fn set_id(alloc: Global, graph: &mut Graph, text: &Text) -> Result<(GraphDelta, Reply), Refusal>
-    ensures { Makes true graph.old graph.new (edited graph.old (Id text.now)) result }
+    ensures { Makes (edit_may_want (Id text.now)) graph.old graph.new (edited graph.old (Id text.now)) result }
 {
     let copy = copy_of_text(alloc, text)?;
     done(graph.set_id(copy))

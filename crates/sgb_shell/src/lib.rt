@@ -4,6 +4,7 @@
 mod answer;
 mod edit;
 mod fault;
+mod laws;
 mod mark;
 mod perform;
 mod reply;
@@ -14,9 +15,10 @@ mod status;
 mod table;
 
 pub use fault::{RunEnd, RunFault};
+pub use laws::course_law;
 pub use mark::Mark;
 pub use reply::{Delta, Reply};
-pub use script::{Ended, SCRIPT_LIMIT, run};
+pub use script::{Ended, SCRIPT_LIMIT, run, run_metered};
 pub use session::{MOST_DRAWS, MOST_UNIFORM, Session};
 pub use sgb_print::{Failed, MeteredReader, MeteredWriter};
 pub use sgb_script::{Command, Edit, LINE_LIMIT, Line, Name, Query, ShellRefusal, parse};

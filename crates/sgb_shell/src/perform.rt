@@ -2,7 +2,7 @@
 ghost use Rattle.std.specs.Prelude.{◌≡◌, Some};
 ghost use Rattle.sgb_script.specs.Line.{line_of};
 ghost use Rattle.sgb_shell.specs.Transcript.{asked_of};
-ghost use Rattle.sgb_shell.specs.Performing.{IsBegun, Does, answer_from, refusal_from};
+ghost use Rattle.sgb_shell.specs.Private.Performing.{IsBegun, Does, answer_from, refusal_from};
 ghost use Rattle.sgb_script.specs.declared.command.Line.TheVariants.{Change, Undo, Redo};
 
 use crate::answer::Answer;

@@ -2,8 +2,9 @@
 ghost use Rattle.std.specs.Prelude.{◌≡◌, ◌+◌, ◌<◌, ◌≤◌, ◌^◌, ◌||◌, false, length, take, MatchResult, IfOk, IsErrOf, is_err, vec_capacity, [], List, ℕ};
 ghost use Rattle.sgb_shell.specs.Transcript.{transcript};
 ghost use Rattle.std.specs.Io.KnownBytes.{Consumes, IsAtEnd, Keeps};
-ghost use Rattle.sgb_shell.specs.Reaching.{Progress};
-ghost use Rattle.sgb_shell.specs.Run.{Runs, TakesScript};
+ghost use Rattle.sgb_shell.specs.Private.Reaching.{Progress};
+ghost use Rattle.sgb_shell.specs.Private.Taking.{TakesScript, ReadsOn};
+ghost use Rattle.sgb_shell.specs.Run.{Runs};
 
 use crate::fault::{RunEnd, RunFault};
 use crate::shell::Shell;
@@ -27,18 +28,14 @@ pub struct Ended<R, W> {
     pub writer: MeteredWriter<W>,
 }
 
-/// Runs the script that the reader gives, and writes its transcript.
-///
-/// At most 16,777,216 bytes are taken, and one further read tells whether more follow. Lines are
-/// answered as they come. Room for one line is taken at the start; where it is refused nothing is
-/// read or written.
+/// Runs the script that the reader gives, and writes its transcript: [`run_metered`] with meters of its own.
 pub fn run<R: Read, W: Write>(alloc: Global, reader: R, writer: W) -> Ended<R, W>
     ensures runs { Runs (R.remaining reader) (R.remaining result.reader.inner) result.reader.failed result.reader.reads
         (W.contents writer) (W.contents result.writer.inner) result.writer.failed result.end }
 {
     let mut reader = MeteredReader::new(reader);
     let mut writer = MeteredWriter::new(writer);
-    let end = transcribe(alloc, &mut reader, &mut writer);
+    let end = run_metered(alloc, &mut reader, &mut writer);
     Ended {
         end,
         reader,
@@ -46,7 +43,13 @@ pub fn run<R: Read, W: Write>(alloc: Global, reader: R, writer: W) -> Ended<R, W
     }
 }
 
-fn transcribe<R: Read, W: Write>(
+/// Runs the script that the reader gives, and writes its transcript.
+///
+/// At most 16,777,216 bytes are taken, and one further read tells whether more follow. Lines are
+/// answered as they come, and before each read all that was written is flushed, so that who gives the script
+/// can wait for an answer before the next line. After a failed write or flush nothing more is read. Room for one
+/// line is taken at the start; where it is refused nothing is read or written.
+pub fn run_metered<R: Read, W: Write>(
     alloc: Global,
     reader: &mut MeteredReader<R>,
     writer: &mut MeteredWriter<W>,
@@ -54,7 +57,7 @@ fn transcribe<R: Read, W: Write>(
     requires unread { reader.old.reads ≡ 0 }
     requires reader { reader.old.failed ≡ false }
     requires writer { writer.old.failed ≡ false }
-    ensures { Runs (R.remaining reader.old.inner) (R.remaining reader.new.inner) reader.new.failed reader.new.reads
+    ensures runs { Runs (R.remaining reader.old.inner) (R.remaining reader.new.inner) reader.new.failed reader.new.reads
         (W.contents writer.old.inner) (W.contents writer.new.inner) writer.new.failed result }
 {
     let Ok(mut shell) = Shell::new(alloc) else {
@@ -89,9 +92,7 @@ fn take_script<R: Read, W: Write>(
     let mut chunk = [0u8; CHUNK];
     let mut room = SCRIPT_LIMIT;
     while room > 0 {
-        let Ok(count) = read_some(reader, &mut chunk, room) else {
-            return Err(RunFault::Read);
-        };
+        let count = read_on(reader, writer, &mut chunk, room)?;
         if count == 0 {
             return Ok(());
         }
@@ -101,9 +102,33 @@ fn take_script<R: Read, W: Write>(
             return Err(RunFault::Write);
         }
     }
-    match read_some(reader, &mut chunk, 1) {
-        Ok(0) => Ok(()),
-        Ok(_) => Err(RunFault::TooLong),
+    let more = read_on(reader, writer, &mut chunk, 1)?;
+    if more > 0 {
+        return Err(RunFault::TooLong);
+    }
+    Ok(())
+}
+
+// Hands on what was written, and then makes one read, of at most so many bytes.
+fn read_on<R: Read, W: Write>(
+    reader: &mut MeteredReader<R>,
+    writer: &mut MeteredWriter<W>,
+    chunk: &mut [u8],
+    most: usize,
+) -> Result<usize, RunFault>
+    requires most { 0 < most }
+    requires chunk { 0 < length chunk.old }
+    requires reads { reader.old.reads < 2 ^ 63 }
+    requires reader { reader.old.failed ≡ false }
+    requires writer { writer.old.failed ≡ false }
+    ensures { ReadsOn (R.remaining reader.old.inner) (R.remaining reader.new.inner) reader.new.failed reader.old.reads reader.new.reads
+        (W.contents writer.old.inner) (W.contents writer.new.inner) writer.new.failed most chunk.new result }
+{
+    if writer.flush().is_err() {
+        return Err(RunFault::Write);
+    }
+    match read_some(reader, chunk, most) {
+        Ok(count) => Ok(count),
         Err(_) => Err(RunFault::Read),
     }
 }

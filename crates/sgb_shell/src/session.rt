@@ -4,7 +4,7 @@ ghost use Rattle.sgb_undo.specs.Outcome.{Accepted, Refused};
 ghost use Rattle.sgb_script.specs.declared.command.Command.TheVariants as commands;
 ghost use Rattle.sgb_shell.specs.Drawing.{generator_of};
 ghost use Rattle.sgb_shell.specs.Edits.{refusal_from};
-ghost use Rattle.sgb_shell.specs.State.{Performs};
+ghost use Rattle.sgb_shell.specs.Private.Making.{Performs};
 
 use crate::mark::Mark;
 use crate::reply::{Delta, Reply};
@@ -177,13 +177,18 @@ fn refusal_of(refusal: Refusal) -> ShellRefusal
 {
     match refusal {
         Refusal::NoRoom => ShellRefusal::NoRoom,
+        Refusal::CheckWrong => ShellRefusal::CheckWrong,
+        Refusal::Syntax => ShellRefusal::Syntax,
+        Refusal::BadSpecs => ShellRefusal::BadSpecs,
+        Refusal::LengthRange => ShellRefusal::LengthRange,
         Refusal::TooLarge => ShellRefusal::TooLarge,
         Refusal::BadOperand => ShellRefusal::BadOperand,
+        Refusal::Stuck => ShellRefusal::Stuck,
     }
 }
 
 impl Reversible for Session {
-    ghost use Rattle.sgb_shell.specs.State.{step, before, can_revert, takes_memory};
+    ghost use Rattle.sgb_shell.specs.State.{step, before, can_revert, takes_memory, may_want};
     ghost use Rattle.sgb_script.specs.Refusal.{is_no_room};
 
     type Command = Command;
@@ -202,12 +207,16 @@ impl Reversible for Session {
 
     ghost is_want_of_memory = { is_no_room };
 
-    /// Performs a command. Only a new graph, a new arc or edge and a text take memory.
+    ghost may_want = { may_want };
+
+    /// Performs a command. Only a new graph, a new arc or edge and a text take memory, and without a text only
+    /// where the command is accepted.
     fn apply(&mut self, command: &Command) -> Result<(Delta, Reply), ShellRefusal>
         ensures accepted { IfOk result (λ a. step self.old command.now ≡ Accepted self.new a.0 a.1) }
         ensures can_revert { IfOk result (λ a. can_revert self.new a.0) }
         ensures before { IfOk result (λ a. before self.new a.0 ≡ self.old) }
-        ensures refused { IfErr result (λ r. (is_no_room r ≡ true) ⊎ (step self.old command.now ≡ Refused r)) }
+        ensures refused { IfErr result (λ r.
+            ((is_no_room r ≡ true) × (may_want self.old command.now ≡ true)) ⊎ (step self.old command.now ≡ Refused r)) }
         ensures err { OnErr result (self.new ≡ self.old) }
         ensures memory { IfErr result (λ r. (takes_memory command.now ≡ true) ⊎ (step self.old command.now ≡ Refused r)) }
     {

@@ -1,9 +1,9 @@
 //! Answers a script line by line, as its bytes come.
 ghost use Rattle.std.specs.Prelude.{◌≡◌, ◌<◌, ◌≤◌, ◌^◌, ◌++◌, ◌∷◌, [], List, ℕ, Option, IfOk, false, length, vec_capacity};
 ghost use Rattle.sgb_script.specs.Line.{line_of};
-ghost use Rattle.sgb_shell.specs.Performing.{IsBegun, Does};
-ghost use Rattle.sgb_shell.specs.Reaching.{Holds, Reached, Finishes, Takes, Progress};
-ghost use Rattle.sgb_shell.specs.Lines.{lines};
+ghost use Rattle.sgb_shell.specs.Private.Performing.{IsBegun, Does};
+ghost use Rattle.sgb_shell.specs.Private.Reaching.{Holds, Reached, Finishes, Takes, Progress};
+ghost use Rattle.sgb_shell.specs.Lines.{lines, whole_lines};
 ghost use Rattle.sgb_shell.specs.Transcript.{refusals};
 
 use crate::answer::{Answer, print_answer};
@@ -59,7 +59,7 @@ impl Shell {
         ensures room { vec_capacity self.new.line ≡ vec_capacity self.old.line }
         ensures takes { (held : Option (List ℕ)) (script : List ℕ) → length (script ++ bytes.now) < 2 ^ 32
             → Progress held (W.contents writer.old.inner) script self.old.journal self.old.line.items self.old.is_long self.old.lines self.old.refused
-            → Takes held (W.contents writer.new.inner) writer.old.failed writer.new.failed (script ++ bytes.now)
+            → Takes held (W.contents writer.new.inner) writer.old.failed writer.new.failed script (script ++ bytes.now)
             self.new.journal self.new.line.items self.new.is_long self.new.lines self.new.refused result }
     {
         for byte in bytes {
@@ -73,7 +73,7 @@ impl Shell {
         ensures room { vec_capacity self.new.line ≡ vec_capacity self.old.line }
         ensures takes { (held : Option (List ℕ)) (script : List ℕ) → length script < 2 ^ 32
             → Progress held (W.contents writer.old.inner) script self.old.journal self.old.line.items self.old.is_long self.old.lines self.old.refused
-            → Takes held (W.contents writer.new.inner) writer.old.failed writer.new.failed (script ++ byte ∷ [])
+            → Takes held (W.contents writer.new.inner) writer.old.failed writer.new.failed script (script ++ byte ∷ [])
             self.new.journal self.new.line.items self.new.is_long self.new.lines self.new.refused result }
     {
         if byte == b'\n' {
@@ -91,7 +91,7 @@ impl Shell {
     pub(crate) fn end<W: Write>(&mut self, writer: &mut MeteredWriter<W>) -> Result<(), Failed>
         ensures ends { (held : Option (List ℕ)) (script : List ℕ) → length script < 2 ^ 32
             → Progress held (W.contents writer.old.inner) script self.old.journal self.old.line.items self.old.is_long self.old.lines self.old.refused
-            → Finishes held (W.contents writer.new.inner) writer.old.failed writer.new.failed (lines script)
+            → Finishes held (W.contents writer.new.inner) writer.old.failed writer.new.failed (whole_lines script) (lines script)
             self.new.journal self.new.lines self.new.refused result }
     {
         if self.line.is_empty() {
@@ -108,7 +108,7 @@ impl Shell {
         ensures finishes { (held : Option (List ℕ)) (ls : List (List ℕ)) (line : List ℕ) → length ls < 2 ^ 32
             → Reached held (W.contents writer.old.inner) ls self.old.journal self.old.lines self.old.refused
             → Holds self.old.line.items self.old.is_long line
-            → Finishes held (W.contents writer.new.inner) writer.old.failed writer.new.failed (ls ++ line ∷ [])
+            → Finishes held (W.contents writer.new.inner) writer.old.failed writer.new.failed ls (ls ++ line ∷ [])
             self.new.journal self.new.lines self.new.refused result }
     {
         let alloc = self.alloc;

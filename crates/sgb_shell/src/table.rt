@@ -5,8 +5,10 @@ ghost use Rattle.std.specs.Str.{bytes_eq};
 ghost use Rattle.sgb_graph.specs.Graph.{GraphOf};
 ghost use Rattle.sgb_graph.specs.Delta.{LeftBy};
 ghost use Rattle.sgb_graph.specs.Reverted.{reverted};
-ghost use Rattle.sgb_shell.specs.Edits.{edited, edit_takes_memory};
-ghost use Rattle.sgb_shell.specs.Table.{find, entry_in, graph_in, with_graph, held, slot_in, slot_with_graph, MakesAt, MakesInSlot};
+ghost use Rattle.sgb_shell.specs.Edits.{edited};
+ghost use Rattle.sgb_shell.specs.Private.Making.{edit_may_want, MakesAt, MakesInSlot};
+ghost use Rattle.sgb_shell.specs.Private.Slots.{held, slot_in, slot_with_graph};
+ghost use Rattle.sgb_shell.specs.Table.{find, entry_in, graph_in, with_graph};
 
 use crate::edit::make_edit;
 use crate::reply::Reply;
@@ -36,7 +38,7 @@ pub(crate) struct Table {
 impl Model for Table {
     ghost use Rattle.std.specs.Prelude.{List, map, All, IsSome};
     ghost use Rattle.sgb_shell.specs.declared.table.Entry.{Entry};
-    ghost use Rattle.sgb_shell.specs.Table.{held};
+    ghost use Rattle.sgb_shell.specs.Private.Slots.{held};
 
     ghost Value = { List Entry };
 
@@ -128,7 +130,7 @@ impl Table {
         edit: &Edit,
     ) -> Result<(GraphDelta, Reply), Refusal>
         requires { place < length self.old }
-        ensures { MakesAt (edit_takes_memory edit.now) self.old self.new place (edited (graph_in self.old place) edit.now) result }
+        ensures { MakesAt (edit_may_want edit.now) self.old self.new place (edited (graph_in self.old place) edit.now) result }
     {
         edit_slot(self.entries.as_mut_slice(), alloc, place, edit)
     }
@@ -166,7 +168,7 @@ fn edit_slot(
 ) -> Result<(GraphDelta, Reply), Refusal>
     requires place { place < length slots.old }
     requires some { IsSome (slot_in slots.old place) }
-    ensures { MakesInSlot (edit_takes_memory edit.now) slots.old slots.new place (edited (held (slot_in slots.old place)).graph edit.now) result }
+    ensures { MakesInSlot (edit_may_want edit.now) slots.old slots.new place (edited (held (slot_in slots.old place)).graph edit.now) result }
 {
     match &mut slots[place] {
         Some(entry) => make_edit(alloc, &mut entry.graph, edit),

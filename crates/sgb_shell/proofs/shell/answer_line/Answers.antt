@@ -1,6 +1,6 @@
 use Rattle.std.proofs.Common.{subst, refl, inl}
 use Rattle.sgb_script.specs.Line.{line_of}
-use Rattle.sgb_shell.specs.Performing.{Does}
+use Rattle.sgb_shell.specs.Private.Performing.{Does}
 use Rattle.sgb_shell.proofs.Courses.{held_whole, held_long}
 use Rattle.sgb_script.specs.declared.refusal.ShellRefusal.TheVariants.{ScriptSyntax}
 use Rattle.sgb_shell.proofs.Performing.{refused_does}

@@ -1,11 +1,11 @@
 use Rattle.std.proofs.Common.{ap, ◌∙◌, subst, sym, ◌≡◌, ◌<◌, Some, Err, length}
 use Rattle.sgb_script.specs.declared.command.Command.TheVariants as commands
-use Rattle.sgb_shell.specs.Edits.{edited, edit_takes_memory}
-use Rattle.sgb_shell.specs.State.{Performs}
-use Rattle.sgb_shell.specs.Table.{find, graph_in, MakesAt}
+use Rattle.sgb_shell.specs.Edits.{edited}
+use Rattle.sgb_shell.specs.Table.{find, graph_in}
 use Rattle.sgb_shell.proofs.Sessions.{state, find_within, edit_done, edit_refused}
 use Rattle.sgb_shell.proofs.session.Session.edit.Goals as goal
 use Rattle.sgb_shell.proofs.session.Session.edit.Goals.{in-Ok, in-Err}
+use Rattle.sgb_shell.specs.Private.Making.{Performs, MakesAt, edit_may_want}
 
 pub returns : goal.returns
 returns c =
@@ -17,11 +17,11 @@ returns c =
     let e = c.args.edit.now in
     let at : find t name ≡ Some i = sym c.find.ensures ∙ c.in-Some.is in
     let within : i < length t = find_within t name i at in
-    let made : MakesAt (edit_takes_memory e) t u i (edited (graph_in t i) e) c.edit.result = c.edit.ensures in
+    let made : MakesAt (edit_may_want e) t u i (edited (graph_in t i) e) c.edit.result = c.edit.ensures in
     subst (λ s. Performs s (state d u) (commands.Edit name e) c.match-edit.result) c.self.view_is
     (elim c.match-edit.branch [
       | in-Ok w ↦ subst (Performs (state d t) (state d u) (commands.Edit name e)) (sym w.result-is)
-          (edit_done d t u name e i _ at within (subst (MakesAt (edit_takes_memory e) t u i (edited (graph_in t i) e)) w.in-Ok.is made))
+          (edit_done d t u name e i _ at within (subst (MakesAt (edit_may_want e) t u i (edited (graph_in t i) e)) w.in-Ok.is made))
       | in-Err w ↦ subst (Performs (state d t) (state d u) (commands.Edit name e)) (sym (w.result-is ∙ ap Err w.refusal_of.ensures))
-          (edit_refused d t u name e i _ at (subst (MakesAt (edit_takes_memory e) t u i (edited (graph_in t i) e)) w.in-Err.is made))
+          (edit_refused d t u name e i _ at (subst (MakesAt (edit_may_want e) t u i (edited (graph_in t i) e)) w.in-Err.is made))
     ])

@@ -1,5 +1,5 @@
 use Rattle.std.proofs.Common.{◌∙◌, ap, refl}
-use Rattle.sgb_shell.specs.Performing.{lists_of}
+use Rattle.sgb_shell.specs.Private.Performing.{lists_of}
 use Rattle.sgb_shell.proofs.Courses.{nothing_reached}
 use Rattle.sgb_shell.proofs.shell.Shell.new.Goals as goal
 

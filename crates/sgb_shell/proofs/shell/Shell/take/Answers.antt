@@ -2,7 +2,7 @@ use Rattle.std.proofs.Common.{◌∙◌, subst, take, ◌++◌, ◌+◌}
 use Rattle.std.proofs.lemmas.List.{take_all}
 use Rattle.std.proofs.lemmas.Result.{err_from_is_err_and}
 use Rattle.sgb_shell.specs.Lines.{whole_lines}
-use Rattle.sgb_shell.specs.Reaching.{Progress, Stopped}
+use Rattle.sgb_shell.specs.Private.Reaching.{Progress, Stopped}
 use Rattle.sgb_shell.proofs.Bytes.{one_more, front_few, bytes_failed}
 use Rattle.sgb_shell.proofs.shell.Shell.take.Goals as goal
 
@@ -13,7 +13,7 @@ returns-in_err-take_byte-clause-takes g c held script few p =
     let so_far = c.loop-byte.invariant.goes held script few p in
     let failed = c.in_err-take_byte.ensures.takes held (script ++ take i bytes) (front_few script bytes i few) so_far.0 in
     let r = err_from_is_err_and c.from_residual.result c.from_residual.ensures.1 in
-    rw r.1 (bytes_failed held _ script bytes (i + 1) (subst (λ s. Stopped held (g.W.Write.contents c.take_byte.new.writer.inner) (whole_lines s)) (one_more script bytes i c.loop-byte-test.true) failed.0), failed.1)
+    rw r.1 (bytes_failed held _ script bytes i (i + 1) (subst (λ s. Stopped held (g.W.Write.contents c.take_byte.new.writer.inner) (whole_lines (script ++ take i bytes)) (whole_lines s)) (one_more script bytes i c.loop-byte-test.true) failed.0), failed.1)
 
 pub loop-byte-preserved : goal.loop-byte-preserved
 loop-byte-preserved g c = record {

@@ -1,5 +1,5 @@
 use Rattle.std.proofs.Common.{◌≡◌, ◌<◌, ◌^◌, ◌++◌, length, take, vec_capacity}
-use Rattle.sgb_shell.specs.Reaching.{Progress}
+use Rattle.sgb_shell.specs.Private.Reaching.{Progress}
 use Rattle.sgb_shell.proofs.Taking.{Going}
 use Rattle.sgb_shell.proofs.shell.Shell.take.Given as goal
 

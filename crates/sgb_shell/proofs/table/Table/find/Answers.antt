@@ -1,9 +1,10 @@
 use Rattle.std.proofs.Common.{ap, ◌∙◌}
 use Rattle.std.specs.List.{position}
 use Rattle.std.specs.Str.{bytes_eq}
-use Rattle.sgb_shell.specs.Table.{held, find}
+use Rattle.sgb_shell.specs.Table.{find}
 use Rattle.sgb_shell.proofs.Tables.{position-map}
 use Rattle.sgb_shell.proofs.table.Table.find.Goals as goal
+use Rattle.sgb_shell.specs.Private.Slots.{held}
 
 pub returns : goal.returns
 returns c =

@@ -1,7 +1,7 @@
 use Rattle.std.proofs.Common.{ap, ◌∙◌, map, insert}
-use Rattle.sgb_shell.specs.Table.{held}
 use Rattle.sgb_shell.proofs.Tables.{map-insert}
 use Rattle.sgb_shell.proofs.table.Table.insert.Goals as goal
+use Rattle.sgb_shell.specs.Private.Slots.{held}
 
 pub returns : goal.returns
 returns c =

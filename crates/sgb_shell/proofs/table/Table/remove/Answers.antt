@@ -1,8 +1,8 @@
 use Rattle.std.proofs.Common.{ap, ◌∙◌, map, remove, subst, sym, All, IsSome, arith}
 use Rattle.std.proofs.lemmas.List.{length-map}
-use Rattle.sgb_shell.specs.Table.{held}
 use Rattle.sgb_shell.proofs.Tables.{map-remove, All-remove}
 use Rattle.sgb_shell.proofs.table.Table.remove.Goals as goal
+use Rattle.sgb_shell.specs.Private.Slots.{held}
 
 pub invariant_of-self : goal.invariant_of-self
 invariant_of-self c =

@@ -2,9 +2,10 @@ use Rattle.std.proofs.Common.{◌≡◌, ap, ◌∙◌, sym, length, map}
 use Rattle.arrayvec.proofs.ArrayVecLemmas.{items-with_items}
 use Rattle.sgb_graph.specs.Reverted.{reverted}
 use Rattle.sgb_shell.specs.declared.table.Entry.{Entry}
-use Rattle.sgb_shell.specs.Table.{held, graph_in, with_graph, slot_in, slot_with_graph}
+use Rattle.sgb_shell.specs.Table.{graph_in, with_graph}
 use Rattle.sgb_shell.proofs.Tables.{slot_edited, entry_shown}
 use Rattle.sgb_shell.proofs.table.Table.revert.Goals as goal
+use Rattle.sgb_shell.specs.Private.Slots.{held, slot_in, slot_with_graph}
 
 pub returns : goal.returns
 returns c =

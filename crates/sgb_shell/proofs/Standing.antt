@@ -1,0 +1,99 @@
+-- The standing commands of a course are accepted.
+use Rattle.std.proofs.Common.{◌≡◌, ℕ, ◌+◌, Bool, true, false, cond, ◌==◌, List, [], ◌∷◌, ◌++◌, length, Option, None, Some, IsSome, refl, sym, ap, ◌∙◌, subst, append-nil}
+use Rattle.std.specs.Prelude.{unwrap_or, fold as fold_list, ◌&&◌, ◌||◌}
+use Rattle.std.specs.List.{list_any}
+use Rattle.sgb_undo.specs.Outcome.{Outcome, Accepted, Refused, on_accepted}
+use Rattle.sgb_undo.specs.Replay.{fold}
+use Rattle.sgb_script.specs.declared.command.Command.{Command}
+use Rattle.sgb_script.specs.declared.command.Line.{Line}
+use Rattle.sgb_script.specs.declared.command.Line.TheVariants.{Nothing, Change, Undo, Redo, Ask}
+use Rattle.sgb_script.specs.declared.refusal.ShellRefusal.TheVariants.{NoRoom, JournalFull}
+use Rattle.sgb_script.specs.Line.{line_of, has_text}
+use Rattle.sgb_shell.specs.declared.answer.Answer.TheVariants as answers
+use Rattle.sgb_shell.specs.declared.reply.Delta.{Delta}
+use Rattle.sgb_shell.specs.declared.reply.Reply.{Reply}
+use Rattle.sgb_shell.specs.Lines.{all_but_last}
+use Rattle.sgb_shell.specs.State.{State, StepOutcome, empty, step, may_want}
+use Rattle.sgb_shell.specs.Transcript.{Lists, Told, Course, course, start, advance, answered, with_command, grows, state_of, last_command, undoing, redoing, unit_told}
+
+abbrev Stand : List Command → Type 0
+Stand cs = IsSome (fold step empty cs)
+
+-- ---- lists of commands
+
+abbrev fold_from : Option State → List Command → Option State
+fold_from None cs = None
+fold_from (Some s) cs = fold step s cs
+
+fold-append : (s : State) (cs ds : List Command) → fold step s (cs ++ ds) ≡ fold_from (fold step s cs) ds
+fold-append s [] ds = refl
+fold-append s (c ∷ cs) ds =
+    elim (step s c) as (λ o. on_accepted o (λ n _. fold step n (cs ++ ds)) None ≡ fold_from (on_accepted o (λ n _. fold step n cs) None) ds) [
+      | Accepted n d r ↦ fold-append n cs ds
+      | Refused r ↦ refl
+    ]
+
+some_front : (o : Option State) (ds : List Command) → IsSome (fold_from o ds) → IsSome o
+some_front None ds h = h
+some_front (Some s) ds h = refl
+
+Stand-front : (cs ds : List Command) → Stand (cs ++ ds) → Stand cs
+Stand-front cs ds h = some_front (fold step empty cs) ds (subst (λ o. IsSome o) (fold-append empty cs ds) h)
+
+some_push : (o : Option State) (c : Command) (s : State) (d : Delta) (r : Reply) → IsSome o → step (unwrap_or o empty) c ≡ Accepted s d r → IsSome (fold_from o (c ∷ []))
+some_push None c s d r h e = h
+some_push (Some n) c s d r h e = rw e refl
+
+Stand-push : (cs : List Command) (c : Command) (s : State) (d : Delta) (r : Reply) → Stand cs → step (state_of cs) c ≡ Accepted s d r → Stand (cs ++ c ∷ [])
+Stand-push cs c s d r h e = subst (λ o. IsSome o) (sym (fold-append empty cs (c ∷ []))) (some_push (fold step empty cs) c s d r h e)
+
+front_of : {X : Type 0} (xs : List X) → (ys : List X) × (xs ≡ all_but_last xs ++ ys)
+front_of [] = ([], refl)
+front_of (x ∷ []) = (x ∷ [], refl)
+front_of (x ∷ y ∷ ys) = let rest = front_of (y ∷ ys) in (rest.0, ap (λ l. x ∷ l) rest.1)
+
+-- ---- a unit
+
+either_stands : (b : Bool) (t u : Told) → Stand t.0.standing → Stand u.0.standing → Stand (cond b t u).0.standing
+either_stands true t u p q = p
+either_stands false t u p q = q
+
+answered_stands : (l accepted : Lists) (o : StepOutcome) → Stand l.standing → ((s : State) (d : Delta) (r : Reply) → o ≡ Accepted s d r → Stand accepted.standing) → Stand (answered l accepted o).0.standing
+answered_stands l accepted (Accepted s d r) h more = more s d r refl
+answered_stands l accepted (Refused r) h more = h
+
+undoing_stands : (l : Lists) (o : Option Command) → Stand l.standing → Stand (undoing l o).0.standing
+undoing_stands l None h = h
+undoing_stands l (Some c) h = let rest = front_of l.standing in Stand-front (all_but_last l.standing) rest.0 (subst Stand rest.1 h)
+
+redoing_stands : (b : Bool) (standing undone : List Command) → Stand standing → Stand (redoing b standing undone).0.standing
+redoing_stands b standing [] h = h
+redoing_stands b standing (c ∷ cs) h =
+    let l : Lists = record { standing = standing; undone = c ∷ cs } in
+    either_stands (b && may_want (state_of standing) c) (l, answers.Refused NoRoom) (answered l (record { standing = standing ++ c ∷ []; undone = cs }) (step (state_of standing) c)) h
+    (answered_stands l (record { standing = standing ++ c ∷ []; undone = cs }) (step (state_of standing) c) h (λ s d r. Stand-push standing c s d r h))
+
+told_stands : (b : Bool) (l : Lists) (o : Option Line) → Stand l.standing → Stand (unit_told b l o).0.standing
+told_stands b l None h = h
+told_stands b l (Some Nothing) h = h
+told_stands b l (Some (Change c)) h =
+    let done : Told = answered l (with_command l c) (step (state_of l.standing) c) in
+    let stands : Stand done.0.standing = answered_stands l (with_command l c) (step (state_of l.standing) c) h (λ s d r. Stand-push l.standing c s d r h) in
+    let room : Told = cond (b && (grows l || may_want (state_of l.standing) c)) (l, answers.Refused NoRoom) done in
+    let some : Stand room.0.standing = either_stands (b && (grows l || may_want (state_of l.standing) c)) (l, answers.Refused NoRoom) done h stands in
+    let full : Told = cond (length l.standing == 65535) (l, answers.Refused JournalFull) room in
+    either_stands (b && has_text (Change c)) (l, answers.Refused NoRoom) full h (either_stands (length l.standing == 65535) (l, answers.Refused JournalFull) room h some)
+told_stands b l (Some Undo) h = undoing_stands l (last_command l.standing) h
+told_stands b l (Some Redo) h = redoing_stands b l.standing l.undone h
+told_stands b l (Some (Ask q)) h = h
+
+-- ---- a course
+
+course_from_stands : (no_room : List ℕ) (c : Course) (ls : List (List ℕ)) → Stand c.lists.standing → Stand (fold_list (advance no_room) c ls).lists.standing
+course_from_stands no_room c [] h = h
+course_from_stands no_room c (l ∷ ls) h =
+    course_from_stands no_room (advance no_room c l) ls (told_stands (list_any (λ n. n == c.lines + 1) no_room) c.lists (line_of l) h)
+
+pub course_stands : (no_room : List ℕ) (ls : List (List ℕ)) → IsSome (fold step empty (course no_room ls).lists.standing)
+unfolding course
+course_stands no_room ls = course_from_stands no_room start ls refl

@@ -1,0 +1,6 @@
+-- What serves private functions only.
+pub mod Slots
+pub mod Making
+pub mod Performing
+pub mod Reaching
+pub mod Taking
