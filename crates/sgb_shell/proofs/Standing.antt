@@ -1,8 +1,8 @@
 -- The standing commands of a course are accepted.
-use Rattle.std.proofs.Common.{◌≡◌, ℕ, ◌+◌, Bool, true, false, cond, ◌==◌, List, [], ◌∷◌, ◌++◌, length, Option, None, Some, IsSome, refl, sym, ap, ◌∙◌, subst, append-nil}
+use Rattle.std.proofs.Common.{◌≡◌, ℕ, ◌+◌, Bool, true, false, cond, ◌==◌, List, [], ◌∷◌, ◌++◌, length, Option, None, Some, IsSome, refl, sym, ap, subst}
 use Rattle.std.specs.Prelude.{unwrap_or, fold as fold_list, ◌&&◌, ◌||◌}
 use Rattle.std.specs.List.{list_any}
-use Rattle.sgb_undo.specs.Outcome.{Outcome, Accepted, Refused, on_accepted}
+use Rattle.sgb_undo.specs.Outcome.{Accepted, Refused, on_accepted}
 use Rattle.sgb_undo.specs.Replay.{fold}
 use Rattle.sgb_script.specs.declared.command.Command.{Command}
 use Rattle.sgb_script.specs.declared.command.Line.{Line}

@@ -4,7 +4,7 @@ use Rattle.std.specs.Io.KnownBytes.{Appends, Consumes, IsAtEnd}
 use Rattle.sgb_shell.specs.declared.fault.RunEnd.{RunEnd}
 use Rattle.sgb_shell.specs.declared.fault.RunFault.{RunFault}
 use Rattle.sgb_shell.specs.declared.fault.RunFault.TheVariants.{Read, Write, TooLong, NoRoom}
-use Rattle.sgb_shell.specs.Lines.{whole_lines, lines}
+use Rattle.sgb_shell.specs.Lines.{lines}
 use Rattle.sgb_shell.specs.Transcript.{course, transcript, whole_transcript}
 
 -- known bytes grow by a front of bs that goes past `first`

@@ -13,7 +13,7 @@ use Rattle.sgb_script.specs.declared.command.Command.TheVariants.{Seed, Next, Un
 use Rattle.sgb_script.specs.declared.command.Line.TheVariants.{Change}
 use Rattle.sgb_script.specs.Line.{has_text}
 use Rattle.sgb_script.specs.declared.refusal.ShellRefusal.{ShellRefusal}
-use Rattle.sgb_script.specs.declared.refusal.ShellRefusal.TheVariants.{NoRoom, BadSpecs, TooLarge, NoGraph, TableFull, NameTaken}
+use Rattle.sgb_script.specs.declared.refusal.ShellRefusal.TheVariants.{BadSpecs, TooLarge, NoGraph, TableFull, NameTaken}
 use Rattle.sgb_shell.specs.declared.reply.Delta.{Delta}
 use Rattle.sgb_shell.specs.declared.reply.Delta.TheVariants as kept
 use Rattle.sgb_shell.specs.declared.reply.Reply.{Reply}
