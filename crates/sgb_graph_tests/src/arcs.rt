@@ -1,7 +1,7 @@
 //! Arcs and edges: their numbers, their order, and cuts.
 
 use crate::edits::{arc, arc_and_back, cut, cut_and_back, edge, edge_and_back, star};
-use crate::looks::{has_counts, has_id, is_arc, is_hole, lists};
+use crate::looks::{has_counts, has_id, is_arc, is_hole, lists, next_of};
 use sgb_graph::{Graph, Refusal};
 use std::test::Fail;
 
@@ -24,6 +24,8 @@ fn arcs_stand_newest_first(rt: HostRuntime) -> Result<(), Fail> {
     }
     assert!(rt; lists(&graph, 0, &[2, 1, 0]));
     assert!(rt; is_arc(&graph, 1, 0, 2, 2));
+    assert!(rt; next_of(&graph, 2) == Some(1));
+    assert!(rt; next_of(&graph, 0).is_none());
     assert!(rt; arc(&mut graph, 0, 4, 1) == Err(Refusal::BadOperand));
     Ok(())
 }

@@ -1,7 +1,7 @@
 //! Graphs that are built by insertions.
 
 use crate::looks::{has_counts, has_id, has_label, is_arc};
-use sgb_graph::{Builder, Graph, Refusal, Text, Types, Util, VertexNo};
+use sgb_graph::{Builder, Graph, Label, Refusal, Text, Types, Util, VertexNo};
 use std::alloc::Global;
 use std::test::Fail;
 
@@ -22,7 +22,7 @@ fn push_vertex(alloc: Global, builder: &mut Builder, label: &[u8]) -> Result<(),
         Util::Zero,
         Util::Zero,
     ];
-    builder.push_vertex(Text::new(alloc, label)?, fields)
+    builder.push_vertex(Label::new(Text::new(alloc, label)?), fields)
 }
 
 fn insert(builder: &mut Builder, from: u32, to: u32, len: i64) -> Result<(), Refusal> {

@@ -61,18 +61,33 @@ fn was_text(graph: &mut Graph, value: Util) -> Result<bool, Refusal> {
 
 #[test]
 fn values_are_kept(rt: HostRuntime) -> Result<(), Fail> {
-    let mut graph = Graph::new(rt.alloc(), 1)?;
+    let mut graph = one_loop(rt.alloc())?;
     assert!(rt; was_zero(&mut graph, Util::Int(0))?);
     assert!(rt; was_zero(&mut graph, Util::Text(Text::new(rt.alloc(), b"")?))?);
     assert!(rt; was_zero(&mut graph, Util::Text(Text::new(rt.alloc(), b"y")?))?);
     assert!(rt; was_text(&mut graph, Util::Zero)?);
     assert!(rt; was_zero(&mut graph, Util::Int(7))?);
     assert!(rt; is_seven(&graph));
+    assert!(rt; are_others_zero(&graph));
     Ok(())
 }
 
+// Whether the field is 7, as each reader of fields gives it.
 fn is_seven(graph: &Graph) -> bool {
-    graph.n() > 0 && matches!(graph.util(FIELD), Util::Int(7))
+    if graph.n() == 0 {
+        return false;
+    }
+    let seven = Util::Int(7);
+    *graph.util(FIELD) == seven && graph.vertex_fields(VertexNo(0))[0] == seven
+}
+
+// Whether the fields of the graph and of its arc 0 are zero.
+fn are_others_zero(graph: &Graph) -> bool {
+    if graph.made() == 0 || graph.arc(ArcNo(0)).is_none() {
+        return false;
+    }
+    let zero = Util::Zero;
+    graph.graph_fields()[5] == zero && graph.arc_fields(ArcNo(0))[1] == zero
 }
 
 // Gives the graph an id, and takes it back; answers how long the id was between.
@@ -111,6 +126,32 @@ fn labels_are_set(rt: HostRuntime) -> Result<(), Fail> {
 
 fn set_len(graph: &mut Graph, number: u32, len: i64) -> Result<(), Refusal> {
     let _delta = graph.set_len(ArcNo(number), len)?;
+    Ok(())
+}
+
+// Gives a live arc another length, and answers the one that it had.
+fn swap_len(graph: &mut Graph, number: u32, len: i64) -> Option<i64> {
+    if number >= graph.made() || graph.arc(ArcNo(number)).is_none() {
+        return None;
+    }
+    Some(graph.swap_len(ArcNo(number), len))
+}
+
+// Gives the graph a short id, and answers how long the one was that it had.
+fn swap_id(graph: &mut Graph, id: Text) -> Option<usize> {
+    if id.bytes().len() > 160 {
+        return None;
+    }
+    Some(graph.swap_id(id).bytes().len())
+}
+
+#[test]
+fn lengths_and_ids_are_swapped(rt: HostRuntime) -> Result<(), Fail> {
+    let mut graph = one_loop(rt.alloc())?;
+    assert!(rt; swap_len(&mut graph, 0, 8) == Some(1));
+    assert!(rt; is_arc(&graph, 0, 0, 0, 8));
+    assert!(rt; swap_id(&mut graph, Text::new(rt.alloc(), b"two")?) == Some(15));
+    assert!(rt; has_id(&graph, b"two"));
     Ok(())
 }
 

@@ -49,3 +49,14 @@ pub fn has_id(graph: &Graph, id: &[u8]) -> bool {
 pub fn has_label(graph: &Graph, vertex: u32, label: &[u8]) -> bool {
     vertex < graph.n() && graph.label(VertexNo(vertex)) == label
 }
+
+/// The number that follows a live arc's in its list, where it lives.
+pub fn next_of(graph: &Graph, number: u32) -> Option<u32> {
+    if number >= graph.made() {
+        return None;
+    }
+    match graph.arc(ArcNo(number)) {
+        Some(_) => graph.next_of(ArcNo(number)).map(|next| next.0),
+        None => None,
+    }
+}

@@ -1,6 +1,6 @@
 //! Texts, letters and refusals.
 
-use sgb_graph::{ArcField, GraphField, Label, Refusal, Text, Types, Util, VertexField};
+use sgb_graph::{ArcField, GraphField, Label, Refusal, Text, Types, Util, VertexField, VertexNo};
 use std::alloc::Global;
 use std::mem::size_of;
 use std::test::Fail;
@@ -52,10 +52,19 @@ fn prints_its_text(alloc: Global, refusal: Refusal) -> Result<bool, Fail> {
 
 #[test]
 fn refusals_print_their_text(rt: HostRuntime) -> Result<(), Fail> {
-    for refusal in [Refusal::NoRoom, Refusal::TooLarge, Refusal::BadOperand] {
+    for (refusal, number) in [
+        (Refusal::NoRoom, 1),
+        (Refusal::CheckWrong, 11),
+        (Refusal::Syntax, 20),
+        (Refusal::BadSpecs, 30),
+        (Refusal::LengthRange, 31),
+        (Refusal::TooLarge, 40),
+        (Refusal::BadOperand, 60),
+        (Refusal::Stuck, 106),
+    ] {
         assert!(rt; prints_its_text(rt.alloc(), refusal)?);
+        assert!(rt; refusal.number() == number);
     }
-    assert!(rt; Refusal::NoRoom.number() == 1);
     Ok(())
 }
 
@@ -70,4 +79,14 @@ fn fields_have_their_places(rt: HostRuntime) {
 fn texts_and_values_are_small(rt: HostRuntime) {
     assert!(rt; size_of::<Text>() == 8);
     assert!(rt; size_of::<Util>() == 16);
+}
+
+#[test]
+fn texts_are_compared_by_their_bytes(rt: HostRuntime) -> Result<(), Fail> {
+    assert!(rt; Text::new(rt.alloc(), b"a")? == Text::new(rt.alloc(), b"a")?);
+    assert!(rt; Text::new(rt.alloc(), b"a")? != Text::new(rt.alloc(), b"b")?);
+    assert!(rt; Label::new(Text::new(rt.alloc(), b"")?) == Label::empty());
+    assert!(rt; Util::Vertex(VertexNo(1)).is_allowed(b'V'));
+    assert!(rt; !Util::Vertex(VertexNo(1)).is_allowed(b'A'));
+    Ok(())
 }

@@ -8,6 +8,3 @@ mod show;
 pub use meter::{Failed, MeteredReader, MeteredWriter};
 pub use print::{put, put_all};
 pub use show::{print_graph, print_made};
-
-#[cfg(test)]
-mod tests;

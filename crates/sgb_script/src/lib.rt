@@ -13,6 +13,3 @@ pub use command::{Command, Edit, Line, Query};
 pub use line::{LINE_LIMIT, parse};
 pub use name::{NAME_LIMIT, Name};
 pub use refusal::ShellRefusal;
-
-#[cfg(test)]
-mod tests;

@@ -8,8 +8,6 @@ mod journal;
 mod refusal;
 mod reversible;
 mod runs;
-#[cfg(test)]
-mod tests;
 
 pub use journal::{GROWTH, Journal, MOST_COMMANDS};
 pub use refusal::{JournalRefusal, NothingToUndo};

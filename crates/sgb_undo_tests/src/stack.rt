@@ -2,13 +2,13 @@
 
 ghost use Rattle.std.specs.Prelude.{◌≡◌, ℕ, ◌+◌, ◌-◌, ◌<◌, ◌≤◌, max, List, [], ◌∷◌, length, drop, Option, Some, None, Bool, true, false, nat_lt, if◌then◌else◌};
 ghost use Rattle.sgb_undo.specs.Outcome.{Outcome, Accepted, Refused};
-ghost use Rattle.sgb_undo.specs.declared.tests.stack.StackCommand.TheVariants.{Push, Pop};
-ghost use Rattle.sgb_undo.specs.declared.tests.stack.StackDelta.{StackDelta};
-ghost use Rattle.sgb_undo.specs.declared.tests.stack.StackDelta.TheVariants.{Pushed, Popped};
-ghost use Rattle.sgb_undo.specs.declared.tests.stack.StackRefusal.{StackRefusal};
-ghost use Rattle.sgb_undo.specs.declared.tests.stack.StackRefusal.TheVariants.{NoRoom, Full, Empty};
+ghost use Rattle.sgb_undo_tests.specs.declared.stack.StackCommand.TheVariants.{Push, Pop};
+ghost use Rattle.sgb_undo_tests.specs.declared.stack.StackDelta.{StackDelta};
+ghost use Rattle.sgb_undo_tests.specs.declared.stack.StackDelta.TheVariants.{Pushed, Popped};
+ghost use Rattle.sgb_undo_tests.specs.declared.stack.StackRefusal.{StackRefusal};
+ghost use Rattle.sgb_undo_tests.specs.declared.stack.StackRefusal.TheVariants.{NoRoom, Full, Empty};
 
-use crate::Reversible;
+use sgb_undo::Reversible;
 use std::alloc::Global;
 use std::marker::Model;
 
@@ -97,6 +97,8 @@ impl Reversible for ByteStack {
     ] };
 
     ghost is_want_of_memory = { λ r. elim r as (λ _. Bool) [ NoRoom ↦ true | Full ↦ false | Empty ↦ false ] };
+
+    ghost may_want = { λ _ c. elim c as (λ _. Bool) [ Push _ ↦ true | Pop ↦ false ] };
 
     fn apply(&mut self, command: &StackCommand) -> Result<(StackDelta, Option<u8>), StackRefusal> {
         match command {

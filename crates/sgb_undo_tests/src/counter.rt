@@ -2,9 +2,9 @@
 
 ghost use Rattle.std.specs.Prelude.{◌+◌, ◌-◌, ◌≤◌, ◌<◌, nat_lt, if◌then◌else◌, false};
 ghost use Rattle.sgb_undo.specs.Outcome.{Accepted, Refused};
-ghost use Rattle.sgb_undo.specs.declared.tests.counter.TooLarge.{TooLarge};
+ghost use Rattle.sgb_undo_tests.specs.declared.counter.TooLarge.{TooLarge};
 
-use crate::Reversible;
+use sgb_undo::Reversible;
 
 #[derive(Debug, Drop)]
 pub struct Counter {
@@ -32,6 +32,8 @@ impl Reversible for Counter {
     ghost can_revert = { λ n d. d ≤ n.value };
 
     ghost is_want_of_memory = { λ _. false };
+
+    ghost may_want = { λ _ _. false };
 
     fn apply(&mut self, command: &u8) -> Result<(u8, u8), TooLarge> {
         match self.value.checked_add(*command) {

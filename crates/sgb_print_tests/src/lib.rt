@@ -1,0 +1,5 @@
+//! Tests of what is printed.
+#![tactic(auto)]
+
+#[cfg(test)]
+mod tests;

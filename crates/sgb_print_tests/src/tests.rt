@@ -1,0 +1,238 @@
+//! Graphs and counts as they are printed, and writers that fail. The small functions promise nothing, so that the
+//! proof of a test stays short.
+
+use sgb_graph::{
+    ArcField, ArcNo, Graph, GraphField, Place, Text, Types, Util, VertexField, VertexNo,
+};
+use sgb_print::{Failed, MeteredReader, MeteredWriter, print_graph, print_made, put, put_all};
+use std::alloc::Global;
+use std::io::{Error, ErrorKind, Write};
+use std::test::Fail;
+
+// A loop on one vertex, as the board of one square has it.
+const BOARD: &str = "\"board(1,0,0,0,1,1,0)\" ZZZIIIZZZZZZZZ
+1 vertices, 2 arcs, 2 numbers
+V0 \"0\"
+  A0 V0 1
+  A1 V0 1
+";
+
+// Fields of each kind, a negative length and a hole.
+const FIELDS: &str = "\"gb_new_graph(2)\" ZZZZZZZZZZZZZZ
+2 vertices, 2 arcs, 3 numbers
+G zz=V1
+V0 \"\" u=\"y\" z=-7
+  A1 V0 7 b=A0
+  A0 V1 -5
+V1 \"w\"
+";
+
+// The edits, without what undoes them.
+fn arc(graph: &mut Graph, from: u32, to: u32, len: i64) -> Result<(), Fail> {
+    let _made = graph.new_arc(VertexNo(from), VertexNo(to), len)?;
+    Ok(())
+}
+
+fn edge(graph: &mut Graph, from: u32, to: u32, len: i64) -> Result<(), Fail> {
+    let _made = graph.new_edge(VertexNo(from), VertexNo(to), len)?;
+    Ok(())
+}
+
+fn cut(graph: &mut Graph, number: u32) -> Result<(), Fail> {
+    let _delta = graph.cut(ArcNo(number))?;
+    Ok(())
+}
+
+fn set(graph: &mut Graph, place: Place, value: Util) -> Result<(), Fail> {
+    let _delta = graph.set_util(place, value)?;
+    Ok(())
+}
+
+fn set_label(graph: &mut Graph, vertex: u32, label: Text) -> Result<(), Fail> {
+    let _delta = graph.set_label(VertexNo(vertex), label)?;
+    Ok(())
+}
+
+fn set_id(graph: &mut Graph, id: Text) -> Result<(), Fail> {
+    let _delta = graph.set_id(id)?;
+    Ok(())
+}
+
+fn set_types(graph: &mut Graph, letters: &[u8]) {
+    if let Some(types) = Types::new(letters) {
+        let _delta = graph.set_types(types);
+    }
+}
+
+fn board(alloc: Global) -> Result<Graph, Fail> {
+    let mut graph = Graph::new(alloc, 1)?;
+    set_types(&mut graph, b"ZZZIIIZZZZZZZZ");
+    set_id(&mut graph, Text::new(alloc, b"board(1,0,0,0,1,1,0)")?)?;
+    set_label(&mut graph, 0, Text::new(alloc, b"0")?)?;
+    edge(&mut graph, 0, 0, 1)?;
+    Ok(graph)
+}
+
+// Two arcs and a hole.
+fn with_hole(alloc: Global) -> Result<Graph, Fail> {
+    let mut graph = Graph::new(alloc, 2)?;
+    arc(&mut graph, 0, 1, -5)?;
+    arc(&mut graph, 0, 0, 7)?;
+    arc(&mut graph, 1, 0, 3)?;
+    cut(&mut graph, 2)?;
+    Ok(graph)
+}
+
+fn with_fields(alloc: Global) -> Result<Graph, Fail> {
+    let mut graph = with_hole(alloc)?;
+    set_label(&mut graph, 1, Text::new(alloc, b"w")?)?;
+    let text = Util::Text(Text::new(alloc, b"y")?);
+    let vertex = VertexNo(0);
+    set(
+        &mut graph,
+        Place::Graph(GraphField::Zz),
+        Util::Vertex(VertexNo(1)),
+    )?;
+    set(&mut graph, Place::Vertex(vertex, VertexField::U), text)?;
+    set(
+        &mut graph,
+        Place::Vertex(vertex, VertexField::Z),
+        Util::Int(-7),
+    )?;
+    set(
+        &mut graph,
+        Place::Arc(ArcNo(1), ArcField::B),
+        Util::Arc(ArcNo(0)),
+    )?;
+    Ok(graph)
+}
+
+fn printed(alloc: Global, graph: &Graph) -> Result<Vec<u8>, Fail> {
+    let mut writer = MeteredWriter::new(Vec::new(alloc));
+    print_graph(&mut writer, graph)?;
+    Ok(writer.into_inner())
+}
+
+#[test]
+fn a_board_is_printed(rt: HostRuntime) -> Result<(), Fail> {
+    let text = printed(rt.alloc(), &board(rt.alloc())?)?;
+    assert!(rt; text.as_slice() == BOARD.as_bytes());
+    Ok(())
+}
+
+#[test]
+fn fields_and_a_hole_are_printed(rt: HostRuntime) -> Result<(), Fail> {
+    let text = printed(rt.alloc(), &with_fields(rt.alloc())?)?;
+    assert!(rt; text.as_slice() == FIELDS.as_bytes());
+    Ok(())
+}
+
+// The line of a graph with these counts.
+fn line_of(alloc: Global, name: &[u8], n: u32, m: u32) -> Result<Vec<u8>, Fail> {
+    let mut writer = MeteredWriter::new(Vec::new(alloc));
+    print_made(&mut writer, name, n, m)?;
+    Ok(writer.into_inner())
+}
+
+#[test]
+fn counts_are_printed(rt: HostRuntime) -> Result<(), Fail> {
+    let text = line_of(rt.alloc(), b"roads", 65_535, 0)?;
+    assert!(rt; text.as_slice() == b"roads: 65535 vertices, 0 arcs\n".as_slice());
+    let text = line_of(rt.alloc(), b"g", 0, 1_000_000)?;
+    assert!(rt; text.as_slice() == b"g: 0 vertices, 1000000 arcs\n".as_slice());
+    Ok(())
+}
+
+// Takes so many bytes, one at a time, and then fails.
+#[derive(Drop)]
+struct Room {
+    kept: Vec<u8>,
+    room: usize,
+}
+
+impl Write for Room {
+    fn write(&mut self, bytes: &[u8]) -> std::io::Result<usize> {
+        let count = self.room.min(bytes.len()).min(1);
+        if count == 0 && !bytes.is_empty() {
+            return Err(Error::from(ErrorKind::Other));
+        }
+        let (taken, _) = bytes.split_at(count);
+        self.kept.extend_from_slice(taken)?;
+        self.room -= count;
+        Ok(count)
+    }
+
+    fn flush(&mut self) -> std::io::Result<()> {
+        Ok(())
+    }
+}
+
+// What a writer with so much room keeps of the graph's text, where it fails.
+fn front_of(alloc: Global, graph: &Graph, room: usize) -> Option<Vec<u8>> {
+    let mut writer = MeteredWriter::new(Room {
+        kept: Vec::new(alloc),
+        room,
+    });
+    match print_graph(&mut writer, graph) {
+        Err(Failed) => Some(writer.into_inner().kept),
+        Ok(()) => None,
+    }
+}
+
+// Whether the writer that fails keeps this text.
+fn fails_after(alloc: Global, graph: &Graph, text: &[u8]) -> bool {
+    match front_of(alloc, graph, text.len()) {
+        Some(kept) => kept.as_slice() == text,
+        None => false,
+    }
+}
+
+#[test]
+fn failed_writes_are_told(rt: HostRuntime) -> Result<(), Fail> {
+    let graph = board(rt.alloc())?;
+    for room in 0..BOARD.len() {
+        assert!(rt;
+            fails_after(rt.alloc(), &graph, &BOARD.as_bytes()[..room]),
+            "room for {room}"
+        );
+    }
+    Ok(())
+}
+
+// What was put, piece by piece, and handed on.
+fn pieces(alloc: Global) -> Result<Vec<u8>, Fail> {
+    let mut writer = MeteredWriter::new(Vec::new(alloc));
+    put(&mut writer, b"one")?;
+    put_all(&mut writer, &[b" ".as_slice(), b"two".as_slice()])?;
+    writer.flush()?;
+    Ok(writer.into_inner())
+}
+
+// How many bytes a writer takes of five.
+fn taken(alloc: Global) -> Result<usize, Failed> {
+    let mut writer = MeteredWriter::new(Vec::new(alloc));
+    writer.write(b"three")
+}
+
+#[test]
+fn pieces_are_put(rt: HostRuntime) -> Result<(), Fail> {
+    let text = pieces(rt.alloc())?;
+    assert!(rt; text.as_slice() == b"one two".as_slice());
+    assert!(rt; taken(rt.alloc()) == Ok(5));
+    Ok(())
+}
+
+// How many bytes two reads give, of at most four each, and how many reads are counted.
+fn two_reads(bytes: &[u8]) -> Result<(usize, usize, u64), Failed> {
+    let mut reader = MeteredReader::new(bytes);
+    let mut buffer = [0u8; 4];
+    let first = reader.read(&mut buffer)?;
+    let second = reader.read(&mut buffer)?;
+    Ok((first, second, reader.reads()))
+}
+
+#[test]
+fn reads_are_counted(rt: HostRuntime) {
+    assert!(rt; two_reads(b"seven b") == Ok((4, 3, 2)));
+    assert!(rt; two_reads(b"") == Ok((0, 0, 2)));
+}

@@ -1,0 +1,418 @@
+//! What lines ask for, and lines that ask for nothing. The small functions promise nothing, so that the proof of a
+//! test stays short.
+
+use sgb_graph::{ArcField, ArcNo, GraphField, Place, Util, VertexField, VertexNo};
+use sgb_script::{Command, Edit, Line, Name, Query, ShellRefusal, parse};
+use std::alloc::{AllocError, Global};
+use std::test::Fail;
+
+fn read(alloc: Global, line: &[u8]) -> Result<Line, ShellRefusal> {
+    parse(alloc, line)
+}
+
+fn is_refused(alloc: Global, line: &[u8]) -> bool {
+    matches!(read(alloc, line), Err(ShellRefusal::ScriptSyntax))
+}
+
+fn is_nothing(alloc: Global, line: &[u8]) -> bool {
+    matches!(read(alloc, line), Ok(Line::Nothing))
+}
+
+fn is_next(alloc: Global, line: &[u8]) -> bool {
+    matches!(read(alloc, line), Ok(Line::Change(Command::Next)))
+}
+
+// The seed that a line asks for.
+fn seed_of(alloc: Global, line: &[u8]) -> Option<i64> {
+    match read(alloc, line) {
+        Ok(Line::Change(Command::Seed(seed))) => Some(seed),
+        _ => None,
+    }
+}
+
+fn is_undo(alloc: Global, line: &[u8]) -> bool {
+    matches!(read(alloc, line), Ok(Line::Undo))
+}
+
+fn is_redo(alloc: Global, line: &[u8]) -> bool {
+    matches!(read(alloc, line), Ok(Line::Redo))
+}
+
+fn is_gen(alloc: Global, line: &[u8]) -> bool {
+    matches!(read(alloc, line), Ok(Line::Ask(Query::Gen)))
+}
+
+fn is_list(alloc: Global, line: &[u8]) -> bool {
+    matches!(read(alloc, line), Ok(Line::Ask(Query::List)))
+}
+
+// The bound of the uniform number that a line asks for.
+fn bound_of(alloc: Global, line: &[u8]) -> Option<i64> {
+    match read(alloc, line) {
+        Ok(Line::Change(Command::Unif(bound))) => Some(bound),
+        _ => None,
+    }
+}
+
+fn is_name(bytes: &[u8]) -> bool {
+    Name::new(bytes).is_some()
+}
+
+fn are_one_name(bytes: &[u8], others: &[u8]) -> bool {
+    Name::new(bytes) == Name::new(others)
+}
+
+// Whether these bytes are a name that gives them back.
+fn has_its_bytes(bytes: &[u8]) -> bool {
+    match Name::new(bytes) {
+        Some(name) => name.bytes() == bytes,
+        None => false,
+    }
+}
+
+// How many vertices the graph has that a line asks for.
+fn vertices_of(alloc: Global, line: &[u8]) -> Option<i64> {
+    match read(alloc, line) {
+        Ok(Line::Change(Command::Graph(_, n))) => Some(n),
+        _ => None,
+    }
+}
+
+// The name of the graph that a line drops.
+fn dropped(alloc: Global, line: &[u8]) -> Option<Name> {
+    match &read(alloc, line) {
+        Ok(Line::Change(Command::Drop(name))) => Some(*name),
+        _ => None,
+    }
+}
+
+// The edit that a line asks for.
+fn edit_of(alloc: Global, line: &[u8]) -> Option<Edit> {
+    match read(alloc, line) {
+        Ok(Line::Change(Command::Edit(_, edit))) => Some(edit),
+        _ => None,
+    }
+}
+
+fn edge_of(alloc: Global, line: &[u8]) -> Option<(VertexNo, VertexNo, i64)> {
+    match edit_of(alloc, line) {
+        Some(Edit::Edge(from, to, len)) => Some((from, to, len)),
+        _ => None,
+    }
+}
+
+// The number of the arc that a line cuts.
+fn cut_of(alloc: Global, line: &[u8]) -> Option<ArcNo> {
+    match edit_of(alloc, line) {
+        Some(Edit::Cut(number)) => Some(number),
+        _ => None,
+    }
+}
+
+fn len_of(alloc: Global, line: &[u8]) -> Option<(ArcNo, i64)> {
+    match edit_of(alloc, line) {
+        Some(Edit::Len(number, len)) => Some((number, len)),
+        _ => None,
+    }
+}
+
+fn is_types(alloc: Global, line: &[u8]) -> bool {
+    matches!(edit_of(alloc, line), Some(Edit::Types(_)))
+}
+
+// The length of the id that a line gives.
+fn id_len(alloc: Global, line: &[u8]) -> Option<usize> {
+    match edit_of(alloc, line) {
+        Some(Edit::Id(text)) => Some(text.bytes().len()),
+        _ => None,
+    }
+}
+
+// The vertex and the length of the label that a line gives.
+fn label_len(alloc: Global, line: &[u8]) -> Option<(VertexNo, usize)> {
+    match edit_of(alloc, line) {
+        Some(Edit::Label(vertex, text)) => Some((vertex, text.bytes().len())),
+        _ => None,
+    }
+}
+
+// The place that a line sets to a vertex, and the vertex.
+fn vertex_set(alloc: Global, line: &[u8]) -> Option<(Place, VertexNo)> {
+    match edit_of(alloc, line) {
+        Some(Edit::Set(place, Util::Vertex(vertex))) => Some((place, vertex)),
+        _ => None,
+    }
+}
+
+// The number that a line sets a field to.
+fn number_set(alloc: Global, line: &[u8]) -> Option<i64> {
+    match edit_of(alloc, line) {
+        Some(Edit::Set(_, Util::Int(number))) => Some(number),
+        _ => None,
+    }
+}
+
+// Whether a line sets this place to a text of these bytes.
+fn sets_text(alloc: Global, line: &[u8], place: Place, bytes: &[u8]) -> bool {
+    match edit_of(alloc, line) {
+        Some(Edit::Set(at, Util::Text(text))) => at == place && text.bytes() == bytes,
+        _ => false,
+    }
+}
+
+// The vertices and the length of the arc that a line asks for.
+fn arc_of(alloc: Global, line: &[u8]) -> Option<(VertexNo, VertexNo, i64)> {
+    match edit_of(alloc, line) {
+        Some(Edit::Arc(from, to, len)) => Some((from, to, len)),
+        _ => None,
+    }
+}
+
+// The name of the graph that a line shows.
+fn shown(alloc: Global, line: &[u8]) -> Option<Name> {
+    match &read(alloc, line) {
+        Ok(Line::Ask(Query::Show(name))) => Some(*name),
+        _ => None,
+    }
+}
+
+// A line that gives the graph g an id of so many bytes.
+fn id_line(alloc: Global, count: usize) -> Result<Vec<u8>, AllocError> {
+    let text = vec![in alloc; b'a'; count]?;
+    let mut line = Vec::from_slice(alloc, b"id g \"")?;
+    line.extend_from_slice(&text)?;
+    line.push(b'"')?;
+    Ok(line)
+}
+
+// The bytes, and spaces up to so many in all.
+fn padded(alloc: Global, bytes: &[u8], count: usize) -> Result<Vec<u8>, AllocError> {
+    let mut line = Vec::from_slice(alloc, bytes)?;
+    for _ in bytes.len()..count {
+        line.push(b' ')?;
+    }
+    Ok(line)
+}
+
+// Whether the refusal prints this text.
+fn prints(alloc: Global, refusal: ShellRefusal, text: &str) -> Result<bool, Fail> {
+    let printed = format!(in alloc; "{refusal}")?;
+    Ok(printed.as_str() == text)
+}
+
+#[test]
+fn refusals_print_their_text(rt: HostRuntime) -> Result<(), Fail> {
+    for (refusal, number, text) in [
+        (ShellRefusal::NoRoom, 1, "no room"),
+        (ShellRefusal::CheckWrong, 11, "check number is wrong"),
+        (ShellRefusal::Syntax, 20, "bad saved graph"),
+        (ShellRefusal::BadSpecs, 30, "bad specification"),
+        (ShellRefusal::LengthRange, 31, "length range too wide"),
+        (ShellRefusal::TooLarge, 40, "too large"),
+        (ShellRefusal::NoGraph, 50, "no such graph"),
+        (ShellRefusal::BadOperand, 60, "bad operand"),
+        (ShellRefusal::ScriptSyntax, 100, "bad command"),
+    ] {
+        assert!(rt; prints(rt.alloc(), refusal, text)?);
+        assert!(rt; refusal.text() == text);
+        assert!(rt; refusal.number() == number);
+    }
+    Ok(())
+}
+
+#[test]
+fn refusals_of_the_session_print_their_text(rt: HostRuntime) -> Result<(), Fail> {
+    for (refusal, number, text) in [
+        (ShellRefusal::TableFull, 101, "table is full"),
+        (ShellRefusal::NameTaken, 102, "name is taken"),
+        (ShellRefusal::NothingToUndo, 103, "nothing to undo"),
+        (ShellRefusal::NothingToRedo, 104, "nothing to redo"),
+        (ShellRefusal::JournalFull, 105, "journal is full"),
+        (ShellRefusal::Stuck, 106, "stuck"),
+    ] {
+        assert!(rt; prints(rt.alloc(), refusal, text)?);
+        assert!(rt; refusal.text() == text);
+        assert!(rt; refusal.number() == number);
+    }
+    Ok(())
+}
+
+#[test]
+fn names(rt: HostRuntime) {
+    assert!(rt; is_name(b"a"));
+    assert!(rt; is_name(b"Z9_"));
+    assert!(rt; is_name(&[b'n'; 32]));
+    assert!(rt; !is_name(&[b'n'; 33]));
+    assert!(rt; !is_name(b""));
+    assert!(rt; !is_name(b"9x"));
+    assert!(rt; !is_name(b"_a"));
+    assert!(rt; !is_name(b"a-b"));
+}
+
+#[test]
+fn names_are_told_apart(rt: HostRuntime) {
+    assert!(rt; are_one_name(b"ab", b"ab"));
+    assert!(rt; !are_one_name(b"ab", b"a"));
+    assert!(rt; !are_one_name(b"ab", b"aB"));
+    assert!(rt; has_its_bytes(b"graph_7"));
+}
+
+#[test]
+fn numbers(rt: HostRuntime) {
+    let alloc = rt.alloc();
+    assert!(rt; seed_of(alloc, b"seed 007") == Some(7));
+    assert!(rt; seed_of(alloc, b"seed -0") == Some(0));
+    assert!(rt; seed_of(alloc, b"seed -9223372036854775808") == Some(i64::MIN));
+    assert!(rt; seed_of(alloc, b"  seed   9223372036854775807 ") == Some(i64::MAX));
+}
+
+#[test]
+fn what_is_no_number(rt: HostRuntime) {
+    let alloc = rt.alloc();
+    assert!(rt; is_refused(alloc, b"seed +1"));
+    assert!(rt; is_refused(alloc, b"seed -"));
+    assert!(rt; is_refused(alloc, b"seed 1x"));
+    assert!(rt; is_refused(alloc, b"seed \"1\""));
+    assert!(rt; is_refused(alloc, b"seed 9223372036854775808"));
+    assert!(rt; is_refused(alloc, b"seed -9223372036854775809"));
+}
+
+#[test]
+fn wrong_counts_and_words(rt: HostRuntime) {
+    let alloc = rt.alloc();
+    assert!(rt; is_refused(alloc, b"seed"));
+    assert!(rt; is_refused(alloc, b"seed 1 2"));
+    assert!(rt; is_refused(alloc, b"next 1"));
+    assert!(rt; is_refused(alloc, b"graph g"));
+    assert!(rt; is_refused(alloc, b"graph 9x 1"));
+    assert!(rt; is_refused(alloc, b"Next"));
+    assert!(rt; is_refused(alloc, b"nexts"));
+}
+
+#[test]
+fn quotes(rt: HostRuntime) {
+    let alloc = rt.alloc();
+    assert!(rt; is_refused(alloc, b"\"next\""));
+    assert!(rt; is_refused(alloc, b"label g 0 \"x\"y"));
+    assert!(rt; is_refused(alloc, b"label g 0 y\"x\""));
+    assert!(rt; is_refused(alloc, b"label g 0 \"a\"\"b\""));
+    assert!(rt; is_refused(alloc, b"label g 0 x"));
+    assert!(rt; is_refused(alloc, b"id g \"a\\b\""));
+    assert!(rt; is_refused(alloc, b"set g V0 u \"a"));
+}
+
+#[test]
+fn texts_of_fields(rt: HostRuntime) {
+    let alloc = rt.alloc();
+    let field = Place::Vertex(VertexNo(0), VertexField::U);
+    assert!(rt; sets_text(alloc, b"set g V0 u \"\"", field, b""));
+    let other = Place::Arc(ArcNo(1), ArcField::B);
+    assert!(rt; sets_text(alloc, b"set g A1 b \"two words\"  ", other, b"two words"));
+    assert!(rt; !sets_text(alloc, b"set g A1 b \"two words\"  ", field, b"two words"));
+}
+
+#[test]
+fn values(rt: HostRuntime) {
+    let alloc = rt.alloc();
+    let vertex = vertex_set(alloc, b"set g G zz V7");
+    assert!(rt; vertex == Some((Place::Graph(GraphField::Zz), VertexNo(7))));
+    assert!(rt; number_set(alloc, b"set g A0 a -3") == Some(-3));
+    assert!(rt; number_set(alloc, b"set g A0 a V3").is_none());
+}
+
+#[test]
+fn names_in_lines(rt: HostRuntime) {
+    let alloc = rt.alloc();
+    assert!(rt; shown(alloc, b"show g_1") == Name::new(b"g_1"));
+    assert!(rt; shown(alloc, b"show g_1") != Name::new(b"g_2"));
+    assert!(rt; is_refused(alloc, b"show 1g"));
+    assert!(rt; is_refused(alloc, b"show \"g\""));
+}
+
+#[test]
+fn wrong_places_and_values(rt: HostRuntime) {
+    let alloc = rt.alloc();
+    assert!(rt; is_refused(alloc, b"set g V0 a 1"));
+    assert!(rt; is_refused(alloc, b"set g A0 u 1"));
+    assert!(rt; is_refused(alloc, b"set g G u 1"));
+    assert!(rt; is_refused(alloc, b"set g V u 1"));
+    assert!(rt; is_refused(alloc, b"set g V-1 u 1"));
+    assert!(rt; is_refused(alloc, b"set g V0 u A+1"));
+    assert!(rt; is_refused(alloc, b"set g V9223372036854775808 u 1"));
+}
+
+#[test]
+fn numbers_of_vertices(rt: HostRuntime) {
+    let alloc = rt.alloc();
+    let small = arc_of(alloc, b"arc g 0 1 -5");
+    assert!(rt; small == Some((VertexNo(0), VertexNo(1), -5)));
+    let none = Some((VertexNo(u32::MAX), VertexNo(u32::MAX), 0));
+    assert!(rt; arc_of(alloc, b"arc g -1 4294967296 0") == none);
+    assert!(rt; is_refused(alloc, b"arc g 0 9223372036854775808 0"));
+}
+
+#[test]
+fn letters(rt: HostRuntime) {
+    let alloc = rt.alloc();
+    assert!(rt; is_types(alloc, b"types g ZIVSAZZZZZZZZZ"));
+    assert!(rt; is_refused(alloc, b"types g ZZZZZZZZZZZZZG"));
+    assert!(rt; is_refused(alloc, b"types g ZZZZZZZZZZZZZ"));
+    assert!(rt; is_refused(alloc, b"types g ZZZZZZZZZZZZZZZ"));
+}
+
+#[test]
+fn long_texts(rt: HostRuntime) -> Result<(), Fail> {
+    let longest = id_line(rt.alloc(), 4095)?;
+    assert!(rt; id_len(rt.alloc(), &longest) == Some(4095));
+    let longer = id_line(rt.alloc(), 4096)?;
+    assert!(rt; is_refused(rt.alloc(), &longer));
+    Ok(())
+}
+
+#[test]
+fn long_lines(rt: HostRuntime) -> Result<(), Fail> {
+    let alloc = rt.alloc();
+    assert!(rt; is_next(alloc, &padded(alloc, b"next", 8192)?));
+    assert!(rt; is_refused(alloc, &padded(alloc, b"next", 8193)?));
+    assert!(rt; is_nothing(alloc, &padded(alloc, b"#", 8192)?));
+    assert!(rt; is_refused(alloc, &padded(alloc, b"#", 8193)?));
+    assert!(rt; is_nothing(alloc, &padded(alloc, b"", 8192)?));
+    assert!(rt; is_refused(alloc, &padded(alloc, b"", 8193)?));
+    Ok(())
+}
+
+#[test]
+fn comments_and_spaces(rt: HostRuntime) {
+    let alloc = rt.alloc();
+    assert!(rt; is_nothing(alloc, b""));
+    assert!(rt; is_nothing(alloc, b"   "));
+    assert!(rt; is_nothing(alloc, b"# x"));
+    assert!(rt; is_nothing(alloc, b"#seed \"1"));
+    assert!(rt; is_refused(alloc, b" # x"));
+    assert!(rt; is_refused(alloc, b"# \t"));
+    assert!(rt; is_refused(alloc, b"next\r"));
+    assert!(rt; is_refused(alloc, b"next \x7f"));
+}
+
+#[test]
+fn plain_lines(rt: HostRuntime) {
+    let alloc = rt.alloc();
+    assert!(rt; is_next(alloc, b" next "));
+    assert!(rt; is_undo(alloc, b"undo"));
+    assert!(rt; is_redo(alloc, b"redo"));
+    assert!(rt; is_gen(alloc, b"gen"));
+    assert!(rt; is_list(alloc, b"list"));
+    assert!(rt; shown(alloc, b"show g").is_some());
+}
+
+#[test]
+fn lines_that_change(rt: HostRuntime) {
+    let alloc = rt.alloc();
+    assert!(rt; bound_of(alloc, b"unif -2") == Some(-2));
+    assert!(rt; vertices_of(alloc, b"graph g 3") == Some(3));
+    assert!(rt; edge_of(alloc, b"edge g 0 1 9") == Some((VertexNo(0), VertexNo(1), 9)));
+    assert!(rt; cut_of(alloc, b"cut g 5") == Some(ArcNo(5)));
+    assert!(rt; len_of(alloc, b"len g 5 -1") == Some((ArcNo(5), -1)));
+    assert!(rt; label_len(alloc, b"label g 2 \"four\"") == Some((VertexNo(2), 4)));
+    assert!(rt; dropped(alloc, b"drop g") == Name::new(b"g"));
+}
