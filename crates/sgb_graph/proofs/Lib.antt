@@ -9,6 +9,7 @@ pub mod FillingAll
 pub mod Graphs
 pub mod GrowLemmas
 pub mod Growing
+pub mod Halves
 pub mod Holes
 pub mod HonestLemmas
 pub mod InsertLemmas
@@ -21,6 +22,7 @@ pub mod Pushing
 pub mod PutBack
 pub mod Reading
 pub mod Reverting
+pub mod SameRows
 pub mod SetLemmas
 pub mod Shows
 pub mod ShowsPut
@@ -29,3 +31,4 @@ pub mod Slots
 pub mod Sound
 pub mod TakeOut
 pub mod UtilLemmas
+pub mod Walking

@@ -41,7 +41,7 @@ pub view_tip : (g : GraphOf) (k : ℕ) → IsGraph g → k < made_of g → IfSom
 view_tip g k sound made = tip_of_view (n_of g) (owner_of g k) g.entries (arc_at g k) (sound.arcs k None made)
 
 -- links that lead along a list lead from each number to the next
-first_is : (next : ℕ → Option ArcNo) (link : Option ArcNo) (ks : List ℕ) → Leads next link ks None → link ≡ first_of ks
+pub first_is : (next : ℕ → Option ArcNo) (link : Option ArcNo) (ks : List ℕ) → Leads next link ks None → link ≡ first_of ks
 unfolding Leads
 first_is next link [] l = l
 first_is next link (k ∷ ks) l = l.0

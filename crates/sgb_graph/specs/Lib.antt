@@ -20,7 +20,11 @@ pub mod Read
 pub mod Refusal
 pub mod Revert
 pub mod Reverted
+pub mod Same
+pub mod SameLaws
+pub mod SameRows
 pub mod Set
 pub mod Text
 pub mod Types
 pub mod Vertex
+pub mod Walk

@@ -1,10 +1,11 @@
 -- Paired graphs: each arc has its other half, as the arcs of an edge have.
-use Rattle.std.specs.Prelude.{◌+◌, ◌-◌, ℕ, List, [], ◌∷◌, Option, Some, None, Bool, true, false, ◌&&◌, not, ◌==◌, nat_lt, nat_le, if◌then◌else◌}
-use Rattle.std.specs.List.{list_all, range_with_len}
+use Rattle.std.specs.Prelude.{◌≡◌, ◌+◌, ◌-◌, ℕ, zero, suc, List, [], ◌∷◌, length, map, slice_index, Option, Some, None, Bool, true, false, ◌&&◌, not, ◌==◌, nat_lt, nat_le, if◌then◌else◌}
+use Rattle.std.specs.List.{list_all, filter, range_with_len}
 use Rattle.sgb_graph.specs.declared.field.Tip.{Tip}
 use Rattle.sgb_graph.specs.declared.field.Tip.TheVariants.{Zero, One, To}
 use Rattle.sgb_graph.specs.declared.graph.read.ArcView.{ArcView}
-use Rattle.sgb_graph.specs.Graph.{GraphOf, n_of, made_of, arcs_of}
+use Rattle.sgb_graph.specs.Graph.{GraphOf, n_of, made_of, arcs_of, has_arc}
+use Rattle.sgb_graph.specs.Edit.{owner_of, entry_at}
 use Rattle.sgb_graph.specs.Read.{arc_view}
 
 -- the tip is vertex u
@@ -35,6 +36,16 @@ unfoldable pub without_halves : GraphOf → ℕ → List ℕ → List ℕ
 without_halves g v [] = []
 without_halves g v (j ∷ []) = j ∷ []
 without_halves g v (j ∷ (k ∷ ks)) = if is_loop_pair g v j k then j ∷ without_halves g v ks else j ∷ without_halves g v (k ∷ ks)
+
+-- the arc at this place of v's list is a second half: it is a loop, the arc numbered one lower is a loop just before
+-- it in the list, and is not itself a second half
+unfoldable pub is_half : GraphOf → ℕ → List ℕ → ℕ → Bool
+is_half g v ks zero = false
+is_half g v ks (suc i) = is_loop_pair g v (slice_index ks i) (slice_index ks (suc i)) && not (is_half g v ks i)
+
+-- the numbers at the places that are no second half, in order
+abbrev pub without_half_places : GraphOf → ℕ → List ℕ → List ℕ
+without_half_places g v ks = map (slice_index ks) (filter (λ i. not (is_half g v ks i)) (range_with_len 0 (length ks)))
 
 -- the arcs of v that stand for an insertion each
 abbrev pub walk : Bool → GraphOf → ℕ → List ℕ
@@ -67,3 +78,9 @@ abbrev pub is_paired : GraphOf → Bool
 is_paired g =
     list_all (is_matched g) (range_with_len 0 (made_of g))
     && list_all (λ v. are_loops_paired g v (arcs_of g v)) (range_with_len 0 (n_of g))
+
+-- arc k lives, leaves u and leads to v
+pub record GoesTo (g : GraphOf) (k u v : ℕ) : Type 0 where
+  pub live : has_arc g k ≡ true
+  pub owner : owner_of g k ≡ u
+  pub tip : (entry_at g k).tip ≡ To (record { 0 = v })

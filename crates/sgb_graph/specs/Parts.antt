@@ -1,6 +1,7 @@
 -- The graph of parts that are linked by number.
 use Rattle.std.specs.Prelude.{◌≡◌, ◌<◌, ℕ, pos, List, [], length, map, None, Option, IfSome, slice_index_or}
 use Rattle.sgb_graph.specs.declared.field.ArcNo.{ArcNo}
+use Rattle.sgb_graph.specs.declared.field.Util.{Util}
 use Rattle.sgb_graph.specs.declared.field.Tip.TheVariants.{Zero}
 use Rattle.sgb_graph.specs.declared.parts.ArcPart.{ArcPart}
 use Rattle.sgb_graph.specs.declared.parts.VertexPart.{VertexPart}
@@ -39,12 +40,15 @@ pub record IsArcOf (part : ArcPart) (e : ArcOf) : Type 0 where
   pub fields : e.fields ≡ map stored part.fields
 
 -- the graph of these parts: its lists are the chains, and a live arc is its record
-pub record Builds (p : Parts) (g : GraphOf) : Type 0 where
-  pub id : g.id ≡ p.id
-  pub types : g.types ≡ p.types
-  pub fields : g.fields ≡ map stored p.fields
-  pub n : n_of g ≡ length p.vertices
-  pub vertices : (v : ℕ) → v < n_of g → IsVertexOf p.arcs (vertex_part p.vertices v) (vertex_at g v)
-  pub made : made_of g ≡ length p.arcs
-  pub arcs : (k : ℕ) → IfSome (arc_at g k) (IsArcOf (arc_part p.arcs k))
+pub record BuildsOf (name letters : List ℕ) (values : List Util) (vs : List VertexPart) (rs : List ArcPart) (g : GraphOf) : Type 0 where
+  pub id : g.id ≡ name
+  pub types : g.types ≡ letters
+  pub fields : g.fields ≡ map stored values
+  pub n : n_of g ≡ length vs
+  pub vertices : (v : ℕ) → v < n_of g → IsVertexOf rs (vertex_part vs v) (vertex_at g v)
+  pub made : made_of g ≡ length rs
+  pub arcs : (k : ℕ) → IfSome (arc_at g k) (IsArcOf (arc_part rs k))
   pub graph : IsGraph g
+
+abbrev pub Builds : Parts → GraphOf → Type 0
+Builds p g = BuildsOf p.id p.types p.fields p.vertices p.arcs g

@@ -23,7 +23,7 @@ pub enum Tip {
 /// The value of a utility field.
 ///
 /// A graph holds neither `Int(0)` nor an empty text: both are stored as `Zero`.
-#[derive(Debug, Drop, PartialEq, Eq)]
+#[derive(Debug, Drop)]
 pub enum Util {
     Zero,
     Int(i64),
@@ -67,6 +67,32 @@ pub enum Place {
     Vertex(VertexNo, VertexField),
     Arc(ArcNo, ArcField),
     Graph(GraphField),
+}
+
+impl PartialEq for Util {
+    ghost use Rattle.sgb_graph.specs.Same.{util_eq};
+    ghost use Rattle.sgb_graph.specs.SameLaws.{util_eq_laws};
+
+    ghost eq = { util_eq };
+
+    ghost laws = { util_eq_laws };
+
+    fn eq(&self, other: &Util) -> bool {
+        match (self, other) {
+            (Util::Zero, Util::Zero) => true,
+            (Util::Int(number), Util::Int(other)) => number == other,
+            (Util::Vertex(vertex), Util::Vertex(other)) => vertex.0 == other.0,
+            (Util::Arc(number), Util::Arc(other)) => number.0 == other.0,
+            (Util::Text(text), Util::Text(other)) => text == other,
+            _ => false,
+        }
+    }
+}
+
+impl Eq for Util {
+    ghost use Rattle.sgb_graph.specs.SameLaws.{util_eq_equiv};
+
+    ghost laws = { util_eq_equiv };
 }
 
 impl Util {

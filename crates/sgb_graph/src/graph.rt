@@ -14,13 +14,16 @@ mod new;
 mod paired;
 mod read;
 mod revert;
+mod same;
 mod set;
+mod walk;
 
 use crate::text::Label;
 use crate::{ArcNo, Text, Tip, Types, Util, VertexNo};
 pub use arcs::Arcs;
 pub use read::ArcView;
 use std::marker::Model;
+pub use walk::Walk;
 
 /// The most vertices that a graph has.
 pub const MOST_VERTICES: u32 = 65_535;

@@ -42,7 +42,8 @@ impl<T> Items<T> {
     pub fn into_vec(self) -> Vec<T>
         ensures { result.items ≡ self }
     {
-        self.items
+        let Items { items } = self;
+        items
     }
 
     /// How many items there are.
@@ -97,7 +98,7 @@ impl<T: PartialEq> PartialEq for Items<T> {
     ghost laws = { Prim.search (comparing, rules) };
 
     fn eq(&self, other: &Items<T>) -> bool {
-        self.items.as_slice() == other.items.as_slice()
+        self.as_slice() == other.as_slice()
     }
 }
 

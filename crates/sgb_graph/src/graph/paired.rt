@@ -114,7 +114,7 @@ impl Graph {
     }
 }
 
-fn follows(first: ArcNo, second: ArcNo) -> bool
+pub(super) fn follows(first: ArcNo, second: ArcNo) -> bool
     ensures { result ≡ (first.0 + 1 == second.0) }
 {
     second.0 > 0 && first.0 == second.0 - 1
@@ -130,7 +130,7 @@ fn goes(from: u32, to: u32, arc: Option<ArcView>) -> bool
     }
 }
 
-fn is_vertex(vertex: u32, tip: Tip) -> bool
+pub(super) fn is_vertex(vertex: u32, tip: Tip) -> bool
     ensures { result ≡ is_vertex vertex tip }
 {
     match tip {

@@ -5,10 +5,11 @@ ghost use Rattle.sgb_graph.specs.Text.{IsText};
 ghost use Rattle.sgb_graph.specs.Types.{IsTypes};
 ghost use Rattle.sgb_graph.specs.Arena.{slot_at};
 ghost use Rattle.sgb_graph.specs.Exchange.{fields_in};
+ghost use Rattle.sgb_graph.specs.Paired.{walk};
 ghost use Rattle.sgb_graph.specs.Edit.{owner_of, entry_at};
 
 use super::arcs::next_after;
-use super::{Arcs, Graph, Slot};
+use super::{Arcs, Graph, Slot, Walk};
 use crate::{ArcNo, Tip, Types, Util, VertexNo};
 
 /// A live arc: the vertex that lists it, its tip and its length.
@@ -92,6 +93,25 @@ impl Graph {
         ensures graph { IsGraph self.now }
     {
         Arcs::new(&self.slots, self.vertices[vertex.0 as usize].first)
+    }
+
+    /// The numbers of a vertex's arcs, the newest first, as many as there were insertions: where `directed` is false
+    /// the second halves of loops are left out. Each is live. Takes no memory.
+    #[inline]
+    pub fn walk(&self, vertex: VertexNo, directed: bool) -> Walk<'_>
+        requires { vertex.0 < n_of self.now }
+        ensures value { result ≡ walk directed self.now vertex.0 }
+        ensures live { All (λ k. IsSome (arc_at self.now k)) result }
+        ensures within { All (λ k. k < made_of self.now) result }
+        ensures owned { All (λ k. owner_of self.now k ≡ vertex.0) result }
+        ensures few { length result ≤ made_of self.now }
+        ensures graph { IsGraph self.now }
+    {
+        Walk::new(
+            &self.slots,
+            self.vertices[vertex.0 as usize].first,
+            directed,
+        )
     }
 
     /// The arc of this number, or `None` at a hole.

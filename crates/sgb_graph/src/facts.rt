@@ -1,0 +1,40 @@
+//! Laws of graphs. Each function does nothing: its clauses are the law.
+ghost use Rattle.std.specs.Prelude.{◌≡◌, ◌≤◌, ◌<◌, ◌⊎◌, ◌+◌, ◌-◌, ◌↔◌, ℕ, length, IsTrue, true, false, slice_index};
+ghost use Rattle.sgb_graph.specs.Graph.{GraphOf, arcs_of, has_arc};
+ghost use Rattle.sgb_graph.specs.Edit.{owner_of};
+ghost use Rattle.sgb_graph.specs.Paired.{walk, is_half, without_half_places, is_paired, GoesTo};
+ghost use Rattle.sgb_graph.specs.Parts.{Builds};
+ghost use Rattle.sgb_graph.specs.Same.{graph_eq, util_eq};
+ghost use Rattle.sgb_graph.specs.declared.field.Util.{Util};
+ghost use Rattle.sgb_graph.specs.declared.parts.Parts.{Parts};
+
+/// Two graphs, and two values of utility fields, are `==` exactly where contracts see the same of them.
+pub fn same_law()
+    ensures graphs { (g h : GraphOf) → IsTrue (graph_eq g h) ↔ (g ≡ h) }
+    ensures values { (a b : Util) → IsTrue (util_eq a b) ↔ (a ≡ b) }
+{}
+
+/// Parts have one graph at most.
+pub fn build_law()
+    ensures one { (p : Parts) (g h : GraphOf) → Builds p g → Builds p h → g ≡ h }
+{}
+
+/// A directed walk is the list of the vertex; one that is not is the list without its second halves, in order.
+pub fn walk_law()
+    ensures directed { (g : GraphOf) (v : ℕ) → walk true g v ≡ arcs_of g v }
+    ensures undirected { (g : GraphOf) (v : ℕ) → walk false g v ≡ without_half_places g v (arcs_of g v) }
+{}
+
+/// In a paired graph each arc leads to a vertex, and has its other half: below it in number where it leads to a
+/// smaller vertex, above it where it leads to a larger one; and of a loop, the arc itself or the next in its list is a
+/// second half.
+pub fn pair_law()
+    ensures tip { (g : GraphOf) (k : ℕ) → is_paired g ≡ true → has_arc g k ≡ true → (v : ℕ) × GoesTo g k (owner_of g k) v }
+    ensures down { (g : GraphOf) (k u v : ℕ) → is_paired g ≡ true → GoesTo g k u v → v < u →
+        (1 ≤ k) × GoesTo g (k - 1) v u }
+    ensures up { (g : GraphOf) (k u v : ℕ) → is_paired g ≡ true → GoesTo g k u v → u < v → GoesTo g (k + 1) v u }
+    ensures loops { (g : GraphOf) (v i : ℕ) → is_paired g ≡ true → i < length (arcs_of g v) →
+        GoesTo g (slice_index (arcs_of g v) i) v v →
+        (is_half g v (arcs_of g v) i ≡ true) ⊎
+            ((i + 1 < length (arcs_of g v)) × (is_half g v (arcs_of g v) (i + 1) ≡ true)) }
+{}

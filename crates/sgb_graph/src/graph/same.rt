@@ -1,0 +1,138 @@
+//! Comparing graphs.
+ghost use Rattle.std.specs.Prelude.{◌≡◌};
+ghost use Rattle.std.specs.List.{list_all, zip};
+ghost use Rattle.sgb_graph.specs.Same.{tip_eq};
+ghost use Rattle.sgb_graph.specs.SameRows.{link_eq, row_eq, slot_eq, each_eq, own_eq, lists_eq};
+
+use super::{Graph, Slot, Vertex};
+use crate::{ArcNo, Tip, Util};
+
+impl PartialEq for Graph {
+    ghost use Rattle.sgb_graph.specs.Same.{graph_eq};
+    ghost use Rattle.sgb_graph.specs.SameLaws.{graph_eq_laws};
+
+    ghost eq = { graph_eq };
+
+    ghost laws = { graph_eq_laws };
+
+    fn eq(&self, other: &Graph) -> bool {
+        let id = self.id.bytes();
+        let letters = self.types.letters();
+        if !is_own_same(
+            id,
+            other.id.bytes(),
+            letters,
+            other.types.letters(),
+            &self.fields,
+            &other.fields,
+        ) {
+            return false;
+        }
+        are_lists_same(&self.vertices, &other.vertices, &self.slots, &other.slots)
+    }
+}
+
+impl Eq for Graph {
+    ghost use Rattle.sgb_graph.specs.SameLaws.{graph_eq_equiv};
+
+    ghost laws = { graph_eq_equiv };
+}
+
+fn is_own_same(
+    id: &[u8],
+    other_id: &[u8],
+    letters: &[u8; 14],
+    other_letters: &[u8; 14],
+    fields: &[Util; 6],
+    other_fields: &[Util; 6],
+) -> bool
+    ensures { result ≡ own_eq id.now other_id.now letters.now other_letters.now fields.now other_fields.now }
+{
+    id == other_id && letters == other_letters && fields == other_fields
+}
+
+fn are_lists_same(
+    vertices: &[Vertex],
+    other_vertices: &[Vertex],
+    slots: &[Option<Slot>],
+    other_slots: &[Option<Slot>],
+) -> bool
+    ensures { result ≡ lists_eq vertices.now other_vertices.now slots.now other_slots.now }
+{
+    are_vertices_same(vertices, other_vertices) && are_slots_same(slots, other_slots)
+}
+
+fn are_vertices_same(vertices: &[Vertex], others: &[Vertex]) -> bool
+    ensures { result ≡ each_eq row_eq vertices.now others.now }
+{
+    vertices.len() == others.len() && is_each_vertex_same(vertices, others)
+}
+
+fn is_each_vertex_same(vertices: &[Vertex], others: &[Vertex]) -> bool
+    ensures { result ≡ list_all (λ p. row_eq p.0 p.1) (zip vertices.now others.now) }
+{
+    vertices
+        .iter()
+        .zip(others)
+        .all(|(vertex, other)| is_vertex_same(vertex, other))
+}
+
+fn are_slots_same(slots: &[Option<Slot>], others: &[Option<Slot>]) -> bool
+    ensures { result ≡ each_eq slot_eq slots.now others.now }
+{
+    slots.len() == others.len() && is_each_slot_same(slots, others)
+}
+
+fn is_each_slot_same(slots: &[Option<Slot>], others: &[Option<Slot>]) -> bool
+    ensures { result ≡ list_all (λ p. slot_eq p.0 p.1) (zip slots.now others.now) }
+{
+    slots
+        .iter()
+        .zip(others)
+        .all(|(slot, other)| is_slot_same(slot, other))
+}
+
+fn is_vertex_same(vertex: &Vertex, other: &Vertex) -> bool
+    ensures { result ≡ row_eq vertex.now other.now }
+{
+    vertex.label == other.label
+        && vertex.fields == other.fields
+        && is_link_same(vertex.first, other.first)
+}
+
+// The owner and the count of names need no look: the others tell them.
+fn is_slot_same(slot: &Option<Slot>, other: &Option<Slot>) -> bool
+    ensures { result ≡ slot_eq slot.now other.now }
+{
+    match (slot, other) {
+        (Some(slot), Some(other)) => {
+            is_tip_same(slot.tip, other.tip)
+                && is_link_same(slot.next, other.next)
+                && slot.len == other.len
+                && slot.fields == other.fields
+        }
+        (None, None) => true,
+        _ => false,
+    }
+}
+
+fn is_link_same(link: Option<ArcNo>, other: Option<ArcNo>) -> bool
+    ensures { result ≡ link_eq link other }
+{
+    match (link, other) {
+        (Some(number), Some(other)) => number.0 == other.0,
+        (None, None) => true,
+        _ => false,
+    }
+}
+
+fn is_tip_same(tip: Tip, other: Tip) -> bool
+    ensures { result ≡ tip_eq tip other }
+{
+    match (tip, other) {
+        (Tip::Zero, Tip::Zero) => true,
+        (Tip::One, Tip::One) => true,
+        (Tip::To(vertex), Tip::To(other)) => vertex.0 == other.0,
+        _ => false,
+    }
+}
