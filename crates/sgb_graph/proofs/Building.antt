@@ -13,10 +13,10 @@ use Rattle.sgb_graph.specs.declared.refusal.Refusal.TheVariants.{NoRoom, TooLarg
 use Rattle.sgb_graph.specs.Graph.{GraphOf, VertexOf, ArcOf, IsGraph, IsArc, IsValue, n_of, made_of, vertex_at, no_vertex, arcs_of, arc_at, has_arc}
 use Rattle.sgb_graph.specs.Edit.{stored, can_name, arc_or, no_arc, refusal_of_new, refusal_unless, refusal_of_id}
 use Rattle.sgb_graph.specs.New.{new_graph, blank_vertex}
-use Rattle.sgb_graph.specs.Holes.{with_hole, blank_graph}
+use Rattle.sgb_graph.specs.Private.Holes.{with_hole, blank_graph}
 use Rattle.sgb_graph.specs.Parts.{vertex_part, arc_part, IsVertexOf, IsArcOf, Builds}
-use Rattle.sgb_graph.specs.Lay.{IsLaid, Lays, Laying, RefusesToLay}
-use Rattle.sgb_graph.specs.Fill.{SameNames, can_name_each, can_name_at, can_name_vertices, can_name_arcs, can_name_all, filled_vertex, filled_entry, FillsVertices, FillsArcs}
+use Rattle.sgb_graph.specs.Private.Lay.{IsLaid, Lays, Laying, RefusesToLay}
+use Rattle.sgb_graph.specs.Private.Fill.{SameNames, can_name_each, can_name_at, can_name_vertices, can_name_arcs, can_name_all, filled_vertex, filled_entry, FillsVertices, FillsArcs}
 use Rattle.std.proofs.lemmas.List.{same_lists, get_or_default}
 use Rattle.sgb_graph.proofs.Graphs.{made_of_live, same_graph, same_vertex}
 use Rattle.sgb_graph.proofs.TakeOut.{some_entry}

@@ -14,14 +14,14 @@ use Rattle.sgb_graph.specs.declared.parts.VertexPart.{VertexPart}
 use Rattle.sgb_graph.specs.Chain.{Leads}
 use Rattle.sgb_graph.specs.Graph.{GraphOf, ArcOf, IsGraph, IsArc, IsTip, IsValue, n_of, made_of, no_vertex, arcs_of, arc_at, has_arc, occurrences, listings}
 use Rattle.sgb_graph.specs.Edit.{with_cut_arc, arc_of, arc_or, no_arc}
-use Rattle.sgb_graph.specs.Link.{CanPutBack}
+use Rattle.sgb_graph.specs.Private.Link.{CanPutBack}
 use Rattle.sgb_graph.specs.Parts.{vertex_part, arc_part, next_part}
 use Rattle.sgb_graph.specs.declared.refusal.Refusal.{Refusal}
 use Rattle.sgb_graph.specs.declared.refusal.Refusal.TheVariants.{NoRoom, BadOperand}
 use Rattle.std.proofs.lemmas.List.Elements.{All-push}
-use Rattle.sgb_graph.specs.Lay.{RefusesToLay, IsChain, IsLaid, Lays, Laying, LayingAt, laid_arc, can_lead, can_lay}
-use Rattle.sgb_graph.specs.Arena.{arc_no}
-use Rattle.sgb_graph.specs.Fill.{SameNames}
+use Rattle.sgb_graph.specs.Private.Lay.{RefusesToLay, IsChain, IsLaid, Lays, Laying, LayingAt, laid_arc, can_lead, can_lay}
+use Rattle.sgb_graph.specs.Field.{arc_no}
+use Rattle.sgb_graph.specs.Private.Fill.{SameNames}
 use Rattle.sgb_graph.proofs.Chains.{chain_is}
 use Rattle.sgb_graph.proofs.Counts.{occurs_yes, sum_some}
 use Rattle.sgb_graph.proofs.Graphs.{listed_live, one_owner, arcs_live, few_arcs_of, made_of_live}

@@ -5,7 +5,7 @@ use Rattle.sgb_graph.specs.declared.field.ArcNo.{ArcNo}
 use Rattle.sgb_graph.specs.Graph.{occurrences}
 use Rattle.sgb_graph.proofs.Counts.{occurs_yes, occurs_more, occurs_at}
 use Rattle.sgb_graph.specs.Chain.{Leads, chain}
-use Rattle.sgb_graph.specs.Arena.{Slots, next_at, numbers, IsLinked}
+use Rattle.sgb_graph.specs.Private.Arena.{Slots, next_at, numbers, IsLinked}
 
 -- links that lead along a list give that list
 pub chain_is : (next : ℕ → Option ArcNo) (link : Option ArcNo) (ks : List ℕ) (m : ℕ) → Leads next link ks None → length ks ≤ m → chain next m link ≡ ks

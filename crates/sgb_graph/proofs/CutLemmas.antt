@@ -8,8 +8,9 @@ use Rattle.sgb_graph.specs.declared.delta.CutArc.{CutArc}
 use Rattle.sgb_graph.specs.Graph.{GraphOf, IsGraph, n_of, made_of, m_of, has_arc, names_of}
 use Rattle.sgb_graph.specs.Edit.{without_arc, without_listed, with_cut_arc, with_listed, refusal_of_cut}
 use Rattle.sgb_graph.specs.Delta.{cut_arc, LeftByArc, LeftByEdge, LeftByCut}
-use Rattle.sgb_graph.specs.Arena.{Slots, Shows, IsArena, graph_of, arc_no, slot_at, entry_of, owner_in}
-use Rattle.sgb_graph.specs.Link.{CanTakeOut, CanBeTakenOut, TakesOut, CanPutBack, CanBePutBack, PutsBack}
+use Rattle.sgb_graph.specs.Private.Arena.{Slots, Shows, IsArena, graph_of, slot_at, entry_of, owner_in}
+use Rattle.sgb_graph.specs.Field.{arc_no}
+use Rattle.sgb_graph.specs.Private.Link.{CanTakeOut, CanBeTakenOut, TakesOut, CanPutBack, CanBePutBack, PutsBack}
 use Rattle.sgb_graph.proofs.Shows.{Opened, closed, closed_arena}
 use Rattle.std.proofs.Common.{IfSome, inl, inr}
 use Rattle.std.proofs.lemmas.Bool.{and_parts, ltb-true, leb-true, eqb-true, cases_Bool, cases_order}
@@ -17,18 +18,18 @@ use Rattle.std.proofs.lemmas.List.{get_or_past, get_or-take, length-take-le}
 use Rattle.sgb_graph.specs.declared.refusal.Refusal.TheVariants.{BadOperand, TooLarge}
 use Rattle.sgb_graph.specs.Graph.{arcs_of, occurrences}
 use Rattle.sgb_graph.specs.Edit.{refusal_unless}
-use Rattle.sgb_graph.specs.Arena.{next_of, next_at, names_counted}
+use Rattle.sgb_graph.specs.Private.Arena.{next_of, next_at, names_counted}
 use Rattle.sgb_graph.proofs.Chains.{Leads-agree}
-use Rattle.sgb_graph.specs.Holes.{with_hole}
+use Rattle.sgb_graph.specs.Private.Holes.{with_hole}
 use Rattle.sgb_graph.proofs.Holes.{at_hole, hole_made, hole_names, hole_m, hole_sound, new_can, with_arc_is, with_edge_is, first_cut, second_cut, first_can, second_can}
 use Rattle.std.proofs.Common.{min, max}
 use Rattle.std.proofs.lemmas.List.{take-take}
 use Rattle.sgb_graph.specs.Edit.{refusal_of_edge, with_edge}
-use Rattle.sgb_graph.specs.Revert.{TakesOutBoth, CanBothBeTakenOut}
+use Rattle.sgb_graph.specs.Private.Revert.{TakesOutBoth, CanBothBeTakenOut}
 use Rattle.sgb_graph.proofs.PutBack.{put_sound}
 use Rattle.sgb_graph.specs.Graph.{has_vertex, names_in}
 use Rattle.sgb_graph.specs.Edit.{refusal_of_arc, with_arc, with_entry_last}
-use Rattle.sgb_graph.specs.Insert.{new_cut}
+use Rattle.sgb_graph.specs.Private.Insert.{new_cut}
 use Rattle.sgb_graph.proofs.PutBack.{put_entry_same, put_names}
 use Rattle.sgb_graph.proofs.Sound.{hole_unnamed}
 use Rattle.sgb_graph.proofs.Laws.{cut_can, with_cut_arc-without_arc, without_arc-with_cut_arc}

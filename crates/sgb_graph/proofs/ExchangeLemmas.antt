@@ -20,9 +20,9 @@ use Rattle.sgb_graph.specs.declared.graph.Slot.{Slot}
 use Rattle.sgb_graph.specs.Field.{vertex_place, arc_place, graph_place}
 use Rattle.sgb_graph.specs.Graph.{GraphOf, VertexOf, ArcOf, IsGraph, IsVertex, IsArc, IsValue, n_of, made_of, m_of, vertex_at, no_vertex, arcs_of, arc_at, has_arc, occurrences, listings, is_name, names_in, names_in_entry, names_of}
 use Rattle.sgb_graph.specs.Edit.{with_util, util_at, has_place, entry_at, arc_or, no_arc}
-use Rattle.sgb_graph.specs.Arena.{Slots, Shows, ShowsVertex, slot_at, next_of, next_at, entry_of, owner_in, names_counted}
-use Rattle.sgb_graph.specs.Link.{any_vertex, vertex_in, IsCounted, slots_gaining, slots_losing}
-use Rattle.sgb_graph.specs.Exchange.{fields_in, with_field, value_in, fields_with, vertices_with, slots_with, CanExchange, Exchanged}
+use Rattle.sgb_graph.specs.Private.Arena.{Slots, Shows, ShowsVertex, slot_at, next_of, next_at, entry_of, owner_in, names_counted}
+use Rattle.sgb_graph.specs.Private.Link.{any_vertex, vertex_in, IsCounted, slots_gaining, slots_losing}
+use Rattle.sgb_graph.specs.Private.Exchange.{fields_in, with_field, value_in, fields_with, vertices_with, slots_with, CanExchange, Exchanged}
 use Rattle.sgb_graph.specs.Chain.{Leads}
 use Rattle.sgb_graph.proofs.Chains.{Leads-agree}
 use Rattle.sgb_graph.proofs.Graphs.{made_of_live}

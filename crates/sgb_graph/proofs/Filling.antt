@@ -18,7 +18,7 @@ use Rattle.sgb_graph.specs.declared.field.VertexField.{VertexField}
 use Rattle.sgb_graph.specs.declared.field.VertexField.TheVariants as fields
 use Rattle.sgb_graph.specs.declared.field.GraphField.TheVariants as own
 use Rattle.sgb_graph.specs.declared.field.ArcField.TheVariants as arcs
-use Rattle.sgb_graph.specs.Fill.{SameNames, can_name_each, with_filled_vertex, with_filled_arc, filled_entry}
+use Rattle.sgb_graph.specs.Private.Fill.{SameNames, can_name_each, with_filled_vertex, with_filled_arc, filled_entry}
 use Rattle.sgb_graph.proofs.Graphs.{made_of_live}
 use Rattle.sgb_graph.proofs.Sound.{entry_same, entry_other}
 

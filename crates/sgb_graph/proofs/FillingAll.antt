@@ -8,7 +8,7 @@ use Rattle.sgb_graph.specs.declared.parts.VertexPart.{VertexPart}
 use Rattle.sgb_graph.specs.Graph.{GraphOf, VertexOf, ArcOf, IsGraph, n_of, made_of, vertex_at, no_vertex, arc_at, has_arc}
 use Rattle.sgb_graph.specs.Edit.{with_label, stored}
 use Rattle.sgb_graph.specs.Parts.{vertex_part, arc_part, any_vertex_part, any_arc_part}
-use Rattle.sgb_graph.specs.Fill.{SameNames, can_name_each, can_name_vertices, can_name_at, can_name_arcs, filled_vertex, filled_entry, with_filled_vertex, with_filled_arc, FillsVertices, FillsArcs}
+use Rattle.sgb_graph.specs.Private.Fill.{SameNames, can_name_each, can_name_vertices, can_name_at, can_name_arcs, filled_vertex, filled_entry, with_filled_vertex, with_filled_arc, FillsVertices, FillsArcs}
 use Rattle.sgb_graph.proofs.Graphs.{no_arc_past}
 use Rattle.sgb_graph.proofs.PairedLemmas.{below_all}
 use Rattle.sgb_graph.proofs.Sound.{entry_same, entry_other}

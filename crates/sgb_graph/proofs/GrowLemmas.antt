@@ -16,7 +16,7 @@ use Rattle.sgb_graph.specs.Edit.{stored}
 use Rattle.sgb_graph.specs.Set.{IsStorable}
 use Rattle.sgb_graph.specs.Vertex.{NamesNothing, new_vertex, with_vertex_last}
 use Rattle.sgb_graph.specs.Chain.{Leads}
-use Rattle.sgb_graph.specs.Arena.{Shows, ShowsVertex, slot_at, owner_in, names_counted}
+use Rattle.sgb_graph.specs.Private.Arena.{Shows, ShowsVertex, slot_at, owner_in, names_counted}
 use Rattle.sgb_graph.proofs.Counts.{sum_zero}
 use Rattle.sgb_graph.proofs.Sound.{Keeps, IsValue-keeps, IsVertex-keeps, IsEntry-keeps}
 use Rattle.sgb_graph.proofs.Shows.{Opened}

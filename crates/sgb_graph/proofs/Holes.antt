@@ -9,10 +9,11 @@ use Rattle.sgb_graph.specs.declared.graph.Vertex.{Vertex}
 use Rattle.sgb_graph.specs.declared.delta.CutArc.{CutArc}
 use Rattle.sgb_graph.specs.Graph.{GraphOf, ArcOf, IsGraph, IsArc, IsValue, n_of, made_of, m_of, arcs_of, occurrences, names_in_entry, names_of}
 use Rattle.sgb_graph.specs.Edit.{with_listed, with_entry_last, with_cut_arc, with_arc, with_edge, arc_to, refusal_of_arc, refusal_of_edge}
-use Rattle.sgb_graph.specs.Holes.{with_hole}
-use Rattle.sgb_graph.specs.Insert.{new_cut}
-use Rattle.sgb_graph.specs.Arena.{Slots, Shows, arc_no, slot_at, next_of, next_at, entry_of, owner_in, names_counted}
-use Rattle.sgb_graph.specs.Link.{CanPutBack}
+use Rattle.sgb_graph.specs.Private.Holes.{with_hole}
+use Rattle.sgb_graph.specs.Private.Insert.{new_cut}
+use Rattle.sgb_graph.specs.Private.Arena.{Slots, Shows, slot_at, next_of, next_at, entry_of, owner_in, names_counted}
+use Rattle.sgb_graph.specs.Field.{arc_no}
+use Rattle.sgb_graph.specs.Private.Link.{CanPutBack}
 use Rattle.std.proofs.Common.{min, max}
 use Rattle.std.proofs.lemmas.List.{set-append_left}
 use Rattle.sgb_graph.proofs.PutBack.{put_n, put_made, put_entry_other}

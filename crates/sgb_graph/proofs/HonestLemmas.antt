@@ -5,8 +5,8 @@ use Rattle.std.proofs.lemmas.List.{drop-drop}
 use Rattle.sgb_graph.specs.declared.graph.Vertex.{Vertex}
 use Rattle.sgb_graph.specs.declared.graph.Graph.TheInside.{Inside}
 use Rattle.sgb_graph.specs.Graph.{GraphOf}
-use Rattle.sgb_graph.specs.Arena.{Slots, graph_of, vertex_of, entry_of}
-use Rattle.sgb_graph.specs.Exchange.{fields_in}
+use Rattle.sgb_graph.specs.Private.Arena.{Slots, graph_of, vertex_of, entry_of}
+use Rattle.sgb_graph.specs.Private.Exchange.{fields_in}
 use Rattle.sgb_graph.specs.Honest.{are_allowed, vertex_letters, arc_letters, graph_letters, is_honest_vertex, is_honest_entry, is_honest}
 
 vertices_honest : (types : List ℕ) (ss : Slots) (vs : List Vertex) → list_all (is_honest_vertex types) (map (vertex_of ss) vs) ≡ list_all (λ v. are_allowed (vertex_letters types) v.fields) vs

@@ -9,13 +9,14 @@ use Rattle.sgb_graph.specs.declared.graph.Graph.TheInside.{Inside}
 use Rattle.sgb_graph.specs.declared.delta.CutArc.{CutArc}
 use Rattle.sgb_graph.specs.Graph.{GraphOf, IsGraph, n_of, made_of, m_of}
 use Rattle.sgb_graph.specs.Edit.{with_arc, with_edge, with_cut_arc, with_listed}
-use Rattle.sgb_graph.specs.Insert.{new_cut, PutsBoth}
-use Rattle.sgb_graph.specs.Arena.{Slots, Shows, IsArena, graph_of, arc_no}
-use Rattle.sgb_graph.specs.Link.{CanPutBack, PutsBack}
+use Rattle.sgb_graph.specs.Private.Insert.{new_cut, PutsBoth}
+use Rattle.sgb_graph.specs.Private.Arena.{Slots, Shows, IsArena, graph_of}
+use Rattle.sgb_graph.specs.Field.{arc_no}
+use Rattle.sgb_graph.specs.Private.Link.{CanPutBack, PutsBack}
 use Rattle.sgb_graph.specs.Delta.{LeftByArc, LeftByEdge}
 use Rattle.sgb_graph.proofs.Shows.{Opened, closed, closed_arena}
 use Rattle.sgb_graph.proofs.PutBack.{put_sound, put_m}
-use Rattle.sgb_graph.specs.Holes.{with_hole}
+use Rattle.sgb_graph.specs.Private.Holes.{with_hole}
 use Rattle.sgb_graph.proofs.Holes.{hole_made, hole_m, hole_sound, hole_shows, with_arc_is, new_can, arc_accepted, first_cut, second_cut, first_can, second_can, with_edge_is, edge_accepted}
 
 -- the fields before and after a step between two graphs of one id, types and own fields

@@ -5,9 +5,9 @@ use Rattle.sgb_graph.specs.declared.graph.Graph.TheInside.{Inside}
 use Rattle.sgb_graph.specs.declared.delta.CutArc.{CutArc}
 use Rattle.sgb_graph.specs.Graph.{GraphOf, made_of}
 use Rattle.sgb_graph.specs.Edit.{with_cut_arc}
-use Rattle.sgb_graph.specs.Holes.{with_hole}
-use Rattle.sgb_graph.specs.Arena.{Slots, Shows}
-use Rattle.sgb_graph.specs.Link.{CanPutBack, CanBePutBack, PutsBack}
+use Rattle.sgb_graph.specs.Private.Holes.{with_hole}
+use Rattle.sgb_graph.specs.Private.Arena.{Slots, Shows}
+use Rattle.sgb_graph.specs.Private.Link.{CanPutBack, CanBePutBack, PutsBack}
 use Rattle.sgb_graph.proofs.Shows.{Opened}
 use Rattle.sgb_graph.proofs.Holes.{hole_m, hole_sound, hole_shows}
 use Rattle.sgb_graph.proofs.InsertLemmas.{put_after}

@@ -8,7 +8,7 @@ use Rattle.sgb_graph.specs.declared.delta.CutArc.{CutArc}
 use Rattle.sgb_graph.specs.Graph.{GraphOf, VertexOf, IsGraph, IsArc, n_of, vertex_at, no_vertex, arcs_of, occurrences, names_in}
 use Rattle.sgb_graph.specs.Edit.{with_listed, without_listed, with_cut_arc, without_arc, arc_of, owner_of, place_of, entry_at}
 use Rattle.sgb_graph.specs.Delta.{cut_arc}
-use Rattle.sgb_graph.specs.Link.{CanPutBack, CanTakeOut}
+use Rattle.sgb_graph.specs.Private.Link.{CanPutBack, CanTakeOut}
 use Rattle.sgb_graph.proofs.Counts.{occurs_yes, occurs_no}
 use Rattle.sgb_graph.proofs.Graphs.{same_graph, owner_is, hole_unlisted}
 use Rattle.sgb_graph.proofs.PutBack.{owner_with, put_sound, put_vertex_same, put_occurrences}

@@ -9,9 +9,10 @@ use Rattle.sgb_graph.specs.declared.graph.Vertex.{Vertex}
 use Rattle.sgb_graph.specs.declared.graph.Slot.{Slot}
 use Rattle.sgb_graph.specs.Graph.{GraphOf, IsGraph}
 use Rattle.sgb_graph.specs.Edit.{with_cut_arc}
-use Rattle.sgb_graph.specs.Insert.{new_cut, new_slot, PutsBoth}
-use Rattle.sgb_graph.specs.Arena.{Slots, Shows, arc_no}
-use Rattle.sgb_graph.specs.Link.{CanPutBack, PutsBack, any_vertex, vertex_in, vertices_relinked}
+use Rattle.sgb_graph.specs.Private.Insert.{new_cut, new_slot, PutsBoth}
+use Rattle.sgb_graph.specs.Private.Arena.{Slots, Shows}
+use Rattle.sgb_graph.specs.Field.{arc_no}
+use Rattle.sgb_graph.specs.Private.Link.{CanPutBack, PutsBack, any_vertex, vertex_in, vertices_relinked}
 use Rattle.sgb_graph.proofs.PutBack.{put_sound}
 use Rattle.sgb_graph.proofs.ShowsPut.{put_back_done}
 use Rattle.sgb_graph.proofs.Holes.{two_set_last}

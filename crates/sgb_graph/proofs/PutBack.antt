@@ -7,7 +7,7 @@ use Rattle.std.proofs.lemmas.List.Sums.{sum_by-set, sum_by-insert}
 use Rattle.sgb_graph.specs.declared.delta.CutArc.{CutArc}
 use Rattle.sgb_graph.specs.Graph.{GraphOf, VertexOf, ArcOf, IsGraph, IsVertex, IsArc, n_of, made_of, m_of, vertex_at, no_vertex, arcs_of, arc_at, has_arc, occurrences, listings, names_in, names_in_entry, names_of}
 use Rattle.sgb_graph.specs.Edit.{with_listed, with_cut_arc, arc_of}
-use Rattle.sgb_graph.specs.Link.{CanPutBack}
+use Rattle.sgb_graph.specs.Private.Link.{CanPutBack}
 use Rattle.sgb_graph.proofs.Sound.{Keeps, IsValue-keeps, IsVertex-keeps, IsArc-keeps, IsEntry-keeps, All-set, entry_same, entry_other}
 
 -- the owner with the arc

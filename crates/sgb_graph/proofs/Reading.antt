@@ -9,9 +9,9 @@ use Rattle.sgb_graph.specs.Graph.{GraphOf, ArcOf, IsGraph, IsArc, IsTip, n_of, m
 use Rattle.sgb_graph.specs.Edit.{owner_of, entry_at, arc_or, no_arc}
 use Rattle.sgb_graph.specs.Read.{entry_view, arc_view, ShowsEntry, first_of, IsNextOf}
 use Rattle.sgb_graph.specs.Chain.{Leads}
-use Rattle.sgb_graph.specs.Arena.{Slots, IsArena, slot_at, next_at, entry_of, numbers, graph_of}
-use Rattle.sgb_graph.specs.Link.{any_vertex}
-use Rattle.sgb_graph.specs.Exchange.{fields_in}
+use Rattle.sgb_graph.specs.Private.Arena.{Slots, IsArena, slot_at, next_at, entry_of, numbers, graph_of}
+use Rattle.sgb_graph.specs.Private.Link.{any_vertex}
+use Rattle.sgb_graph.specs.Private.Exchange.{fields_in}
 use Rattle.sgb_graph.proofs.Counts.{occurs_at}
 use Rattle.sgb_graph.proofs.Graphs.{owner_is, made_of_live}
 use Rattle.sgb_graph.proofs.Shows.{opened, but_of, numbers_are}

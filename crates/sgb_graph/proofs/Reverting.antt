@@ -9,7 +9,7 @@ use Rattle.sgb_graph.specs.Graph.{GraphOf, ArcOf, made_of}
 use Rattle.sgb_graph.specs.Edit.{without_arc, with_cut_arc}
 use Rattle.sgb_graph.specs.Delta.{LeftBy, LeftByArc, LeftByEdge, LeftByCut, LeftById, LeftByTypes}
 use Rattle.sgb_graph.specs.Reverted.{reverted, with_numbers}
-use Rattle.sgb_graph.specs.Holes.{with_hole}
+use Rattle.sgb_graph.specs.Private.Holes.{with_hole}
 use Rattle.sgb_graph.proofs.TakeOut.{found_live}
 use Rattle.sgb_graph.proofs.Laws.{with_cut_arc-without_arc}
 use Rattle.sgb_graph.proofs.CutLemmas.{cut_taken, revert_arc_law, revert_edge_can}

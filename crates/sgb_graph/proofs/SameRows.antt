@@ -11,15 +11,15 @@ use Rattle.sgb_graph.specs.declared.graph.Slot.{Slot}
 use Rattle.sgb_graph.specs.declared.graph.Graph.TheInside.{Inside}
 use Rattle.sgb_graph.specs.Graph.{GraphOf, VertexOf, n_of, arcs_of, arc_at, has_arc, occurrences, vertex_at}
 use Rattle.sgb_graph.specs.Chain.{Leads, chain}
-use Rattle.sgb_graph.specs.Arena.{Slots, Shows, IsArena, slot_at, next_at, next_of, entry_of, owner_in, numbers, vertex_of, graph_of}
+use Rattle.sgb_graph.specs.Private.Arena.{Slots, Shows, IsArena, slot_at, next_at, next_of, entry_of, owner_in, numbers, vertex_of, graph_of}
 use Rattle.sgb_graph.specs.Edit.{arc_or, no_arc}
 use Rattle.sgb_graph.specs.Same.{tip_eq, util_eq, graph_eq}
-use Rattle.sgb_graph.specs.SameRows.{link_eq, row_eq, slot_eq, each_eq, own_eq, lists_eq}
+use Rattle.sgb_graph.specs.Private.SameRows.{link_eq, row_eq, slot_eq, each_eq, own_eq, lists_eq}
 use Rattle.sgb_graph.proofs.Counts.{occurs_yes, occurs_no}
 use Rattle.sgb_graph.proofs.Graphs.{same_graph, vertex_of_listed}
 use Rattle.sgb_graph.proofs.Shows.{Opened, opened}
 use Rattle.sgb_graph.proofs.Reading.{first_is, next_is}
-use Rattle.sgb_graph.specs.SameLaws.{Tells, lists_tell, texts_tell, utils_tell, ints_tell, graphs_tell, tip_same, tip_self}
+use Rattle.sgb_graph.specs.Private.SameLaws.{Tells, lists_tell, texts_tell, utils_tell, ints_tell, graphs_tell, tip_same, tip_self}
 
 -- the tests
 link_same : (l m : Option ArcNo) → link_eq l m ≡ true → l ≡ m

@@ -13,9 +13,9 @@ use Rattle.sgb_graph.specs.declared.graph.Graph.TheInside.{Inside}
 use Rattle.sgb_graph.specs.Text.{IsText}
 use Rattle.sgb_graph.specs.Graph.{GraphOf, VertexOf, ArcOf, IsGraph, IsVertex, IsArc, n_of, made_of, vertex_at, no_vertex, arcs_of, arc_at, has_arc, has_vertex, occurrences, listings, names_in, names_in_entry, names_of}
 use Rattle.sgb_graph.specs.Edit.{with_len, with_label, entry_at, arc_or, no_arc}
-use Rattle.sgb_graph.specs.Arena.{Slots, Shows, ShowsVertex, IsArena, graph_of, slot_at, next_of, next_at, entry_of, owner_in, names_counted}
-use Rattle.sgb_graph.specs.Link.{any_vertex, vertex_in}
-use Rattle.sgb_graph.specs.Set.{len_in, with_len_in}
+use Rattle.sgb_graph.specs.Private.Arena.{Slots, Shows, ShowsVertex, IsArena, graph_of, slot_at, next_of, next_at, entry_of, owner_in, names_counted}
+use Rattle.sgb_graph.specs.Private.Link.{any_vertex, vertex_in}
+use Rattle.sgb_graph.specs.Private.Arena.{len_in, with_len_in}
 use Rattle.sgb_graph.proofs.Chains.{Leads-agree}
 use Rattle.sgb_graph.proofs.Graphs.{same_graph, made_of_live}
 use Rattle.sgb_graph.proofs.Slots.{slot_same, slot_other, slot_unseen}
@@ -34,7 +34,7 @@ use Rattle.sgb_graph.specs.declared.field.Place.TheVariants as places
 use Rattle.sgb_graph.specs.declared.refusal.Refusal.TheVariants.{BadOperand}
 use Rattle.sgb_graph.specs.Field.{vertex_place, arc_place, graph_place}
 use Rattle.sgb_graph.specs.Edit.{util_at, has_place, refusal_unless}
-use Rattle.sgb_graph.specs.Exchange.{fields_in}
+use Rattle.sgb_graph.specs.Private.Exchange.{fields_in}
 use Rattle.sgb_graph.specs.Delta.{LeftByLen, LeftByLabel}
 
 -- a label

@@ -10,8 +10,8 @@ use Rattle.sgb_graph.specs.declared.graph.Graph.TheInside.{Inside}
 use Rattle.sgb_graph.specs.Graph.{GraphOf, IsGraph, IsArc, n_of, made_of, m_of, vertex_at, no_vertex, arcs_of, arc_at, has_arc, occurrences}
 use Rattle.sgb_graph.specs.Edit.{owner_of}
 use Rattle.sgb_graph.specs.Chain.{Leads}
-use Rattle.sgb_graph.specs.Arena.{Slots, Shows, ShowsVertex, IsLinked, IsArena, slot_at, next_at, entry_of, owner_in, numbers, vertex_of, graph_of}
-use Rattle.sgb_graph.specs.Link.{any_vertex}
+use Rattle.sgb_graph.specs.Private.Arena.{Slots, Shows, ShowsVertex, IsLinked, IsArena, slot_at, next_at, entry_of, owner_in, numbers, vertex_of, graph_of}
+use Rattle.sgb_graph.specs.Private.Link.{any_vertex}
 use Rattle.sgb_graph.proofs.Graphs.{owner_is, arcs_live, few_arcs_of, same_vertex, same_graph, made_of_live}
 use Rattle.sgb_graph.proofs.Chains.{chain_is}
 

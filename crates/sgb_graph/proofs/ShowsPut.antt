@@ -12,8 +12,9 @@ use Rattle.sgb_graph.specs.declared.delta.CutArc.{CutArc}
 use Rattle.sgb_graph.specs.Graph.{GraphOf, VertexOf, IsGraph, n_of, made_of, vertex_at, arcs_of, arc_at, occurrences, names_in, names_of}
 use Rattle.sgb_graph.specs.Edit.{with_cut_arc}
 use Rattle.sgb_graph.specs.Chain.{Leads}
-use Rattle.sgb_graph.specs.Arena.{Slots, Shows, ShowsVertex, IsLinked, arc_no, slot_at, next_of, next_at, entry_of, owner_in, names_counted, numbers}
-use Rattle.sgb_graph.specs.Link.{any_vertex, vertex_in, CanPutBack, value_at, number_before, link_after, with_next, vertices_relinked, slots_relinked, slots_gaining, slots_losing, slots_gaining_both}
+use Rattle.sgb_graph.specs.Private.Arena.{Slots, Shows, ShowsVertex, IsLinked, slot_at, next_of, next_at, entry_of, owner_in, names_counted, numbers}
+use Rattle.sgb_graph.specs.Field.{arc_no}
+use Rattle.sgb_graph.specs.Private.Link.{any_vertex, vertex_in, CanPutBack, value_at, number_before, link_after, with_next, vertices_relinked, slots_relinked, slots_gaining, slots_losing, slots_gaining_both}
 use Rattle.sgb_graph.proofs.Counts.{occurs_at}
 use Rattle.sgb_graph.proofs.Graphs.{listed_live, one_owner, hole_unlisted}
 use Rattle.sgb_graph.proofs.Chains.{Leads-agree, Leads-first, Leads-behind}
@@ -24,7 +25,7 @@ use Rattle.std.proofs.lemmas.Int.{to_z-of_z}
 use Rattle.sgb_graph.proofs.PutBack.{owner_with, put_n, put_made, put_vertex_same, put_vertex_other, put_entry_same, put_entry_other, put_occurrences, put_names}
 use Rattle.sgb_graph.proofs.Sound.{names_in_two, hole_unnamed, names_none, few_names}
 use Rattle.sgb_graph.proofs.Graphs.{made_of_live}
-use Rattle.sgb_graph.specs.Link.{IsCounted}
+use Rattle.sgb_graph.specs.Private.Link.{IsCounted}
 use Rattle.sgb_graph.specs.Graph.{IsValue, is_name}
 use Rattle.sgb_graph.specs.declared.field.Util.TheVariants as utils
 

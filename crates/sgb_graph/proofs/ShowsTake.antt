@@ -16,8 +16,9 @@ use Rattle.sgb_graph.specs.Graph.{GraphOf, VertexOf, ArcOf, IsGraph, IsArc, IsVa
 use Rattle.sgb_graph.specs.Edit.{without_arc, owner_of, place_of, entry_at, arc_or, no_arc}
 use Rattle.sgb_graph.specs.Delta.{cut_arc}
 use Rattle.sgb_graph.specs.Chain.{Leads}
-use Rattle.sgb_graph.specs.Arena.{Slots, Shows, ShowsVertex, IsLinked, arc_no, slot_at, next_of, next_at, entry_of, owner_in, names_counted, numbers}
-use Rattle.sgb_graph.specs.Link.{any_vertex, vertex_in, IsCounted, value_at, number_before, with_next, vertices_relinked, slots_relinked, slots_losing, slots_losing_both}
+use Rattle.sgb_graph.specs.Private.Arena.{Slots, Shows, ShowsVertex, IsLinked, slot_at, next_of, next_at, entry_of, owner_in, names_counted, numbers}
+use Rattle.sgb_graph.specs.Field.{arc_no}
+use Rattle.sgb_graph.specs.Private.Link.{any_vertex, vertex_in, IsCounted, value_at, number_before, with_next, vertices_relinked, slots_relinked, slots_losing, slots_losing_both}
 use Rattle.sgb_graph.proofs.Counts.{occurs_at, two_places}
 use Rattle.sgb_graph.proofs.Graphs.{listed_live, one_owner, owner_is}
 use Rattle.sgb_graph.proofs.Chains.{Leads-agree, Leads-rest, Leads-without}

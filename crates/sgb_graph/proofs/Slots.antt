@@ -7,8 +7,8 @@ use Rattle.sgb_graph.specs.declared.field.Util.{Util}
 use Rattle.sgb_graph.specs.declared.field.Util.TheVariants.{Zero, Int, Vertex, Arc, Text}
 use Rattle.sgb_graph.specs.declared.graph.Slot.{Slot}
 use Rattle.sgb_graph.specs.Graph.{is_name}
-use Rattle.sgb_graph.specs.Arena.{Slots, slot_at, next_of, entry_of, owner_in, names_counted}
-use Rattle.sgb_graph.specs.Link.{with_next, named_more, named_less, slots_relinked, slots_gaining, slots_losing}
+use Rattle.sgb_graph.specs.Private.Arena.{Slots, slot_at, next_of, entry_of, owner_in, names_counted}
+use Rattle.sgb_graph.specs.Private.Link.{with_next, named_more, named_less, slots_relinked, slots_gaining, slots_losing}
 
 pub slot_same : (ss : Slots) (k : ℕ) (o : Option Slot) → k < length ss → slot_at (set ss k o) k ≡ o
 slot_same ss k o h = get_or-set_same ss k o None h

@@ -9,7 +9,7 @@ use Rattle.sgb_graph.specs.declared.field.Util.TheVariants.{Zero, Int, Vertex, A
 use Rattle.sgb_graph.specs.declared.field.Tip.{Tip}
 use Rattle.sgb_graph.specs.declared.field.Tip.TheVariants as tips
 use Rattle.sgb_graph.specs.Graph.{GraphOf, VertexOf, ArcOf, IsGraph, IsVertex, IsArc, IsValue, IsTip, n_of, arc_at, is_name, names_in, names_in_entry, names_of}
-use Rattle.sgb_graph.specs.Link.{value_at}
+use Rattle.sgb_graph.specs.Private.Link.{value_at}
 use Rattle.sgb_graph.proofs.Counts.{sum_zero}
 use Rattle.sgb_graph.proofs.Slots.{one_name}
 

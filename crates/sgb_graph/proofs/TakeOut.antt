@@ -8,7 +8,7 @@ use Rattle.sgb_graph.specs.declared.field.Util.{Util}
 use Rattle.sgb_graph.specs.declared.field.Util.TheVariants.{Zero, Int, Vertex, Arc, Text}
 use Rattle.sgb_graph.specs.Graph.{GraphOf, VertexOf, ArcOf, IsGraph, IsVertex, IsArc, IsValue, n_of, made_of, m_of, vertex_at, no_vertex, arcs_of, arc_at, has_arc, occurrences, listings, is_name, names_in, names_in_entry, names_of}
 use Rattle.sgb_graph.specs.Edit.{without_listed, without_arc, owner_of, place_of, entry_at, arc_or, no_arc}
-use Rattle.sgb_graph.specs.Link.{CanTakeOut}
+use Rattle.sgb_graph.specs.Private.Link.{CanTakeOut}
 use Rattle.sgb_graph.proofs.Counts.{zero_of_sum, occurs_no, sum_some}
 use Rattle.sgb_graph.proofs.Graphs.{listed_live, owner_is}
 use Rattle.sgb_graph.proofs.Sound.{All-set, entry_same, entry_other}

@@ -14,8 +14,8 @@ use Rattle.sgb_graph.specs.Field.{vertex_place, arc_place, graph_place}
 use Rattle.sgb_graph.specs.Graph.{GraphOf, VertexOf, ArcOf, IsGraph, IsValue, n_of, vertex_at, no_vertex, arc_at}
 use Rattle.sgb_graph.specs.Edit.{with_util, util_at, has_place, can_name, stored, entry_at, arc_or, no_arc, refusal_unless}
 use Rattle.sgb_graph.specs.Delta.{LeftByUtil}
-use Rattle.sgb_graph.specs.Arena.{Slots, IsArena, graph_of}
-use Rattle.sgb_graph.specs.Exchange.{CanExchange, CanBeExchanged, Exchanges}
+use Rattle.sgb_graph.specs.Private.Arena.{Slots, IsArena, graph_of}
+use Rattle.sgb_graph.specs.Private.Exchange.{CanExchange, CanBeExchanged, Exchanges}
 use Rattle.sgb_graph.specs.Set.{IsStorable}
 use Rattle.sgb_graph.proofs.Graphs.{made_of_live}
 use Rattle.sgb_graph.proofs.Sound.{entry_same, IsValue-keeps}

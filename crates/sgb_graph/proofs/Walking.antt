@@ -10,8 +10,8 @@ use Rattle.sgb_graph.specs.Graph.{GraphOf, IsGraph, n_of, arcs_of, occurrences}
 use Rattle.sgb_graph.specs.Edit.{owner_of}
 use Rattle.sgb_graph.specs.Read.{entry_view}
 use Rattle.sgb_graph.specs.Paired.{goes, is_vertex, leads_from, is_loop, is_loop_pair, without_halves, walk}
-use Rattle.sgb_graph.specs.Arena.{Slots, Shows, IsArena, IsLinked, slot_at, next_at, entry_of, numbers, graph_of}
-use Rattle.sgb_graph.specs.Walk.{is_loop_in, is_pair_in, without_pairs, walked, past}
+use Rattle.sgb_graph.specs.Private.Arena.{Slots, Shows, IsArena, IsLinked, slot_at, next_at, entry_of, numbers, graph_of}
+use Rattle.sgb_graph.specs.Private.Walk.{is_loop_in, is_pair_in, without_pairs, walked, past}
 use Rattle.sgb_graph.proofs.Counts.{occurs_yes, occurs_more}
 use Rattle.sgb_graph.proofs.Graphs.{owner_is}
 use Rattle.sgb_graph.proofs.Chains.{chain-none, linked_step}

@@ -1,5 +1,6 @@
--- The places of the utility fields.
+-- The places of the utility fields, and the numbers of arcs.
 use Rattle.std.specs.Prelude.{ℕ}
+use Rattle.sgb_graph.specs.declared.field.ArcNo.{ArcNo}
 use Rattle.sgb_graph.specs.declared.field.VertexField.{VertexField}
 use Rattle.sgb_graph.specs.declared.field.VertexField.TheVariants.{U, V, W, X, Y, Z}
 use Rattle.sgb_graph.specs.declared.field.ArcField.{ArcField}
@@ -26,3 +27,7 @@ graph_place Ww = 2
 graph_place Xx = 3
 graph_place Yy = 4
 graph_place Zz = 5
+
+-- the number as an `ArcNo`
+abbrev pub arc_no : ℕ → ArcNo
+arc_no k = record { 0 = k }

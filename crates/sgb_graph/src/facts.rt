@@ -36,5 +36,5 @@ pub fn pair_law()
     ensures loops { (g : GraphOf) (v i : ℕ) → is_paired g ≡ true → i < length (arcs_of g v) →
         GoesTo g (slice_index (arcs_of g v) i) v v →
         (is_half g v (arcs_of g v) i ≡ true) ⊎
-            ((i + 1 < length (arcs_of g v)) × (is_half g v (arcs_of g v) (i + 1) ≡ true)) }
+        ((i + 1 < length (arcs_of g v)) × (is_half g v (arcs_of g v) (i + 1) ≡ true)) }
 {}

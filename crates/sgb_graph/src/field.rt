@@ -71,7 +71,7 @@ pub enum Place {
 
 impl PartialEq for Util {
     ghost use Rattle.sgb_graph.specs.Same.{util_eq};
-    ghost use Rattle.sgb_graph.specs.SameLaws.{util_eq_laws};
+    ghost use Rattle.sgb_graph.specs.Private.SameLaws.{util_eq_laws};
 
     ghost eq = { util_eq };
 
@@ -90,7 +90,7 @@ impl PartialEq for Util {
 }
 
 impl Eq for Util {
-    ghost use Rattle.sgb_graph.specs.SameLaws.{util_eq_equiv};
+    ghost use Rattle.sgb_graph.specs.Private.SameLaws.{util_eq_equiv};
 
     ghost laws = { util_eq_equiv };
 }

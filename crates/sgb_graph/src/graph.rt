@@ -68,7 +68,7 @@ impl Model for Graph {
 
     ghost Value = { GraphOf };
 
-    ghost use Rattle.sgb_graph.specs.Arena.{graph_of, IsArena};
+    ghost use Rattle.sgb_graph.specs.Private.Arena.{graph_of, IsArena};
 
     ghost view = { graph_of };
 

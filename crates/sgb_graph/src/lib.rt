@@ -3,10 +3,10 @@
 
 mod builder;
 mod delta;
+mod facts;
 mod field;
 mod graph;
 mod items;
-mod facts;
 mod parts;
 mod refusal;
 mod text;
@@ -15,10 +15,10 @@ mod undoing;
 
 pub use builder::Builder;
 pub use delta::{CutArc, GraphDelta};
+pub use facts::{build_law, pair_law, same_law, walk_law};
 pub use field::{ArcField, ArcNo, GraphField, Place, Tip, Util, VertexField, VertexNo};
 pub use graph::{ArcView, Arcs, Graph, MOST_ARCS, MOST_VERTICES, Walk};
 pub use items::Items;
-pub use facts::{build_law, pair_law, same_law, walk_law};
 pub use parts::{ArcPart, Parts, VertexPart};
 pub use refusal::Refusal;
 pub use text::{Label, Text};

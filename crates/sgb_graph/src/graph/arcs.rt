@@ -1,6 +1,6 @@
 //! The arcs of one vertex in order.
 ghost use Rattle.std.specs.Prelude.{◌≡◌, ◌<◌, length};
-ghost use Rattle.sgb_graph.specs.Arena.{next_at};
+ghost use Rattle.sgb_graph.specs.Private.Arena.{next_at};
 
 use super::Slot;
 use crate::ArcNo;
@@ -18,7 +18,7 @@ impl<'a> Model for Arcs<'a> {
 
     ghost Value = { List ℕ };
 
-    ghost use Rattle.sgb_graph.specs.Arena.{numbers, IsLinked};
+    ghost use Rattle.sgb_graph.specs.Private.Arena.{numbers, IsLinked};
 
     ghost view = { λ a. numbers a.slots.now a.next };
 
@@ -27,7 +27,7 @@ impl<'a> Model for Arcs<'a> {
 
 impl<'a> Arcs<'a> {
     ghost use Rattle.std.specs.Prelude.{◌≡◌};
-    ghost use Rattle.sgb_graph.specs.Arena.{numbers, IsLinked};
+    ghost use Rattle.sgb_graph.specs.Private.Arena.{numbers, IsLinked};
 
     #[inline]
     pub(super) fn new(slots: &'a [Option<Slot>], first: Option<ArcNo>) -> Arcs<'a>

@@ -2,7 +2,7 @@
 ghost use Rattle.std.specs.Prelude.{◌≡◌, ◌<◌, ◌⊎◌, IfOk, IfErr};
 ghost use Rattle.sgb_graph.specs.Graph.{GraphOf, IsGraph};
 ghost use Rattle.sgb_graph.specs.Parts.{Builds};
-ghost use Rattle.sgb_graph.specs.Holes.{blank_graph};
+ghost use Rattle.sgb_graph.specs.Private.Holes.{blank_graph};
 
 use super::{Graph, MOST_ARCS, MOST_VERTICES};
 use crate::{Parts, Refusal};

@@ -1,8 +1,8 @@
 //! Putting a value into a utility field.
 ghost use Rattle.std.specs.Prelude.{◌≡◌, ◌<◌, length, slice_index_or, slice_set};
 ghost use Rattle.sgb_graph.specs.declared.field.Util.TheVariants as utils;
-ghost use Rattle.sgb_graph.specs.Arena.{slot_at};
-ghost use Rattle.sgb_graph.specs.Exchange.{IsPlaceIn, value_in, fields_in, with_field, fields_with, vertices_with, slots_with, Exchanges, CanBeExchanged};
+ghost use Rattle.sgb_graph.specs.Private.Arena.{slot_at};
+ghost use Rattle.sgb_graph.specs.Private.Exchange.{IsPlaceIn, value_in, fields_in, with_field, fields_with, vertices_with, slots_with, Exchanges, CanBeExchanged};
 
 use super::link::{gain_name, lose_name};
 use super::{Slot, Vertex};

@@ -3,7 +3,7 @@ ghost use Rattle.std.specs.Prelude.{◌≡◌, ◌<◌, ◌∷◌, [], length, s
 ghost use Rattle.std.specs.List.{list_all, range_with_len};
 ghost use Rattle.sgb_graph.specs.Graph.{IsGraph, n_of, made_of, has_arc};
 ghost use Rattle.sgb_graph.specs.Edit.{with_util, with_label, can_name, stored, refusal_of_util};
-ghost use Rattle.sgb_graph.specs.Fill.{SameNames, can_name_each, can_name_at, can_name_vertices, can_name_arcs, can_name_all, with_filled_vertex, with_filled_arc, FillsVertices, FillsArcs};
+ghost use Rattle.sgb_graph.specs.Private.Fill.{SameNames, can_name_each, can_name_at, can_name_vertices, can_name_arcs, can_name_all, with_filled_vertex, with_filled_arc, FillsVertices, FillsArcs};
 
 use super::Graph;
 use crate::{

@@ -1,7 +1,7 @@
 //! Whether each value is one that its letter allows.
 ghost use Rattle.std.specs.Prelude.{◌≡◌};
 ghost use Rattle.std.specs.List.{list_all};
-ghost use Rattle.sgb_graph.specs.Exchange.{fields_in};
+ghost use Rattle.sgb_graph.specs.Private.Exchange.{fields_in};
 ghost use Rattle.sgb_graph.specs.Honest.{are_allowed, is_honest};
 
 use super::{Graph, Slot, Vertex};

@@ -4,9 +4,9 @@ ghost use Rattle.std.specs.Result.{IsErrOf};
 ghost use Rattle.sgb_graph.specs.Graph.{IsGraph, made_of};
 ghost use Rattle.sgb_graph.specs.Edit.{with_arc, with_edge, refusal_of_arc, refusal_of_edge};
 ghost use Rattle.sgb_graph.specs.Delta.{LeftBy};
-ghost use Rattle.sgb_graph.specs.Arena.{arc_no};
-ghost use Rattle.sgb_graph.specs.Insert.{new_cut, new_slot, PutsBoth};
-ghost use Rattle.sgb_graph.specs.Link.{PutsBack, vertex_in, vertices_relinked};
+ghost use Rattle.sgb_graph.specs.Field.{arc_no};
+ghost use Rattle.sgb_graph.specs.Private.Insert.{new_cut, new_slot, PutsBoth};
+ghost use Rattle.sgb_graph.specs.Private.Link.{PutsBack, vertex_in, vertices_relinked};
 
 use super::{Graph, MOST_ARCS, Slot, Vertex};
 use crate::{ArcNo, GraphDelta, Refusal, Tip, Util, VertexNo};

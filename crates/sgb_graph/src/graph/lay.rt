@@ -2,9 +2,9 @@
 ghost use Rattle.std.specs.Prelude.{◌≡◌, ◌<◌, ◌≤◌, ◌+◌, ◌⊎◌, ℕ, List, length, true, false, IfErr, OnOk};
 ghost use Rattle.sgb_graph.specs.Graph.{IsGraph, n_of, made_of};
 ghost use Rattle.sgb_graph.specs.Edit.{with_cut_arc};
-ghost use Rattle.sgb_graph.specs.Holes.{with_hole};
-ghost use Rattle.sgb_graph.specs.Link.{CanPutBack};
-ghost use Rattle.sgb_graph.specs.Lay.{IsChain, Lays, Laying, RefusesToLay, laid_arc, can_lead, can_lay};
+ghost use Rattle.sgb_graph.specs.Private.Holes.{with_hole};
+ghost use Rattle.sgb_graph.specs.Private.Link.{CanPutBack};
+ghost use Rattle.sgb_graph.specs.Private.Lay.{IsChain, Lays, Laying, RefusesToLay, laid_arc, can_lead, can_lay};
 
 use super::Graph;
 use super::link::put_back;

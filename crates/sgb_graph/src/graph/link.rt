@@ -2,8 +2,8 @@
 ghost use Rattle.std.specs.Prelude.{◌≡◌, ◌<◌, ◌≤◌, ◌^◌, ◌-◌, ◌==◌, length, IfSome, IsSome, None, Some, slice_set};
 ghost use Rattle.std.specs.List.{position_or_len};
 ghost use Rattle.std.specs.Option.{ForSome};
-ghost use Rattle.sgb_graph.specs.Arena.{IsLinked, numbers, next_at, slot_at, owner_in};
-ghost use Rattle.sgb_graph.specs.Link.{number_before, link_after, vertices_relinked, slots_relinked, slots_gaining, slots_losing, slots_gaining_both, slots_losing_both, value_at, IsCounted, PutsBack, CanBePutBack, TakesOut, CanBeTakenOut};
+ghost use Rattle.sgb_graph.specs.Private.Arena.{IsLinked, numbers, next_at, slot_at, owner_in};
+ghost use Rattle.sgb_graph.specs.Private.Link.{number_before, link_after, vertices_relinked, slots_relinked, slots_gaining, slots_losing, slots_gaining_both, slots_losing_both, value_at, IsCounted, PutsBack, CanBePutBack, TakesOut, CanBeTakenOut};
 
 use super::{Arcs, Slot, Vertex};
 use crate::{ArcNo, CutArc, Util, VertexNo};

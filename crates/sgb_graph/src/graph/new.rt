@@ -6,8 +6,8 @@ ghost use Rattle.sgb_graph.specs.Graph.{IsGraph, IsId};
 ghost use Rattle.sgb_graph.specs.Types.{IsTypes};
 ghost use Rattle.sgb_graph.specs.Edit.{refusal_of_new};
 ghost use Rattle.sgb_graph.specs.New.{new_graph, new_id, bare_graph, six_zeros};
-ghost use Rattle.sgb_graph.specs.Arena.{IsBare, bare_vertex};
-ghost use Rattle.sgb_graph.specs.Blank.{blank};
+ghost use Rattle.sgb_graph.specs.Private.Arena.{IsBare, bare_vertex};
+ghost use Rattle.sgb_graph.specs.Private.Blank.{blank};
 
 use super::{Graph, MOST_VERTICES, Vertex};
 use crate::{Label, Refusal, Text, Types, Util};

@@ -3,8 +3,8 @@ ghost use Rattle.std.specs.Prelude.{◌≡◌, ◌<◌, ◌≤◌, length, All, 
 ghost use Rattle.sgb_graph.specs.Graph.{IsGraph, IsId, IsTip, n_of, m_of, made_of, vertex_at, label_of, arcs_of, arc_at};
 ghost use Rattle.sgb_graph.specs.Text.{IsText};
 ghost use Rattle.sgb_graph.specs.Types.{IsTypes};
-ghost use Rattle.sgb_graph.specs.Arena.{slot_at};
-ghost use Rattle.sgb_graph.specs.Exchange.{fields_in};
+ghost use Rattle.sgb_graph.specs.Private.Arena.{slot_at};
+ghost use Rattle.sgb_graph.specs.Private.Exchange.{fields_in};
 ghost use Rattle.sgb_graph.specs.Paired.{walk};
 ghost use Rattle.sgb_graph.specs.Edit.{owner_of, entry_at};
 

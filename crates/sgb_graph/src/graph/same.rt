@@ -2,14 +2,14 @@
 ghost use Rattle.std.specs.Prelude.{◌≡◌};
 ghost use Rattle.std.specs.List.{list_all, zip};
 ghost use Rattle.sgb_graph.specs.Same.{tip_eq};
-ghost use Rattle.sgb_graph.specs.SameRows.{link_eq, row_eq, slot_eq, each_eq, own_eq, lists_eq};
+ghost use Rattle.sgb_graph.specs.Private.SameRows.{link_eq, row_eq, slot_eq, each_eq, own_eq, lists_eq};
 
 use super::{Graph, Slot, Vertex};
 use crate::{ArcNo, Tip, Util};
 
 impl PartialEq for Graph {
     ghost use Rattle.sgb_graph.specs.Same.{graph_eq};
-    ghost use Rattle.sgb_graph.specs.SameLaws.{graph_eq_laws};
+    ghost use Rattle.sgb_graph.specs.Private.SameLaws.{graph_eq_laws};
 
     ghost eq = { graph_eq };
 
@@ -33,7 +33,7 @@ impl PartialEq for Graph {
 }
 
 impl Eq for Graph {
-    ghost use Rattle.sgb_graph.specs.SameLaws.{graph_eq_equiv};
+    ghost use Rattle.sgb_graph.specs.Private.SameLaws.{graph_eq_equiv};
 
     ghost laws = { graph_eq_equiv };
 }

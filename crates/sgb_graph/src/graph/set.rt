@@ -1,12 +1,13 @@
 //! Setting lengths, fields, labels, the id and the letters.
 ghost use Rattle.std.specs.Prelude.{◌≡◌, ◌<◌, ◌≤◌, length, IsTrue, IsSome, IfOk, IfErr, OnOk, OnErr, None, Some, slice_set, slice_index_or};
 ghost use Rattle.sgb_graph.specs.declared.field.Util.TheVariants as utils;
-ghost use Rattle.sgb_graph.specs.Exchange.{fields_in};
+ghost use Rattle.sgb_graph.specs.Private.Exchange.{fields_in};
 ghost use Rattle.sgb_graph.specs.Graph.{IsGraph, n_of, arc_at, has_arc, label_of};
 ghost use Rattle.sgb_graph.specs.Edit.{with_len, with_util, with_label, util_at, entry_at, stored, can_name, has_place, refusal_of_len, refusal_of_util, refusal_of_label, refusal_of_id};
 ghost use Rattle.sgb_graph.specs.Delta.{LeftBy, LeftByLen, LeftByLabel, LeftById};
-ghost use Rattle.sgb_graph.specs.Arena.{slot_at};
-ghost use Rattle.sgb_graph.specs.Set.{len_in, with_len_in, IsStorable};
+ghost use Rattle.sgb_graph.specs.Private.Arena.{slot_at};
+ghost use Rattle.sgb_graph.specs.Set.{IsStorable};
+ghost use Rattle.sgb_graph.specs.Private.Arena.{len_in, with_len_in};
 
 use super::exchange::exchange;
 use super::{Graph, Slot};

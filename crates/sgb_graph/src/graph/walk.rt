@@ -1,7 +1,7 @@
 //! The arcs of one vertex that stand for an insertion each.
 ghost use Rattle.std.specs.Prelude.{◌≡◌, ◌<◌, length};
-ghost use Rattle.sgb_graph.specs.Arena.{IsLinked, numbers, next_at, slot_at};
-ghost use Rattle.sgb_graph.specs.Walk.{is_loop_in, is_pair_in, walked, past};
+ghost use Rattle.sgb_graph.specs.Private.Arena.{IsLinked, numbers, next_at, slot_at};
+ghost use Rattle.sgb_graph.specs.Private.Walk.{is_loop_in, is_pair_in, walked, past};
 
 use super::Slot;
 use super::arcs::next_after;
@@ -23,8 +23,8 @@ impl<'a> Model for Walk<'a> {
 
     ghost Value = { List ℕ };
 
-    ghost use Rattle.sgb_graph.specs.Arena.{numbers, IsLinked};
-    ghost use Rattle.sgb_graph.specs.Walk.{walked};
+    ghost use Rattle.sgb_graph.specs.Private.Arena.{numbers, IsLinked};
+    ghost use Rattle.sgb_graph.specs.Private.Walk.{walked};
 
     ghost view = { λ w. walked w.directed w.slots.now (numbers w.slots.now w.next) };
 
@@ -33,11 +33,7 @@ impl<'a> Model for Walk<'a> {
 
 impl<'a> Walk<'a> {
     #[inline]
-    pub(super) fn new(
-        slots: &'a [Option<Slot>],
-        first: Option<ArcNo>,
-        directed: bool,
-    ) -> Walk<'a>
+    pub(super) fn new(slots: &'a [Option<Slot>], first: Option<ArcNo>, directed: bool) -> Walk<'a>
         requires { IsLinked slots.now first }
         ensures { result ≡ walked directed slots.now (numbers slots.now first) }
     {
@@ -73,12 +69,7 @@ impl<'a> Iterator for Walk<'a> {
 
 // The link by which a walk goes on after this arc: past its second half.
 #[inline]
-fn past(
-    slots: &[Option<Slot>],
-    directed: bool,
-    number: ArcNo,
-    next: Option<ArcNo>,
-) -> Option<ArcNo>
+fn past(slots: &[Option<Slot>], directed: bool, number: ArcNo, next: Option<ArcNo>) -> Option<ArcNo>
     requires number { number.0 < length slots.now }
     requires linked { IsLinked slots.now next }
     ensures { result ≡ past directed slots.now number.0 next }

@@ -1,6 +1,6 @@
 use Rattle.std.proofs.Common.{ap, sym, ◌∙◌}
 use Rattle.sgb_graph.specs.Same.{graph_eq, util_eq}
-use Rattle.sgb_graph.specs.SameLaws.{graphs_tell, values_tell}
+use Rattle.sgb_graph.specs.Private.SameLaws.{graphs_tell, values_tell}
 use Rattle.sgb_graph.proofs.facts.same_law.Goals as goal
 
 pub returns-clause-graphs : goal.returns-clause-graphs

@@ -1,5 +1,5 @@
 use Rattle.std.proofs.Common.{refl, sym, ap, subst, length, ◌∙◌, inr}
-use Rattle.sgb_graph.specs.Fill.{can_name_vertices, can_name_arcs, FillsVertices, FillsArcs}
+use Rattle.sgb_graph.specs.Private.Fill.{can_name_vertices, can_name_arcs, FillsVertices, FillsArcs}
 use Rattle.std.proofs.lemmas.Result.{err_from_is_err_and}
 use Rattle.sgb_graph.proofs.Filling.{names_then, each-same}
 use Rattle.sgb_graph.proofs.Building.{blank_lays, lays_moved, unnamed_refused, named_parts, arcs-same, filled_names, arcs_filled_names, builds, too_many, not_laid, long_id}

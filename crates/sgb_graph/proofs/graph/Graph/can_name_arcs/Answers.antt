@@ -1,5 +1,5 @@
 use Rattle.std.proofs.Common.{◌∙◌, sym, arith}
-use Rattle.sgb_graph.specs.Fill.{can_name_at}
+use Rattle.sgb_graph.specs.Private.Fill.{can_name_at}
 use Rattle.std.proofs.Common.{length}
 use Rattle.sgb_graph.proofs.PairedLemmas.{below_all_more, below_all_not}
 use Rattle.sgb_graph.proofs.graph.Graph.can_name_arcs.Goals as goal

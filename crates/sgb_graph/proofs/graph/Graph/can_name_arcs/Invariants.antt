@@ -1,6 +1,6 @@
 use Rattle.std.proofs.Common.{◌≡◌, true}
 use Rattle.std.specs.List.{list_all, range_with_len}
-use Rattle.sgb_graph.specs.Fill.{can_name_at}
+use Rattle.sgb_graph.specs.Private.Fill.{can_name_at}
 use Rattle.sgb_graph.proofs.graph.Graph.can_name_arcs.Given as goal
 
 abbrev pub invariant-loop-number : goal.invariant-loop-number

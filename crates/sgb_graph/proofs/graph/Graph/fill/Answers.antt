@@ -1,6 +1,6 @@
 use Rattle.std.proofs.Common.{subst, sym}
 use Rattle.sgb_graph.specs.Edit.{stored}
-use Rattle.sgb_graph.specs.Fill.{SameNames}
+use Rattle.sgb_graph.specs.Private.Fill.{SameNames}
 use Rattle.sgb_graph.proofs.Filling.{names-with_util, accepted_place, on_ok}
 use Rattle.sgb_graph.proofs.graph.Graph.fill.Goals as goal
 

@@ -2,7 +2,7 @@ use Rattle.std.proofs.Common.{◌≡◌, sym, ap, ◌∙◌, arith}
 use Rattle.sgb_graph.proofs.FillingAll.{arcs_filling_begins, arc_filled_more, arc_passed, arcs_filling_ends, arc_turn_names, empty_of}
 use Rattle.std.proofs.Common.{length}
 use Rattle.sgb_graph.specs.Graph.{has_arc}
-use Rattle.sgb_graph.specs.Fill.{with_filled_arc}
+use Rattle.sgb_graph.specs.Private.Fill.{with_filled_arc}
 use Rattle.sgb_graph.proofs.graph.Graph.fill_arcs.Goals as goal
 
 pub loop-part-init : goal.loop-part-init

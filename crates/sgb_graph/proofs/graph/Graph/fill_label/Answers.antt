@@ -1,5 +1,5 @@
 use Rattle.std.proofs.Common.{subst, sym}
-use Rattle.sgb_graph.specs.Fill.{SameNames}
+use Rattle.sgb_graph.specs.Private.Fill.{SameNames}
 use Rattle.sgb_graph.proofs.Filling.{names-with_label}
 use Rattle.sgb_graph.proofs.graph.Graph.fill_label.Goals as goal
 

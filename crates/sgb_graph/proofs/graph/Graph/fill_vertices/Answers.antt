@@ -1,7 +1,7 @@
 use Rattle.std.proofs.Common.{◌≡◌, ap, ◌∙◌, arith, length}
 use Rattle.sgb_graph.proofs.FillingAll.{filling_begins, filled_more, filling_ends, turn_names, turn_low, empty_of}
 use Rattle.sgb_graph.specs.Edit.{with_label}
-use Rattle.sgb_graph.specs.Fill.{with_filled_vertex}
+use Rattle.sgb_graph.specs.Private.Fill.{with_filled_vertex}
 use Rattle.sgb_graph.proofs.Filling.{names_refl}
 use Rattle.sgb_graph.proofs.graph.Graph.fill_vertices.Goals as goal
 

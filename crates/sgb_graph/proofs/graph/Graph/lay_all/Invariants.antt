@@ -1,4 +1,4 @@
-use Rattle.sgb_graph.specs.Lay.{Laying}
+use Rattle.sgb_graph.specs.Private.Lay.{Laying}
 use Rattle.sgb_graph.proofs.graph.Graph.lay_all.Given as goal
 
 abbrev pub invariant-loop-vertex : goal.invariant-loop-vertex

@@ -1,4 +1,4 @@
-use Rattle.sgb_graph.specs.Lay.{LayingAt}
+use Rattle.sgb_graph.specs.Private.Lay.{LayingAt}
 use Rattle.sgb_graph.proofs.graph.Graph.lay_vertex.Given as goal
 
 abbrev pub invariant-loop-number : goal.invariant-loop-number

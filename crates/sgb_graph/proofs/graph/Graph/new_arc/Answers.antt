@@ -4,8 +4,8 @@ use Rattle.std.specs.Int.{w64}
 use Rattle.std.specs.Vec.{with_items}
 use Rattle.std.proofs.lemmas.List.{with_items_is}
 use Rattle.sgb_graph.specs.declared.graph.Graph.TheInside.{Inside}
-use Rattle.sgb_graph.specs.Arena.{arc_no}
-use Rattle.sgb_graph.specs.Insert.{new_cut}
+use Rattle.sgb_graph.specs.Field.{arc_no}
+use Rattle.sgb_graph.specs.Private.Insert.{new_cut}
 use Rattle.sgb_graph.proofs.Shows.{opened}
 use Rattle.sgb_graph.proofs.InsertLemmas.{NewArcCan, SameOwn, new_cut_is, new_arc_done}
 use Rattle.sgb_graph.proofs.graph.Graph.new_arc.Goals as goal

@@ -1,6 +1,6 @@
 use Rattle.std.proofs.Common.{refl}
 use Rattle.sgb_graph.specs.declared.graph.Graph.TheInside.{Inside}
-use Rattle.sgb_graph.specs.Holes.{with_hole}
+use Rattle.sgb_graph.specs.Private.Holes.{with_hole}
 use Rattle.sgb_graph.proofs.Shows.{opened, closed, closed_arena}
 use Rattle.sgb_graph.proofs.Laid.{hole_opened}
 use Rattle.sgb_graph.proofs.graph.Graph.push_hole.Goals as goal

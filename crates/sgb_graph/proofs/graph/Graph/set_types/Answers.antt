@@ -1,6 +1,6 @@
 use Rattle.std.proofs.Common.{◌∙◌, ap, subst}
 use Rattle.sgb_graph.specs.Graph.{IsGraph, GraphOf}
-use Rattle.sgb_graph.specs.Arena.{graph_of}
+use Rattle.sgb_graph.specs.Private.Arena.{graph_of}
 use Rattle.sgb_graph.proofs.graph.Graph.set_types.Goals as goal
 
 pub returns-clause-left : goal.returns-clause-left

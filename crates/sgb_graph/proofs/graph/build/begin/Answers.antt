@@ -2,7 +2,7 @@ use Rattle.std.proofs.Common.{sym, ap, ◌∙◌, arith, inl}
 use Rattle.std.proofs.lemmas.Result.{err_from_is_err_and}
 use Rattle.std.proofs.Common.{subst}
 use Rattle.sgb_graph.specs.Graph.{made_of, IsGraph}
-use Rattle.sgb_graph.specs.Holes.{with_hole}
+use Rattle.sgb_graph.specs.Private.Holes.{with_hole}
 use Rattle.sgb_graph.proofs.Building.{blank_begins, blank_more, blank_made, new_refused}
 use Rattle.sgb_graph.proofs.graph.build.begin.Goals as goal
 

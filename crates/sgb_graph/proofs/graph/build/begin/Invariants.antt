@@ -1,6 +1,6 @@
 use Rattle.std.proofs.Common.{◌≡◌}
 use Rattle.sgb_graph.specs.Graph.{IsGraph}
-use Rattle.sgb_graph.specs.Holes.{blank_graph}
+use Rattle.sgb_graph.specs.Private.Holes.{blank_graph}
 use Rattle.sgb_graph.proofs.graph.build.begin.Given as goal
 
 abbrev pub invariant-loop-number : goal.invariant-loop-number

@@ -1,7 +1,7 @@
 use Rattle.std.proofs.Common.{◌∙◌, ap}
 use Rattle.std.specs.Int.{w64}
 use Rattle.std.proofs.lemmas.Int.{to_z-of_z}
-use Rattle.sgb_graph.specs.Insert.{new_slot}
+use Rattle.sgb_graph.specs.Private.Insert.{new_slot}
 use Rattle.sgb_graph.proofs.Pushing.{arc_pushed}
 use Rattle.sgb_graph.proofs.graph.insert.push_arc.Goals as goal
 

@@ -1,8 +1,9 @@
 use Rattle.std.proofs.Common.{◌≡◌, ℕ, zero, suc, ◌-◌, ◌≢◌, List, Option, Some, None, option_map, slice_get, arith, refl, ap, ◌∙◌}
 use Rattle.std.proofs.lemmas.Iterator.Consumers.{nth_from_yields_List, YieldsList-from_first}
 use Rattle.sgb_graph.specs.declared.field.ArcNo.{ArcNo}
-use Rattle.sgb_graph.specs.Arena.{arc_no, numbers}
-use Rattle.sgb_graph.specs.Link.{number_before}
+use Rattle.sgb_graph.specs.Private.Arena.{numbers}
+use Rattle.sgb_graph.specs.Field.{arc_no}
+use Rattle.sgb_graph.specs.Private.Link.{number_before}
 use Rattle.sgb_graph.proofs.graph.link.number_before.Goals as goal
 
 nth_is : (r : Option ArcNo) (ks : List ℕ) (i : ℕ) → i ≢ 0 → option_map (λ k. k.0) r ≡ slice_get ks (i - 1) → r ≡ number_before ks i

@@ -1,6 +1,6 @@
 use Rattle.std.proofs.Common.{◌≡◌, ◌+◌, ℕ, List, Bool, length, arith, ap, ◌∙◌, zero-add}
 use Rattle.std.specs.List.{position_or_len}
-use Rattle.sgb_graph.specs.Arena.{numbers, next_at}
+use Rattle.sgb_graph.specs.Private.Arena.{numbers, next_at}
 use Rattle.sgb_graph.proofs.Chains.{length-chain}
 use Rattle.sgb_graph.proofs.graph.link.place_in.Goals as goal
 

@@ -1,6 +1,6 @@
 use Rattle.std.proofs.Common.{◌≡◌, ◌+◌, ◌≤◌, ◌==◌, length}
 use Rattle.std.specs.List.{position_or_len}
-use Rattle.sgb_graph.specs.Arena.{numbers}
+use Rattle.sgb_graph.specs.Private.Arena.{numbers}
 use Rattle.sgb_graph.proofs.graph.link.place_in.Given as goal
 
 abbrev pub invariant-loop-other : goal.invariant-loop-other

@@ -1,6 +1,6 @@
 use Rattle.std.proofs.Common.{◌≡◌, ◌<◌, ◌∙◌, ap, arith, length}
 use Rattle.sgb_graph.specs.declared.field.Util.TheVariants.{Zero}
-use Rattle.sgb_graph.specs.Link.{value_at, number_before, slots_gaining}
+use Rattle.sgb_graph.specs.Private.Link.{value_at, number_before, slots_gaining}
 use Rattle.sgb_graph.specs.Graph.{arcs_of, made_of}
 use Rattle.sgb_graph.proofs.Slots.{length-gaining}
 use Rattle.sgb_graph.proofs.ShowsPut.{first_room, second_room, put_linked, put_back_done, before_within}

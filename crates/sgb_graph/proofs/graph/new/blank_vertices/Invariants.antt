@@ -1,5 +1,5 @@
 use Rattle.std.proofs.Common.{◌≡◌, replicate}
-use Rattle.sgb_graph.specs.Blank.{blank}
+use Rattle.sgb_graph.specs.Private.Blank.{blank}
 use Rattle.sgb_graph.proofs.graph.new.blank_vertices.Given as goal
 
 abbrev pub invariant-loop-i : goal.invariant-loop-i

@@ -3,8 +3,8 @@ use Rattle.std.specs.Prelude.{◌+◌, ℕ, List}
 use Rattle.sgb_graph.specs.declared.graph.Vertex as vertex
 use Rattle.sgb_graph.specs.Graph.{GraphOf, IsGraph}
 use Rattle.sgb_graph.specs.Edit.{without_arc}
-use Rattle.sgb_graph.specs.Arena.{Slots, Shows}
-use Rattle.sgb_graph.specs.Link.{CanTakeOut}
+use Rattle.sgb_graph.specs.Private.Arena.{Slots, Shows}
+use Rattle.sgb_graph.specs.Private.Link.{CanTakeOut}
 
 abbrev pub TakesOutBoth : List vertex.Vertex → Slots → ℕ → List vertex.Vertex → Slots → Type 0
 TakesOutBoth vs ss k ws ts =

@@ -1,5 +1,5 @@
 -- The arena of arcs: how its fields show a graph.
-use Rattle.std.specs.Prelude.{◌≡◌, ◌<◌, ℕ, List, [], map, length, Option, Some, None, IfSome, All, slice_index_or}
+use Rattle.std.specs.Prelude.{◌≡◌, ◌<◌, ℕ, ℤ, pos, List, [], map, length, Option, Some, None, IfSome, All, slice_index_or}
 use Rattle.sgb_graph.specs.declared.field.VertexNo.{VertexNo}
 use Rattle.sgb_graph.specs.declared.field.ArcNo.{ArcNo}
 use Rattle.sgb_graph.specs.declared.graph.Vertex.{Vertex}
@@ -76,9 +76,14 @@ pub record IsArena (a : Inside) : Type 0 where
   pub shows : Shows a.vertices.items a.slots.items (graph_of a)
   pub live : a.live ≡ m_of (graph_of a)
 
--- the number as an `ArcNo`
-abbrev pub arc_no : ℕ → ArcNo
-arc_no k = record { 0 = k }
+-- the length in a slot, and the slot with another one
+abbrev pub len_in : Option Slot → ℤ
+len_in None = pos 0
+len_in (Some s) = s.len
+
+abbrev pub with_len_in : ℤ → Option Slot → Option Slot
+with_len_in len None = None
+with_len_in len (Some s) = Some (record s { len = len })
 
 -- a vertex that lists no arcs, and what it shows
 pub record IsBare (n : ℕ) (v : Vertex) : Type 0 where

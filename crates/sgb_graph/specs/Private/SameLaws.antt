@@ -3,7 +3,7 @@ use Rattle.std.proofs.Common.{◌≡◌, ℕ, ℤ, List, [], ◌∷◌, Option, 
 use Rattle.std.specs.Cmp.{IsPartialEquivalence, IsEquivalence}
 use Rattle.std.specs.Cmp.Lexicographic.{pointwise, same_text}
 use Rattle.std.specs.Ordering.{int_eq}
-use Rattle.std.proofs.lemmas.Bool.{cases_Bool, and_parts, and_from, eqb-true, eq-eqb}
+use Rattle.std.proofs.lemmas.Bool.{false≢true, cases_Bool, and_parts, and_from, eqb-true, eq-eqb}
 use Rattle.std.proofs.lemmas.Bool.Decides.{Decides-int_eq}
 use Rattle.sgb_graph.specs.declared.field.Tip.{Tip}
 use Rattle.sgb_graph.specs.declared.field.Tip.TheVariants as tips
@@ -41,7 +41,7 @@ per_of E t =
             | inl h ↦ h ∙ sym (tells_back E t x y h)
             | inr h ↦
                 elim (cases_Bool (E y x)) [
-                  | inl k ↦ absurd (let back : E x y ≡ true = tells_back E t y x k in cc)
+                  | inl k ↦ absurd (false≢true (sym h ∙ tells_back E t y x k))
                   | inr k ↦ h ∙ sym k
                 ]
           ];
@@ -58,8 +58,8 @@ equiv_of E t =
 
 pointwise_same : {K : Type 0} (E : K → K → Bool) → Tells E → (xs ys : List K) → pointwise E xs ys ≡ true → xs ≡ ys
 pointwise_same E t [] [] h = refl
-pointwise_same E t [] (y ∷ ys) h = absurd cc
-pointwise_same E t (x ∷ xs) [] h = absurd cc
+pointwise_same E t [] (y ∷ ys) h = absurd (false≢true h)
+pointwise_same E t (x ∷ xs) [] h = absurd (false≢true h)
 pointwise_same E t (x ∷ xs) (y ∷ ys) h =
     let p = and_parts (E x y) (pointwise E xs ys) h in
     ap (λ z. z ∷ xs) (t.same x y p.0) ∙ ap (λ zs. y ∷ zs) (pointwise_same E t xs ys p.1)
@@ -84,7 +84,7 @@ pub tip_same : (t u : Tip) → tip_eq t u ≡ true → t ≡ u
 tip_same tips.Zero tips.Zero h = refl
 tip_same tips.One tips.One h = refl
 tip_same (tips.To v) (tips.To w) h = ap (λ x. tips.To (record { 0 = x })) (eqb-true v.0 w.0 h)
-tip_same _ _ h = absurd cc
+tip_same _ _ h = absurd (false≢true h)
 
 pub tip_self : (t : Tip) → tip_eq t t ≡ true
 tip_self tips.Zero = refl
@@ -97,7 +97,7 @@ util_same (Int z) (Int y) h = ap Int (ints_tell.same z y h)
 util_same (Vertex v) (Vertex w) h = ap (λ x. Vertex (record { 0 = x })) (eqb-true v.0 w.0 h)
 util_same (Arc v) (Arc w) h = ap (λ x. Arc (record { 0 = x })) (eqb-true v.0 w.0 h)
 util_same (Text s) (Text t) h = ap Text (texts_tell.same s t h)
-util_same _ _ h = absurd cc
+util_same _ _ h = absurd (false≢true h)
 
 util_self : (a : Util) → util_eq a a ≡ true
 util_self Zero = refl
@@ -126,7 +126,7 @@ entry_same (Some d) (Some e) h =
     ap (λ t. Some (record { tip = t; len = d.len; fields = d.fields })) (tip_same d.tip e.tip q.0)
     ∙ (ap (λ z. Some (record { tip = e.tip; len = z; fields = d.fields })) (ints_tell.same d.len e.len q.1)
     ∙ ap (λ us. Some (record { tip = e.tip; len = e.len; fields = us })) (utils_tell.same d.fields e.fields p.1))
-entry_same _ _ h = absurd cc
+entry_same _ _ h = absurd (false≢true h)
 
 entry_self : (d : Option ArcOf) → entry_eq d d ≡ true
 entry_self None = refl

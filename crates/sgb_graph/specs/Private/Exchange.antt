@@ -9,8 +9,8 @@ use Rattle.sgb_graph.specs.declared.graph.Slot.{Slot}
 use Rattle.sgb_graph.specs.Field.{vertex_place, arc_place, graph_place}
 use Rattle.sgb_graph.specs.Graph.{GraphOf, IsGraph, IsValue, n_of}
 use Rattle.sgb_graph.specs.Edit.{has_place, util_at, with_util}
-use Rattle.sgb_graph.specs.Arena.{Slots, Shows, slot_at}
-use Rattle.sgb_graph.specs.Link.{vertex_in}
+use Rattle.sgb_graph.specs.Private.Arena.{Slots, Shows, slot_at}
+use Rattle.sgb_graph.specs.Private.Link.{vertex_in}
 
 abbrev pub fields_in : Option Slot → List Util
 fields_in None = []

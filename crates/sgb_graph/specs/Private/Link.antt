@@ -9,7 +9,8 @@ use Rattle.sgb_graph.specs.declared.graph.Slot.{Slot}
 use Rattle.sgb_graph.specs.Graph.{GraphOf, IsGraph, IsArc, n_of, made_of, arcs_of, arc_at, has_arc, names_of}
 use Rattle.sgb_graph.specs.Edit.{with_cut_arc, without_arc, arc_of}
 use Rattle.sgb_graph.specs.Delta.{cut_arc}
-use Rattle.sgb_graph.specs.Arena.{Slots, Shows, arc_no, next_at, slot_at, names_counted}
+use Rattle.sgb_graph.specs.Private.Arena.{Slots, Shows, next_at, slot_at, names_counted}
+use Rattle.sgb_graph.specs.Field.{arc_no}
 
 -- a vertex that stands nowhere
 abbrev pub any_vertex : vertex.Vertex

@@ -2,7 +2,7 @@
 use Rattle.std.specs.Prelude.{◌+◌, ℕ, List, [], ◌∷◌, Option, Some, None, Bool, false, ◌&&◌, not, ◌==◌, if◌then◌else◌}
 use Rattle.sgb_graph.specs.declared.field.ArcNo.{ArcNo}
 use Rattle.sgb_graph.specs.declared.graph.Slot.{Slot}
-use Rattle.sgb_graph.specs.Arena.{Slots, slot_at, next_at}
+use Rattle.sgb_graph.specs.Private.Arena.{Slots, slot_at, next_at}
 use Rattle.sgb_graph.specs.Paired.{is_vertex}
 
 -- the arc leads to its owner

@@ -9,8 +9,8 @@ use Rattle.sgb_graph.specs.declared.graph.Vertex as vertex
 use Rattle.sgb_graph.specs.declared.graph.Slot.{Slot}
 use Rattle.sgb_graph.specs.Graph.{GraphOf, IsGraph}
 use Rattle.sgb_graph.specs.Edit.{with_cut_arc}
-use Rattle.sgb_graph.specs.Arena.{Slots, Shows}
-use Rattle.sgb_graph.specs.Link.{CanPutBack}
+use Rattle.sgb_graph.specs.Private.Arena.{Slots, Shows}
+use Rattle.sgb_graph.specs.Private.Link.{CanPutBack}
 
 -- the arc of this number, first in the list of its owner
 abbrev pub new_cut : ArcNo → VertexNo → VertexNo → ℤ → CutArc

@@ -1,0 +1,12 @@
+pub mod Arena
+pub mod Blank
+pub mod Exchange
+pub mod Fill
+pub mod Holes
+pub mod Insert
+pub mod Lay
+pub mod Link
+pub mod Revert
+pub mod SameLaws
+pub mod SameRows
+pub mod Walk
