@@ -6,19 +6,22 @@
 Each run either has written nothing and told `sgb: no room`, or one line of it is answered
 `line L: refused 1 no room` and all others as if that line had done nothing. What they answer then is
 asked of the program itself, or of the command OTHER, another implementation that reads a script from a file.
-A line that takes no memory of its own is refused only where the journal grows.
+A command that takes no memory of its own is refused only where the journal grows: where a multiple of 1,024
+commands stand and nothing is undone.
 """
 import os
 import subprocess
 import sys
 import tempfile
 
-# Draws, undos and redos in turn, so that the journal grows, shrinks and grows again.
-DRAWS = (b'seed -314159\nnext\nunif 6\ngen\n' + b'next\n' * 40 + b'undo\n' * 20 + b'redo\n' * 10
-         + b'next\n' * 40 + b'undo\nredo\nundo\nseed 7\nunif 1073741825\ngen\n')
+# Draws past 1,024 commands, where the journal grows for the second time; behind that undos, redos and commands in the
+# place of undone ones, also with 1,024 commands standing.
+DRAWS = (b'seed -314159\nnext\nunif 6\ngen\n' + b'next\n' * 1021 + b'unif 6\nundo\nnext\n'
+         + b'undo\n' * 20 + b'redo\n' * 10 + b'next\n' * 40
+         + b'undo\nredo\nundo\nseed 7\nunif 1073741825\ngen\n')
 
-# All commands on graphs. The journal grows at the first command, and at `cut`, `len`, `types`, `drop` and
-# a `set` of a number. At the end all is undone and redone, for which each graph takes its memory again.
+# All commands on graphs. The journal grows at the first command alone. At the end all is undone and redone, for which
+# each graph takes its memory again.
 GRAPHS = (b'graph g 3\ngraph h 2\narc g 0 1 5\nedge g 1 2 -6\n'
           b'cut g 0\nundo\nredo\nshow g\n'
           b'set g V0 u 7\nset g V0 v "seven"\nset g G zz V1\n'
@@ -33,8 +36,9 @@ GRAPHS = (b'graph g 3\ngraph h 2\narc g 0 1 5\nedge g 1 2 -6\n'
           + b'set g A1 b -3\nset g A1 b 0\nid g ""\nshow g\n'
           + b'undo\n' * 67 + b'list\n' + b'redo\n' * 67 + b'show g\nlist\ngen\n')
 
-# What the second script meets: the first words of the lines that are refused once at least.
-MET = {b'graph', b'arc', b'edge', b'cut', b'len', b'set', b'types', b'label', b'id', b'drop', b'redo'}
+# The first words of the lines that are refused once at least.
+MET_DRAWS = {b'seed', b'unif'}
+MET_GRAPHS = {b'graph', b'arc', b'edge', b'set', b'label', b'id', b'redo'}
 
 QUERIES = (b'gen', b'list', b'show')
 
@@ -60,7 +64,7 @@ def takes_memory(line):
 def growing_lines(script):
     """The numbers of the lines that may want for memory, where every command of the script is accepted."""
     growing = set()
-    standing, undone, most = [], [], 0
+    standing, undone = [], []
     for number, line in enumerate(script.splitlines(), 1):
         if line == b'undo':
             undone.append(standing.pop())
@@ -69,14 +73,10 @@ def growing_lines(script):
                 growing.add(number)
             standing.append(undone.pop())
         elif line.split(b' ')[0] not in QUERIES:
-            # The journal's room is doubled, from 4 commands on.
-            count = len(standing)
-            is_full = count == most and (count == 0 or count >= 4 and count & (count - 1) == 0)
-            if takes_memory(line) or is_full:
+            if takes_memory(line) or len(standing) % 1024 == 0 and not undone:
                 growing.add(number)
             standing.append(line)
             undone = []
-            most = max(most, len(standing))
     return growing
 
 
@@ -151,8 +151,8 @@ class Growths:
 def main():
     program, library = sys.argv[1:3]
     growths = Growths(program, library, sys.argv[3:])
-    growths.try_script(DRAWS, set())
-    growths.try_script(GRAPHS, MET)
+    growths.try_script(DRAWS, MET_DRAWS)
+    growths.try_script(GRAPHS, MET_GRAPHS)
     print('growths: %d passed, %d failed' % (growths.passed, growths.failed))
     return 1 if growths.failed else 0
 
