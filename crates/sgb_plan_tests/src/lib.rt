@@ -1,9 +1,9 @@
 //! Tests of drawn lengths, names and ids, and an example of a generator over a plan.
 #![tactic(auto)]
 
-mod path;
+mod example;
 
-pub use path::path;
+pub use example::path;
 
 #[cfg(test)]
 mod ids;
