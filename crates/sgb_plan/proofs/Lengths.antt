@@ -1,12 +1,11 @@
 -- Lemmas on drawn lengths.
-use Rattle.std.proofs.Common.{◌≡◌, ◌+◌, ◌≤◌, ◌<◌, ℕ, ℤ, pos, ◌+ℤ◌, ◌-ℤ◌, inl, inr, ap, ap₂, sym, ◌∙◌, refl, FitsSigned, to_z, of_z, w64, true, false, arith, unsigned_abs}
+use Rattle.std.proofs.Common.{◌≡◌, ◌+◌, ℕ, ℤ, ◌-ℤ◌, inl, inr, ap, ap₂, sym, ◌∙◌, refl, FitsSigned, to_z, of_z, w64, false, unsigned_abs}
 use Rattle.std.proofs.lemmas.Bool.{cases_Bool}
 use Rattle.std.proofs.lemmas.Bool.Decides.{Decides-int_eq}
 use Rattle.std.proofs.lemmas.Int.{to_z-of_z}
 use Rattle.std.specs.Ordering.{int_eq}
-use Rattle.sgb_flip.specs.Generator.{Generator, IsGenerator, after, uniform}
-use Rattle.sgb_flip.proofs.Draws.{after-none}
-use Rattle.sgb_plan.specs.Length.{LengthDraw, drawn_length, length_above, width}
+use Rattle.sgb_flip.specs.Generator.{Generator, uniform}
+use Rattle.sgb_plan.specs.Length.{drawn_length, length_above, width}
 
 -- two numbers that are held alike
 pub same_held : (x y : ℤ) → FitsSigned w64 x → FitsSigned w64 y → of_z w64 x ≡ of_z w64 y → x ≡ y

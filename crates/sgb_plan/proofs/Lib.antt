@@ -1,1 +1,7 @@
+pub mod Distincts
+pub mod Dots
+pub mod Ids
+pub mod Joins
 pub mod Lengths
+pub mod Planning
+pub mod Shorts

@@ -1,5 +1,5 @@
 -- Ids: a word, and behind it in parentheses the parts, separated by commas.
-use Rattle.std.specs.Prelude.{◌+◌, ◌-◌, ◌/◌, ℕ, List, [], ◌∷◌, ◌++◌, length, take, map, codes, false, nat_le, if◌then◌else◌}
+use Rattle.std.specs.Prelude.{◌+◌, ◌-◌, ◌/◌, ℕ, List, [], ◌∷◌, ◌++◌, length, take, codes, false, nat_le, if◌then◌else◌}
 use Rattle.std.specs.List.{flat_map, join_with_byte, sum_by}
 use Rattle.std.specs.Fmt.{decimal, signed_decimal, digits}
 use Rattle.sgb_plan.specs.declared.part.Seed.{Seed}
@@ -12,11 +12,15 @@ abbrev pub seed_text : Seed → List ℕ
 seed_text (seeds.Number s) = signed_decimal s
 seed_text seeds.Current = codes "-"
 
+-- without leading zeros, behind `0x`
+abbrev pub hexadecimal : ℕ → List ℕ
+hexadecimal n = codes "0x" ++ digits 16 false n
+
 abbrev pub part_text : Part → List ℕ
 part_text (Number z) = signed_decimal z
 part_text (Count n) = decimal n
 part_text (Flag b) = if b then codes "1" else codes "0"
-part_text (Bits n) = codes "0x" ++ digits 16 false n
+part_text (Bits n) = hexadecimal n
 part_text (Drawn s) = seed_text s
 part_text (Word t) = t.now
 
@@ -57,6 +61,9 @@ widest (Bits n) = 18
 widest (Drawn s) = 20
 widest (Word t) = length t.now
 
--- how many bytes an id has at most
+-- how many bytes the parts have at most, each with a comma, and how many an id has
+abbrev pub widest_parts : List Part → ℕ
+widest_parts parts = sum_by (λ p. widest p + 1) parts
+
 abbrev pub widest_id : List ℕ → List Part → ℕ
-widest_id word parts = length word + 2 + sum_by (λ p. widest p + 1) parts
+widest_id word parts = length word + 2 + widest_parts parts

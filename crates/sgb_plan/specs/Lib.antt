@@ -3,3 +3,4 @@ pub mod Id
 pub mod Length
 pub mod Name
 pub mod Plan
+pub mod Private

@@ -1,5 +1,5 @@
 -- Graphs as they are planned, and what comes of a plan.
-use Rattle.std.specs.Prelude.{◌≡◌, ◌⊎◌, ◌<◌, ℕ, List, [], ◌++◌, length, map, Bool, ◌||◌, nat_lt, Result, Ok, Err, if◌then◌else◌}
+use Rattle.std.specs.Prelude.{◌≡◌, ◌⊎◌, ◌<◌, ℕ, List, ◌++◌, length, map, Bool, ◌||◌, nat_lt, Result, Ok, Err, if◌then◌else◌}
 use Rattle.sgb_graph.specs.declared.builder.Builder.{Builder}
 use Rattle.sgb_graph.specs.declared.field.Util.{Util}
 use Rattle.sgb_graph.specs.declared.refusal.Refusal.{Refusal}

@@ -1,11 +1,13 @@
 //! Ids: a word, and behind it in parentheses the parts, separated by commas.
-ghost use Rattle.std.specs.Prelude.{◌≡◌, ◌≤◌, ◌++◌, length, map, codes, IfOk, IfErr, OnOk, IsTrue};
-ghost use Rattle.std.specs.List.{list_all};
+ghost use Rattle.std.specs.Prelude.{◌≡◌, ◌<◌, ◌≤◌, ◌+◌, ◌/◌, ◌^◌, ◌++◌, if◌then◌else◌, nat_le, length, map, codes, IfOk, IfErr, OnOk, IsTrue};
+ghost use Rattle.std.specs.List.{list_all, join_with_byte};
 ghost use Rattle.sgb_graph.specs.Text.{IsText, is_text_byte};
-ghost use Rattle.sgb_plan.specs.Id.{id_of, id_of_one, id_of_two, behind_commas, part_text, shortened, widest_id};
+ghost use Rattle.sgb_plan.specs.Id.{id_of, id_of_one, id_of_two, behind_commas, part_text, shortened, widest_id, widest_parts};
+ghost use Rattle.sgb_plan.specs.Private.Bytes.{IsShort};
 
-use crate::{Part, Seed};
-use itoa::Buffer;
+use crate::append::append_part;
+use crate::text::text_of;
+use crate::Part;
 use sgb_graph::{Refusal, Text};
 use std::alloc::{AllocError, Global};
 
@@ -17,14 +19,10 @@ pub fn id_of(alloc: Global, word: &str, parts: &[Part<'_>]) -> Result<Text, Refu
     ensures short { IfOk result (λ id. length id ≤ 160) }
     ensures err { IfErr result (λ e. e ≡ Refusal.NoRoom) }
 {
-    let mut bytes = Vec::from_slice(alloc, word.as_bytes())?;
-    bytes.push(b'(')?;
-    if let Some((first, rest)) = parts.split_first() {
-        append_part(&mut bytes, first)?;
-        append_behind_commas(&mut bytes, rest)?;
-    }
+    let mut bytes = begin_id(alloc, word)?;
+    append_parts(&mut bytes, parts)?;
     bytes.push(b')')?;
-    Text::new(alloc, &bytes)
+    text_of(alloc, &bytes)
 }
 
 /// The id of a word, the id of a graph and further parts, as `complement(g,0,0,0)`. The graph's id is cut to the room
@@ -38,12 +36,11 @@ pub fn id_of_one(alloc: Global, word: &str, graph: &[u8], parts: &[Part<'_>]) ->
     ensures err { IfErr result (λ e. e ≡ Refusal.NoRoom) }
 {
     let end = end_of_id(alloc, parts)?;
-    let room = 159 - word.len() - end.len();
-    let mut bytes = Vec::from_slice(alloc, word.as_bytes())?;
-    bytes.push(b'(')?;
+    let room = 160 - (word.len() + 1 + end.len());
+    let mut bytes = begin_id(alloc, word)?;
     append_shortened(&mut bytes, room, graph)?;
     bytes.extend_from_slice(&end)?;
-    Text::new(alloc, &bytes)
+    text_of(alloc, &bytes)
 }
 
 /// The id of a word, the ids of two graphs and further parts, as `gunion(g,h,0,0)`. Where the others leave no room for
@@ -59,20 +56,41 @@ pub fn id_of_two(alloc: Global, word: &str, first: &[u8], second: &[u8], parts: 
     ensures err { IfErr result (λ e. e ≡ Refusal.NoRoom) }
 {
     let end = end_of_id(alloc, parts)?;
-    let room = 158 - word.len() - end.len();
-    let most = if first.len() + second.len() <= room { room } else { room / 2 };
-    let mut bytes = Vec::from_slice(alloc, word.as_bytes())?;
-    bytes.push(b'(')?;
+    let room = 160 - (word.len() + 2 + end.len());
+    let most = most_of_two(room, first.len(), second.len());
+    let mut bytes = begin_id(alloc, word)?;
     append_shortened(&mut bytes, most, first)?;
     bytes.push(b',')?;
     append_shortened(&mut bytes, most, second)?;
     bytes.extend_from_slice(&end)?;
-    Text::new(alloc, &bytes)
+    text_of(alloc, &bytes)
+}
+
+// The word and a parenthesis.
+fn begin_id(alloc: Global, word: &str) -> Result<Vec<u8>, AllocError>
+    ensures { IfOk result (λ bytes. bytes.items ≡ word.now ++ codes "(") }
+{
+    let mut bytes = Vec::from_slice(alloc, word.as_bytes())?;
+    bytes.push(b'(')?;
+    Ok(bytes)
+}
+
+// How long each of two ids may be, where they have this room together.
+fn most_of_two(room: usize, first: usize, second: usize) -> usize
+    requires { first + second < 2 ^ 64 }
+    ensures { result ≡ (if nat_le (first + second) room then room else room / 2) }
+{
+    if first + second <= room {
+        room
+    } else {
+        room / 2
+    }
 }
 
 // What stands in an id behind a first part: each part behind a comma, and a parenthesis.
 fn end_of_id(alloc: Global, parts: &[Part<'_>]) -> Result<Vec<u8>, AllocError>
-    ensures { IfOk result (λ end. end.items ≡ behind_commas (map part_text parts.now) ++ codes ")") }
+    ensures value { IfOk result (λ end. end.items ≡ behind_commas (map part_text parts.now) ++ codes ")") }
+    ensures short { IfOk result (λ end. IsShort (widest_parts parts.now + 1) end.items) }
 {
     let mut end = Vec::new(alloc);
     append_behind_commas(&mut end, parts)?;
@@ -80,31 +98,28 @@ fn end_of_id(alloc: Global, parts: &[Part<'_>]) -> Result<Vec<u8>, AllocError>
     Ok(end)
 }
 
+// Writes the parts, separated by commas.
+fn append_parts(bytes: &mut Vec<u8>, parts: &[Part<'_>]) -> Result<(), AllocError>
+    ensures ok { OnOk result (bytes.new.items ≡ bytes.old.items ++ join_with_byte 44 (map part_text parts.now)) }
+    ensures short { OnOk result (IsShort (widest_parts parts.now) (join_with_byte 44 (map part_text parts.now))) }
+{
+    let Some((first, rest)) = parts.split_first() else {
+        return Ok(());
+    };
+    append_part(bytes, first)?;
+    append_behind_commas(bytes, rest)
+}
+
 // Writes each part behind a comma.
 fn append_behind_commas(bytes: &mut Vec<u8>, parts: &[Part<'_>]) -> Result<(), AllocError>
-    ensures { OnOk result (bytes.new.items ≡ bytes.old.items ++ behind_commas (map part_text parts.now)) }
+    ensures ok { OnOk result (bytes.new.items ≡ bytes.old.items ++ behind_commas (map part_text parts.now)) }
+    ensures short { OnOk result (IsShort (widest_parts parts.now) (behind_commas (map part_text parts.now))) }
 {
     for part in parts {
         bytes.push(b',')?;
         append_part(bytes, part)?;
     }
     Ok(())
-}
-
-fn append_part(bytes: &mut Vec<u8>, part: &Part<'_>) -> Result<(), AllocError>
-    ensures { OnOk result (bytes.new.items ≡ bytes.old.items ++ part_text part.now) }
-{
-    let mut digits = Buffer::new();
-    match part {
-        Part::Number(number) => bytes.extend_from_slice(digits.format(*number).as_bytes()),
-        Part::Count(count) => bytes.extend_from_slice(digits.format(*count).as_bytes()),
-        Part::Flag(true) => bytes.extend_from_slice(b"1"),
-        Part::Flag(false) => bytes.extend_from_slice(b"0"),
-        Part::Bits(bits) => append_bits(bytes, *bits),
-        Part::Drawn(Seed::Number(seed)) => bytes.extend_from_slice(digits.format(*seed).as_bytes()),
-        Part::Drawn(Seed::Current) => bytes.extend_from_slice(b"-"),
-        Part::Word(text) => bytes.extend_from_slice(text.bytes()),
-    }
 }
 
 // Writes the text, or where it has more than `most` bytes, all but four of these, and `...)`.
@@ -117,13 +132,4 @@ fn append_shortened(bytes: &mut Vec<u8>, most: usize, text: &[u8]) -> Result<(),
     }
     bytes.extend_from_slice(&text[..most - 4])?;
     bytes.extend_from_slice(b"...)")
-}
-
-// Writes the number in hexadecimal, behind `0x`.
-fn append_bits(bytes: &mut Vec<u8>, bits: u64) -> Result<(), AllocError>
-    ensures { OnOk result (bytes.new.items ≡ bytes.old.items ++ part_text (Part.Bits bits)) }
-{
-    let alloc = *bytes.allocator();
-    let digits = format!(in alloc; "0x{bits:x}")?;
-    bytes.extend_from_slice(digits.as_bytes())
 }

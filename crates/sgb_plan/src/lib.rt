@@ -1,12 +1,15 @@
 //! What generated graphs and combinations share: plans of graphs, drawn lengths, names and ids.
 #![tactic(auto)]
 
+mod append;
 mod id;
 mod length;
 mod name;
 mod part;
+mod text;
 
 pub use id::{id_of, id_of_one, id_of_two};
 pub use length::{DrawnLength, LengthRange};
 pub use name::{append_dotted, dotted};
 pub use part::{Part, Seed};
+pub use text::text_of;

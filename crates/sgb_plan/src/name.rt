@@ -1,8 +1,12 @@
 //! Names that are numbers, joined by dots.
-ghost use Rattle.std.specs.Prelude.{◌≡◌, ◌≤◌, ◌++◌, length, take, decimal, IfOk, IfErr, OnOk, OnErr};
+ghost use Rattle.std.specs.Prelude.{◌≡◌, ◌≤◌, ◌*◌, ◌++◌, IsTrue, length, take, IfOk, IfErr, OnOk, OnErr};
+ghost use Rattle.std.specs.List.{list_all};
+ghost use Rattle.sgb_graph.specs.Text.{is_text_byte};
 ghost use Rattle.sgb_plan.specs.Name.{dotted};
+ghost use Rattle.sgb_plan.specs.Private.Bytes.{IsShort};
 
-use itoa::Buffer;
+use crate::append::append_count;
+use crate::text::text_of;
 use sgb_graph::{Refusal, Text};
 use std::alloc::{AllocError, Global};
 
@@ -14,13 +18,15 @@ pub fn dotted(alloc: Global, parts: &[u32]) -> Result<Text, Refusal>
 {
     let mut bytes = Vec::new(alloc);
     append_dotted(&mut bytes, parts)?;
-    Text::new(alloc, &bytes)
+    text_of(alloc, &bytes)
 }
 
 /// Writes the name of these numbers behind the bytes, so that many names can stand in one buffer.
 pub fn append_dotted(bytes: &mut Vec<u8>, parts: &[u32]) -> Result<(), AllocError>
     ensures ok { OnOk result (bytes.new.items ≡ bytes.old.items ++ dotted parts.now) }
     ensures err { OnErr result (bytes.new.items ≡ bytes.old.items) }
+    ensures short { OnOk result (length (dotted parts.now) ≤ 11 * length parts.now) }
+    ensures text { OnOk result (IsTrue (list_all is_text_byte (dotted parts.now))) }
 {
     let before = bytes.len();
     let result = append_numbers(bytes, parts);
@@ -34,22 +40,15 @@ pub fn append_dotted(bytes: &mut Vec<u8>, parts: &[u32]) -> Result<(), AllocErro
 fn append_numbers(bytes: &mut Vec<u8>, parts: &[u32]) -> Result<(), AllocError>
     ensures kept { take (length bytes.old.items) bytes.new.items ≡ bytes.old.items }
     ensures ok { OnOk result (bytes.new.items ≡ bytes.old.items ++ dotted parts.now) }
+    ensures short { OnOk result (IsShort (11 * length parts.now) (dotted parts.now)) }
 {
     let Some((first, rest)) = parts.split_first() else {
         return Ok(());
     };
-    append_number(bytes, *first)?;
+    append_count(bytes, *first)?;
     for part in rest {
         bytes.push(b'.')?;
-        append_number(bytes, *part)?;
+        append_count(bytes, *part)?;
     }
     Ok(())
-}
-
-fn append_number(bytes: &mut Vec<u8>, number: u32) -> Result<(), AllocError>
-    ensures ok { OnOk result (bytes.new.items ≡ bytes.old.items ++ decimal number) }
-    ensures err { OnErr result (bytes.new.items ≡ bytes.old.items) }
-{
-    let mut digits = Buffer::new();
-    bytes.extend_from_slice(digits.format(number).as_bytes())
 }

@@ -1,8 +1,8 @@
-use Rattle.std.proofs.Common.{◌≡◌, ◌+◌, rules, ℕ, ℤ, pos, ◌+ℤ◌, ap, sym, ◌∙◌, FitsSigned, to_z, of_z, w64, arith}
+use Rattle.std.proofs.Common.{◌≡◌, rules, pos, ◌+ℤ◌, ap, sym, ◌∙◌, FitsSigned, to_z, of_z, w64, arith}
 use Rattle.std.proofs.lemmas.Int.{ints, to_z-of_z}
-use Rattle.sgb_flip.specs.Generator.{Generator, uniform}
+use Rattle.sgb_flip.specs.Generator.{uniform}
 use Rattle.sgb_flip.proofs.Draws.{after-none}
-use Rattle.sgb_plan.specs.Length.{LengthDraw, width}
+use Rattle.sgb_plan.specs.Length.{LengthDraw}
 use Rattle.sgb_plan.proofs.Lengths.{same_held, drawn-equal, drawn-apart, bound-is}
 use Rattle.sgb_plan.proofs.length.LengthRange.draw.Goals as goal
 

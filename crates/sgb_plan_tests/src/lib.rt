@@ -1,0 +1,15 @@
+//! Tests of drawn lengths, names and ids, and an example of a generator over a plan.
+#![tactic(auto)]
+
+mod example;
+
+pub use example::path;
+
+#[cfg(test)]
+mod ids;
+#[cfg(test)]
+mod lengths;
+#[cfg(test)]
+mod names;
+#[cfg(test)]
+mod paths;

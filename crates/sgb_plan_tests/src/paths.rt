@@ -1,0 +1,22 @@
+// The example of a generator.
+use crate::path;
+use sgb_graph::Refusal;
+use std::test::Fail;
+
+#[test]
+fn three_in_a_row(rt: HostRuntime) -> Result<(), Fail> {
+    let graph = path(rt.alloc(), 3, true)?;
+    assert_eq!(rt; graph.id(), b"path(3)".as_slice());
+    assert_eq!(rt; graph.n(), 3);
+    assert_eq!(rt; graph.m(), 2);
+    Ok(())
+}
+
+#[test]
+fn refused(rt: HostRuntime) -> Result<(), Fail> {
+    assert_eq!(rt; path(rt.alloc(), 0, false).err(), Some(Refusal::BadSpecs));
+    assert_eq!(rt; path(rt.alloc(), 65_536, true).err(), Some(Refusal::TooLarge));
+    let longest = path(rt.alloc(), 65_535, false)?;
+    assert_eq!(rt; longest.made(), 131_068);
+    Ok(())
+}
