@@ -32,8 +32,3 @@ header_at bs = do
   rest' ← after (codes ",") types.1
   counts ← counts_at rest'
   if ends_line counts.1 then Some (record { types = types.0; vertices = counts.0.0; arcs = counts.0.1 }, counts.1) else None
-
--- at most 65,535 vertices and 1,000,000 arc numbers
-pub record IsWithinLimits (h : Header) : Type 0 where
-  pub vertices : h.vertices ≤ 65535
-  pub arcs : h.arcs ≤ 1000000
