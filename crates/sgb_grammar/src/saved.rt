@@ -33,7 +33,8 @@ struct Records {
 /// Reads what follows a first line. Takes memory for the records and their texts.
 #[tactic(auto, unfolding(crate::specs::Saved::saved_in))]
 pub fn read_saved<'a>(alloc: Global, header: &Header, bytes: &'a [u8]) -> Result<Saved<'a>, Fault>
-    ensures { Holds result (saved_in header.now bytes.now) }
+    ensures found { Holds result (saved_in header.now bytes.now) }
+    ensures range { IfOk result (λ s. FitsSigned w64 s.number) }
 {
     let lines = after(b"\n", bytes)?;
     let (found, rest) = all_records(alloc, header, lines)?;

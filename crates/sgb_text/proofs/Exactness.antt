@@ -19,6 +19,10 @@ or_else d (Some x) = x
 one_of : {A : Type 0} (o : Option A) (x y : A) → o ≡ Some x → o ≡ Some y → x ≡ y
 one_of o x y e f = ap (or_else x) (sym e ∙ f)
 
+some_or_none : {A : Type 0} (o : Option A) (x : A) → o ≡ Some x → o ≡ None → ⊥
+some_or_none None x e f = cc
+some_or_none (Some y) x e f = cc
+
 one_saved : (t : List ℕ) (g h : GraphOf) (s r : SavedOf) → Reads t g s → Reads t h r → s ≡ r
 one_saved t g h s r a b =
     let first = one_of (header_at t) (a.header, a.rest) (b.header, b.rest) a.first b.first in
@@ -33,7 +37,7 @@ one_graph law rule other t g h a b =
 
 pub refused_for_room : (rule : CheckRule) (t : List ℕ) (g : GraphOf) (e : Refusal) → Accepted rule t g → Refused rule t e → e ≡ NoRoom
 refused_for_room rule t g NoRoom a r = refl
-refused_for_room rule t g Syntax a (inl bad) = let none : Some (a.reads.header, a.reads.rest) ≡ None = sym a.reads.first ∙ bad in cc
+refused_for_room rule t g Syntax a (inl bad) = absurd (some_or_none (header_at t) (a.reads.header, a.reads.rest) a.reads.first bad)
 refused_for_room rule t g Syntax a (inr spoiled) = absurd (spoiled.1 g a.saved a.reads)
 refused_for_room rule t g TooLarge a r =
     let first = one_of (header_at t) (a.reads.header, a.reads.rest) (r.header, r.rest) a.reads.first r.first in

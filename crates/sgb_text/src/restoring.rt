@@ -3,7 +3,7 @@ ghost use Rattle.std.specs.Prelude.{◌≡◌, IfOk, IfErr};
 ghost use Rattle.sgb_text.specs.Restore.{Accepted, Refused, is_within_limits, passes, IsReadAsOne, IsRefusedForRoom};
 
 use sgb_grammar::{Fault, Header, check_number, read_header, read_saved};
-use sgb_graph::{Graph, Refusal, build_law};
+use sgb_graph::{Graph, Refusal};
 use std::alloc::Global;
 
 /// Whether the check number of a text is compared.
@@ -71,5 +71,4 @@ pub fn answers_are_exact()
     ensures graph { IsReadAsOne }
     ensures refusals { IsRefusedForRoom }
 {
-    build_law();
 }

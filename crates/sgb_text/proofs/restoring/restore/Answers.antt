@@ -1,4 +1,6 @@
-use Rattle.std.proofs.Common.{sym, ◌∙◌}
+use Rattle.std.proofs.Common.{sym, ap, ◌∙◌, w64}
+use Rattle.std.proofs.lemmas.Int.{to_z-of_z}
+use Rattle.sgb_text.specs.Restore.{passes}
 use Rattle.sgb_grammar.specs.Saved.{shown}
 use Rattle.sgb_text.proofs.restoring.restore.Goals as goal
 
@@ -10,10 +12,12 @@ returns-then-agrees-clause-ok c = record {
     rest = c.in-Ok.lines.now;
     first = c.in-Ok.ensures;
     within = sym c.is_within_limits.ensures ∙ c.if-not-is_within_limits.false;
-    spelled = c.in-Ok-read_saved.ensures;
+    spelled = c.in-Ok-read_saved.ensures.found;
     graph = c.in-Ok-build.ensures.ok;
   };
-  passed = sym c.passes-agrees.ensures ∙ c.if-agrees.true;
+  passed =
+    ap (λ z. passes c.args.rule z c.in-Ok-read_saved.saved.body.now) (sym (to_z-of_z w64 c.in-Ok-read_saved.saved.number c.in-Ok-read_saved.ensures.range))
+    ∙ sym c.passes-agrees.ensures ∙ c.if-agrees.true;
 }
 
 pub returns-else-agrees-clause-err : goal.returns-else-agrees-clause-err
@@ -25,8 +29,10 @@ returns-else-agrees-clause-err c = record {
     rest = c.in-Ok.lines.now;
     first = c.in-Ok.ensures;
     within = sym c.is_within_limits.ensures ∙ c.if-not-is_within_limits.false;
-    spelled = c.in-Ok-read_saved.ensures;
+    spelled = c.in-Ok-read_saved.ensures.found;
     graph = c.in-Ok-build.ensures.ok;
   };
-  failed = sym c.passes-agrees.ensures ∙ c.if-agrees.false;
+  failed =
+    ap (λ z. passes c.args.rule z c.in-Ok-read_saved.saved.body.now) (sym (to_z-of_z w64 c.in-Ok-read_saved.saved.number c.in-Ok-read_saved.ensures.range))
+    ∙ sym c.passes-agrees.ensures ∙ c.if-agrees.false;
 }
