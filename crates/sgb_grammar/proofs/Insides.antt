@@ -1,8 +1,7 @@
 -- What stands inside quotes, run by run.
-use Rattle.std.proofs.Common.{◌≡◌, ◌≢◌, ℕ, suc, ◌+◌, ◌<◌, ◌≤◌, ◌==◌, Bool, true, false, not, ◌&&◌, nat_le, List, [], ◌∷◌, ◌++◌, take, drop, length, get_or, slice_index, Option, Some, None, refl, sym, ap, ◌∙◌, inl, inr, arith, append_assoc}
-use Rattle.std.specs.Option.{option_and_then}
+use Rattle.std.proofs.Common.{◌≡◌, ◌≢◌, ℕ, suc, ◌+◌, ◌<◌, ◌≤◌, ◌==◌, Bool, true, false, not, ◌&&◌, nat_le, List, [], ◌∷◌, ◌++◌, take, drop, length, slice_index, Option, Some, None, refl, sym, ap, ◌∙◌, inl, inr, arith, append_assoc}
 use Rattle.std.specs.List.{prefix_len, list_all}
-use Rattle.std.proofs.lemmas.Bool.{cases_Bool, and_parts, eqb-true, eqb-false, not-true, ne_eqb, le-leb, lt-leb}
+use Rattle.std.proofs.lemmas.Bool.{cases_Bool, and_parts, not-true, ne_eqb, le-leb, lt-leb}
 use Rattle.std.proofs.lemmas.List.{append-nil}
 use Rattle.sgb_graph.specs.Text.{is_text_byte}
 use Rattle.sgb_grammar.specs.Reading.{after, behind}
@@ -35,8 +34,8 @@ inside_run (c ∷ cs) =
     let k = prefix_len is_text_byte cs in
     elim (cases_Bool (is_text_byte c)) [
       | inl yes' ↦
-        let more : 1 + k ≡ suc k = omega arith in
-        rw (yes', more) (text_byte c cs yes' ∙ ap (behind (c ∷ [])) (inside_run cs) ∙ behind_both (c ∷ []) (take k cs) (inside_at false (drop k cs)))
+          let more : 1 + k ≡ suc k = omega arith in
+          rw (yes', more) (text_byte c cs yes' ∙ ap (behind (c ∷ [])) (inside_run cs) ∙ behind_both (c ∷ []) (take k cs) (inside_at false (drop k cs)))
       | inr no' ↦ rw no' (sym (behind_nothing (inside_at false (c ∷ cs))))
     ]
 

@@ -1,5 +1,5 @@
 -- What lines weigh.
-use Rattle.std.proofs.Common.{◌≡◌, ℕ, suc, ◌+◌, ◌-◌, ◌*◌, ◌/◌, ◌%◌, ◌^◌, ◌<◌, ◌≤◌, ◌==◌, not, Bool, true, false, List, [], ◌∷◌, ◌++◌, take, drop, length, get_or, refl, sym, ap, ◌∙◌, inl, inr, arith, ◌&&◌, zero, add-one, length-append}
+use Rattle.std.proofs.Common.{◌≡◌, ℕ, suc, ◌+◌, ◌-◌, ◌*◌, ◌/◌, ◌%◌, ◌^◌, ◌<◌, ◌≤◌, ◌==◌, not, Bool, true, List, [], ◌∷◌, ◌++◌, take, drop, length, get_or, refl, sym, ap, ◌∙◌, inl, inr, arith, ◌&&◌, zero, length-append}
 use Rattle.std.specs.List.{prefix_len, flat_map}
 use Rattle.std.proofs.lemmas.Bool.{cases_Bool, cases_eq, and_parts, eqb-true}
 use Rattle.std.proofs.lemmas.List.{take_more}
@@ -45,8 +45,8 @@ byte_weighs s v code p xs i h e f =
     let c = code_of (get_or xs i 0) in
     let power : 2 ^ (i + 1) ≡ 2 ^ i * 2 = pow-add 2 i 1 in
     let whole : before * 2 + c ≡ s * 2 ^ (i + 1) + weighed (take (i + 1) xs) =
-        (let doubled : before * 2 + c ≡ s * (2 ^ i * 2) + (weighed (take i xs) * 2 + c) = omega arith in
-        doubled ∙ ap (λ k. s * k + (weighed (take i xs) * 2 + c)) (sym power) ∙ ap (λ k. s * 2 ^ (i + 1) + k) (sym (weighed_more xs i h))) in
+    (let doubled : before * 2 + c ≡ s * (2 ^ i * 2) + (weighed (take i xs) * 2 + c) = omega arith in
+    doubled ∙ ap (λ k. s * k + (weighed (take i xs) * 2 + c)) (sym power) ∙ ap (λ k. s * 2 ^ (i + 1) + k) (sym (weighed_more xs i h))) in
     ap (λ k. (k * 2 + code) % p) e ∙ ap (λ k. (before % p * 2 + k) % p) f ∙ sym (reduced before 2 c p) ∙ ap (λ k. k % p) whole
 
 pub line_weighs : (s p : ℕ) (xs ys : List ℕ)
@@ -80,10 +80,10 @@ line_ends [] h = absurd (omega arith)
 line_ends (c ∷ cs) h = elim (cases_Bool (c == 10)) [
   | inl newline ↦ rw newline (ap (λ b. (b ∷ []) ∷ lines_of cs) (sym (eqb-true c 10 newline)))
   | inr other ↦
-    let k = prefix_len (λ b. not (b == 10)) cs in
-    let short : k < length cs = (let inside : 1 + k < suc (length cs) = rw other at h in omega arith) in
-    let more : 1 + k + 1 ≡ suc (k + 1) = omega arith in
-    rw (other, more) (ap (with_first c) (line_ends cs short))
+      let k = prefix_len (λ b. not (b == 10)) cs in
+      let short : k < length cs = (let inside : 1 + k < suc (length cs) = rw other at h in omega arith) in
+      let more : 1 + k + 1 ≡ suc (k + 1) = omega arith in
+      rw (other, more) (ap (with_first c) (line_ends cs short))
 ]
 
 pub last_line : (bs : List ℕ) → 0 < length bs → length bs ≤ prefix_len (λ b. not (b == 10)) bs → lines_of bs ≡ bs ∷ []
@@ -96,9 +96,9 @@ last_line (c ∷ []) some h = elim (cases_Bool (c == 10)) [
 last_line (c ∷ d ∷ ds) some h = elim (cases_Bool (c == 10)) [
   | inl newline ↦ absurd (let bad : suc (length (d ∷ ds)) ≤ 0 = rw newline at h in omega arith)
   | inr other ↦
-    let k = prefix_len (λ b. not (b == 10)) (d ∷ ds) in
-    let short : length (d ∷ ds) ≤ k = (let inside : suc (length (d ∷ ds)) ≤ 1 + k = rw other at h in omega arith) in
-    rw other (ap (with_first c) (last_line (d ∷ ds) (omega arith) short))
+      let k = prefix_len (λ b. not (b == 10)) (d ∷ ds) in
+      let short : length (d ∷ ds) ≤ k = (let inside : suc (length (d ∷ ds)) ≤ 1 + k = rw other at h in omega arith) in
+      rw other (ap (with_first c) (last_line (d ∷ ds) (omega arith) short))
 ]
 
 pub nil_from_length : (xs : List ℕ) → length xs ≡ 0 → xs ≡ []

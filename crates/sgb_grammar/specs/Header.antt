@@ -1,5 +1,5 @@
 -- The first line of a saved text.
-use Rattle.std.specs.Prelude.{ℕ, ◌≤◌, ◌==◌, ◌&&◌, Bool, true, List, [], ◌∷◌, take, drop, length, codes, Option, Some, None, option_and_then, if◌then◌else◌}
+use Rattle.std.specs.Prelude.{ℕ, ◌==◌, ◌&&◌, Bool, true, List, [], ◌∷◌, take, drop, length, codes, Option, Some, None, if◌then◌else◌}
 use Rattle.std.specs.List.{list_all}
 use Rattle.sgb_graph.specs.Types.{is_letter}
 use Rattle.sgb_grammar.specs.declared.header.Header.{Header}

@@ -1,5 +1,5 @@
 -- Numbers: one digit or more, and a minus before them where one is allowed.
-use Rattle.std.specs.Prelude.{ℕ, ◌-◌, ◌^◌, ◌==◌, nat_lt, nat_le, List, [], ◌∷◌, take, drop, codes, ℤ, pos, neg_ℤ, Option, None, Some, option_and_then, if◌then◌else◌}
+use Rattle.std.specs.Prelude.{ℕ, ◌^◌, ◌==◌, nat_lt, nat_le, List, take, drop, codes, ℤ, pos, neg_ℤ, Option, None, Some, option_and_then, if◌then◌else◌}
 use Rattle.std.specs.List.{prefix_len}
 use Rattle.std.specs.Char.{is_ascii_digit}
 use Rattle.std.specs.Str.Parse.{digits_value}

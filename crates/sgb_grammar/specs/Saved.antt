@@ -1,5 +1,5 @@
 -- A whole saved text.
-use Rattle.std.specs.Prelude.{◌≡◌, ℕ, ℤ, ◌-◌, nat_le, List, [], ◌∷◌, ◌++◌, take, length, codes, Option, Some, None, option_and_then, Result, Ok, Err, if◌then◌else◌}
+use Rattle.std.specs.Prelude.{◌≡◌, ℕ, ℤ, ◌-◌, nat_le, List, [], ◌∷◌, ◌++◌, take, length, codes, Option, Some, None, Result, Ok, Err, if◌then◌else◌}
 use Rattle.sgb_graph.specs.Honest.{vertex_letters, arc_letters, graph_letters}
 use Rattle.sgb_graph.specs.declared.parts.Parts.{Parts}
 use Rattle.sgb_graph.specs.declared.parts.VertexPart.{VertexPart}

@@ -16,6 +16,7 @@ const ID_LIMIT: usize = 160;
 
 /// The fewest bytes that a vertex takes, and an arc.
 const SHORTEST_VERTEX: usize = 5;
+
 const SHORTEST_ARC: usize = 6;
 
 /// What the graph's own record says: its id, how many of the vertices are its own, and its fields.
@@ -28,7 +29,11 @@ pub(crate) struct Own {
 
 /// The graph's own record, and what follows it. Its count of arcs is read and not kept.
 #[tactic(auto, unfolding(crate::specs::Record::own_at))]
-pub(crate) fn own_record<'a>(alloc: Global, letters: &[u8], bytes: &'a [u8]) -> Result<(Own, &'a [u8]), Fault>
+pub(crate) fn own_record<'a>(
+    alloc: Global,
+    letters: &[u8],
+    bytes: &'a [u8],
+) -> Result<(Own, &'a [u8]), Fault>
     requires { length letters.now ≡ 6 }
     ensures { Reads result (own_at letters.now bytes.now) }
 {

@@ -9,9 +9,10 @@ pub bytes-init : goal.bytes-init
 bytes-init c = (sym (nothing_weighs c.args.sum (2 ^ 30 - 83) c.requires), c.requires)
 
 pub bytes-preserved : goal.bytes-preserved
-bytes-preserved c =
-    (byte_weighs c.args.sum c.bytes.value c.from.result (2 ^ 30 - 83) c.args.line.now c.bytes.byte-index c.bytes-test.true c.bytes.invariant.0 (c.from.ensures ∙ c.code_of.ensures),
-    mod-lt (c.bytes.value * 2 + c.from.result) (omega arith))
+bytes-preserved c = (
+  byte_weighs c.args.sum c.bytes.value c.from.result (2 ^ 30 - 83) c.args.line.now c.bytes.byte-index c.bytes-test.true c.bytes.invariant.0 (c.from.ensures ∙ c.code_of.ensures),
+  mod-lt (c.bytes.value * 2 + c.from.result) (omega arith),
+)
 
 pub returns-clause-value : goal.returns-clause-value
 returns-clause-value c =

@@ -1,4 +1,4 @@
-use Rattle.std.proofs.Common.{◌-◌, ◌^◌, min, take, drop, Some, ap, sym, ◌∙◌}
+use Rattle.std.proofs.Common.{◌-◌, ◌^◌, min, take, Some, ap, sym, ◌∙◌}
 use Rattle.std.specs.Str.Parse.{digits_value}
 use Rattle.std.proofs.lemmas.Bool.{eqb-true, eqb-false}
 use Rattle.sgb_grammar.proofs.Naturals.{front_digits, no_digits, some_digits}

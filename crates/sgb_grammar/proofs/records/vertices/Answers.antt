@@ -14,7 +14,7 @@ records-preserved c =
     let letters = c.args.letters.now in
     let rest = c.in-Ok.behind.now in
     let kept : c.push.new.self ≡ c.records.parts ++ (c.in-Ok.part ∷ []) =
-        when_ok c.push.result (c.push.new.self ≡ c.records.parts ++ (c.in-Ok.part ∷ [])) (sym c.is_err.ensures.value ∙ c.if-is_err.false) c.push.ensures.ok in
+    when_ok c.push.result (c.push.new.self ≡ c.records.parts ++ (c.in-Ok.part ∷ [])) (sym c.is_err.ensures.value ∙ c.if-is_err.false) c.push.ensures.ok in
     c.records.invariant
     ∙ each_more vertex_at letters c.args.count c.records._i c.records.rest.now rest c.records.parts c.in-Ok.part c.records-test.true c.in-Ok.ensures
     ∙ ap (λ ps. behind ps (each_at vertex_at (replicate (c.args.count - (c.records._i + 1)) letters) rest)) (sym kept)

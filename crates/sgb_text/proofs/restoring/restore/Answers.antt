@@ -16,8 +16,8 @@ returns-then-agrees-clause-ok c = record {
     graph = c.in-Ok-build.ensures.ok;
   };
   passed =
-    ap (λ z. passes c.args.rule z c.in-Ok-read_saved.saved.body.now) (sym (to_z-of_z w64 c.in-Ok-read_saved.saved.number c.in-Ok-read_saved.ensures.range))
-    ∙ sym c.passes-agrees.ensures ∙ c.if-agrees.true;
+      ap (λ z. passes c.args.rule z c.in-Ok-read_saved.saved.body.now) (sym (to_z-of_z w64 c.in-Ok-read_saved.saved.number c.in-Ok-read_saved.ensures.range))
+      ∙ sym c.passes-agrees.ensures ∙ c.if-agrees.true;
 }
 
 pub returns-else-agrees-clause-err : goal.returns-else-agrees-clause-err
@@ -33,6 +33,6 @@ returns-else-agrees-clause-err c = record {
     graph = c.in-Ok-build.ensures.ok;
   };
   failed =
-    ap (λ z. passes c.args.rule z c.in-Ok-read_saved.saved.body.now) (sym (to_z-of_z w64 c.in-Ok-read_saved.saved.number c.in-Ok-read_saved.ensures.range))
-    ∙ sym c.passes-agrees.ensures ∙ c.if-agrees.false;
+      ap (λ z. passes c.args.rule z c.in-Ok-read_saved.saved.body.now) (sym (to_z-of_z w64 c.in-Ok-read_saved.saved.number c.in-Ok-read_saved.ensures.range))
+      ∙ sym c.passes-agrees.ensures ∙ c.if-agrees.false;
 }
