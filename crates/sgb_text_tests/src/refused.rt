@@ -59,8 +59,24 @@ fn the_check_number_is_compared(rt: HostRuntime) -> Result<(), Fail> {
     let vertex = b"\"\",A0";
     let arc = b"V1,0,5";
     assert!(rt; changed(rt.alloc(), vertex, arc, CHECK, CheckRule::Match)? == 0);
-    assert!(rt; changed(rt.alloc(), vertex, arc, b"* Checksum 450523823", CheckRule::Match)? == 11);
-    assert!(rt; changed(rt.alloc(), vertex, arc, b"* Checksum 450523823", CheckRule::Any)? == 0);
+    assert!(rt;
+        changed(
+            rt.alloc(),
+            vertex,
+            arc,
+            b"* Checksum 450523823",
+            CheckRule::Match
+        )? == 11
+    );
+    assert!(rt;
+        changed(
+            rt.alloc(),
+            vertex,
+            arc,
+            b"* Checksum 450523823",
+            CheckRule::Any
+        )? == 0
+    );
     assert!(rt; changed(rt.alloc(), vertex, arc, b"* Checksum -1", CheckRule::Match)? == 0);
     Ok(())
 }
@@ -72,7 +88,15 @@ fn chains_neither_meet_nor_return(rt: HostRuntime) -> Result<(), Fail> {
     assert!(rt; changed(rt.alloc(), vertex, b"V1,A0,5", CHECK, CheckRule::Any)? == 20);
     assert!(rt; changed(rt.alloc(), vertex, b"V1,A2,5", CHECK, CheckRule::Any)? == 20);
     assert!(rt; changed(rt.alloc(), vertex, b"V1,00,5", CHECK, CheckRule::Any)? == 20);
-    assert!(rt; changed(rt.alloc(), vertex, b"V1,\n0,\n5", b"* Checksum -1", CheckRule::Match)? == 0);
+    assert!(rt;
+        changed(
+            rt.alloc(),
+            vertex,
+            b"V1,\n0,\n5",
+            b"* Checksum -1",
+            CheckRule::Match
+        )? == 0
+    );
     Ok(())
 }
 
