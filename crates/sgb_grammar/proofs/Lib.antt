@@ -1,0 +1,6 @@
+mod Eaches
+mod Insides
+mod Lines
+mod Naturals
+mod Weights
+mod Words

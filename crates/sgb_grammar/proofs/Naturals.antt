@@ -1,0 +1,72 @@
+-- What digits spell.
+use Rattle.std.proofs.Common.{◌≡◌, ◌≢◌, ℕ, suc, ◌+◌, ◌-◌, ◌*◌, ◌^◌, ◌<◌, ◌≤◌, min, true, nat_lt, nat_le, List, [], ◌∷◌, take, drop, Option, Some, None, pos, neg_ℤ, refl, sym, ap, ◌∙◌, inl, inr, arith}
+use Rattle.std.specs.Option.{option_and_then}
+use Rattle.std.specs.Char.{is_ascii_digit, digit_value}
+use Rattle.std.specs.Str.Parse.{AllDigits, digits_value}
+use Rattle.std.proofs.lemmas.Bool.{cases_Bool, and_parts, lt-ltb, le-ltb, le-leb, lt-leb, leb-true, eq-eqb, ne_eqb}
+use Rattle.sgb_grammar.specs.Number.{digits_in, digits_at, count_of, positive_of, negative_of}
+
+pub digit_is : (c : ℕ) → 48 ≤ c → c ≤ 57 → digit_value c ≡ c - 48
+digit_is c low high = rw (le-ltb c 48 low, lt-ltb c 58 (omega arith)) refl
+
+digit_below : (c : ℕ) → is_ascii_digit c ≡ true → digit_value c < 10
+digit_below c h =
+    let p = and_parts (nat_le 48 c) (nat_le c 57) h in
+    let low = leb-true 48 c p.0 in
+    let high = leb-true c 57 p.1 in
+    rw (digit_is c low high) (omega arith)
+
+pub front_digits : (bs : List ℕ) → AllDigits 10 (take (digits_in bs) bs)
+front_digits [] = tt
+front_digits (c ∷ cs) = elim (cases_Bool (is_ascii_digit c)) [
+  | inl digit ↦ let more : 1 + digits_in cs ≡ suc (digits_in cs) = omega arith in rw (digit, more) (digit_below c digit, front_digits cs)
+  | inr other ↦ rw other tt
+]
+
+-- one digit more, each number cut off
+pub worth_more : (top n v p q d : ℕ) → v ≡ min n top → p ≡ min (v * 10) top → q ≡ min (p + d) top → q ≡ min (n * 10 + d) top
+worth_more top n v p q d e f g = omega arith
+
+pub no_digits : (bs : List ℕ) (k : ℕ) → k ≡ digits_in bs → k ≡ 0 → digits_at bs ≡ None
+unfolding digits_at
+no_digits bs k e z = rw (eq-eqb (digits_in bs) 0 (sym e ∙ z)) refl
+
+pub some_digits : (bs : List ℕ) (k : ℕ) → k ≡ digits_in bs → k ≢ 0 → digits_at bs ≡ Some (digits_value 10 (take k bs), drop k bs)
+unfolding digits_at
+some_digits bs k e nz = rw (ne_eqb (digits_in bs) 0 (λ z. nz (e ∙ z))) (ap (λ j. Some (digits_value 10 (take j bs), drop j bs)) (sym e))
+
+uncapped : (n v : ℕ) → v ≡ min n (2 ^ 64 - 1) → v ≤ 2 ^ 63 → n ≡ v
+uncapped n v e h = omega arith
+
+large : (n v : ℕ) → v ≡ min n (2 ^ 64 - 1) → 2 ^ 63 ≤ v → 2 ^ 63 ≤ n
+large n v e h = omega arith
+
+larger : (n v : ℕ) → v ≡ min n (2 ^ 64 - 1) → 2 ^ 63 < v → 2 ^ 63 < n
+larger n v e h = omega arith
+
+pub count_small : (m : Option (ℕ × List ℕ)) (n v : ℕ) (rest : List ℕ) → m ≡ Some (n, rest) → v ≡ min n (2 ^ 64 - 1) → v < 2 ^ 63 → option_and_then count_of m ≡ Some (v, rest)
+count_small m n v rest e f h =
+    let same = uncapped n v f (omega arith) in
+    let small : nat_lt n (2 ^ 63) ≡ true = lt-ltb n (2 ^ 63) (omega arith) in
+    rw (e, small) (ap (λ k. Some (k, rest)) same)
+
+pub count_large : (m : Option (ℕ × List ℕ)) (n v : ℕ) (rest : List ℕ) → m ≡ Some (n, rest) → v ≡ min n (2 ^ 64 - 1) → 2 ^ 63 ≤ v → option_and_then count_of m ≡ None
+count_large m n v rest e f h = rw (e, le-ltb n (2 ^ 63) (large n v f h)) refl
+
+pub positive_small : (m : Option (ℕ × List ℕ)) (n v : ℕ) (rest : List ℕ) → m ≡ Some (n, rest) → v ≡ min n (2 ^ 64 - 1) → v < 2 ^ 63 → option_and_then positive_of m ≡ Some (pos v, rest)
+positive_small m n v rest e f h =
+    let same = uncapped n v f (omega arith) in
+    let small : nat_lt n (2 ^ 63) ≡ true = lt-ltb n (2 ^ 63) (omega arith) in
+    rw (e, small) (ap (λ k. Some (pos k, rest)) same)
+
+pub positive_large : (m : Option (ℕ × List ℕ)) (n v : ℕ) (rest : List ℕ) → m ≡ Some (n, rest) → v ≡ min n (2 ^ 64 - 1) → 2 ^ 63 ≤ v → option_and_then positive_of m ≡ None
+positive_large m n v rest e f h = rw (e, le-ltb n (2 ^ 63) (large n v f h)) refl
+
+pub negative_small : (m : Option (ℕ × List ℕ)) (n v : ℕ) (rest : List ℕ) → m ≡ Some (n, rest) → v ≡ min n (2 ^ 64 - 1) → v ≤ 2 ^ 63 → option_and_then negative_of m ≡ Some (neg_ℤ (pos v), rest)
+negative_small m n v rest e f h =
+    let same = uncapped n v f h in
+    let small : nat_le n (2 ^ 63) ≡ true = le-leb n (2 ^ 63) (omega arith) in
+    rw (e, small) (ap (λ k. Some (neg_ℤ (pos k), rest)) same)
+
+pub negative_large : (m : Option (ℕ × List ℕ)) (n v : ℕ) (rest : List ℕ) → m ≡ Some (n, rest) → v ≡ min n (2 ^ 64 - 1) → 2 ^ 63 < v → option_and_then negative_of m ≡ None
+negative_large m n v rest e f h = rw (e, lt-leb n (2 ^ 63) (larger n v f h)) refl

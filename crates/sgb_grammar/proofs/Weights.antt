@@ -1,0 +1,127 @@
+-- What lines weigh.
+use Rattle.std.proofs.Common.{◌≡◌, ℕ, suc, ◌+◌, ◌-◌, ◌*◌, ◌/◌, ◌%◌, ◌^◌, ◌<◌, ◌≤◌, ◌==◌, not, Bool, true, List, [], ◌∷◌, ◌++◌, take, drop, length, get_or, refl, sym, ap, ◌∙◌, inl, inr, arith, ◌&&◌, zero, length-append}
+use Rattle.std.specs.List.{prefix_len, flat_map}
+use Rattle.std.proofs.lemmas.Bool.{cases_Bool, cases_eq, and_parts, eqb-true}
+use Rattle.std.proofs.lemmas.List.{take_more}
+use Rattle.std.proofs.lemmas.Nat.{pow-add}
+use Rattle.std.proofs.Math.Nat.{add-mul-mod_self_right, mod-add-div', mod-eq_of_lt}
+use Rattle.sgb_grammar.specs.Check.{code_of, counted, lines_of, with_first, covered, weighed, check_of}
+
+-- ---- weights
+
+pub weighed-append : (xs ys : List ℕ) → weighed (xs ++ ys) ≡ weighed xs * 2 ^ length ys + weighed ys
+unfolding weighed
+weighed-append [] ys = omega arith
+weighed-append (x ∷ xs) ys =
+    let more = weighed-append xs ys in
+    let power = ap (λ n. 2 ^ n) (length-append xs ys) ∙ pow-add 2 (length xs) (length ys) in
+    ap (λ k. code_of x * k + weighed (xs ++ ys)) power
+    ∙ ap (λ k. code_of x * (2 ^ length xs * 2 ^ length ys) + k) more
+    ∙ (omega arith)
+
+weighed_one : (b : ℕ) → weighed (b ∷ []) ≡ code_of b
+unfolding weighed
+weighed_one b = omega arith
+
+pub weighed_more : (xs : List ℕ) (i : ℕ) → i < length xs → weighed (take (i + 1) xs) ≡ weighed (take i xs) * 2 + code_of (get_or xs i 0)
+weighed_more xs i h =
+    ap weighed (take_more xs i 0 h)
+    ∙ weighed-append (take i xs) (get_or xs i 0 ∷ [])
+    ∙ ap (λ k. weighed (take i xs) * 2 + k) (weighed_one (get_or xs i 0))
+
+parts_of_sum : (a r q b c p : ℕ) → r + q * p ≡ a → a * b + c ≡ (r * b + c) + (q * b) * p
+parts_of_sum a r q b c p e = ap (λ k. k * b + c) (sym e) ∙ (omega arith)
+
+-- a number may be reduced before it is doubled
+pub reduced : (a b c p : ℕ) → (a * b + c) % p ≡ (a % p * b + c) % p
+reduced a b c p =
+    ap (λ k. k % p) (parts_of_sum a (a % p) (a / p) b c p (mod-add-div' a p))
+    ∙ add-mul-mod_self_right (a % p * b + c) (a / p * b) p
+
+pub byte_weighs : (s v code p : ℕ) (xs : List ℕ) (i : ℕ) → i < length xs → v ≡ (s * 2 ^ i + weighed (take i xs)) % p → code ≡ code_of (get_or xs i 0)
+    → (v * 2 + code) % p ≡ (s * 2 ^ (i + 1) + weighed (take (i + 1) xs)) % p
+byte_weighs s v code p xs i h e f =
+    let before = s * 2 ^ i + weighed (take i xs) in
+    let c = code_of (get_or xs i 0) in
+    let power : 2 ^ (i + 1) ≡ 2 ^ i * 2 = pow-add 2 i 1 in
+    let whole : before * 2 + c ≡ s * 2 ^ (i + 1) + weighed (take (i + 1) xs) =
+    (let doubled : before * 2 + c ≡ s * (2 ^ i * 2) + (weighed (take i xs) * 2 + c) = omega arith in
+    doubled ∙ ap (λ k. s * k + (weighed (take i xs) * 2 + c)) (sym power) ∙ ap (λ k. s * 2 ^ (i + 1) + k) (sym (weighed_more xs i h))) in
+    ap (λ k. (k * 2 + code) % p) e ∙ ap (λ k. (before % p * 2 + k) % p) f ∙ sym (reduced before 2 c p) ∙ ap (λ k. k % p) whole
+
+pub line_weighs : (s p : ℕ) (xs ys : List ℕ)
+    → (s * 2 ^ length (xs ++ ys) + weighed (xs ++ ys)) % p ≡ ((s * 2 ^ length xs + weighed xs) % p * 2 ^ length ys + weighed ys) % p
+line_weighs s p xs ys =
+    let power = ap (λ n. 2 ^ n) (length-append xs ys) ∙ pow-add 2 (length xs) (length ys) in
+    let apart : s * (2 ^ length xs * 2 ^ length ys) + (weighed xs * 2 ^ length ys + weighed ys) ≡ (s * 2 ^ length xs + weighed xs) * 2 ^ length ys + weighed ys = omega arith in
+    ap (λ k. (s * k + weighed (xs ++ ys)) % p) power
+    ∙ ap (λ k. (s * (2 ^ length xs * 2 ^ length ys) + k) % p) (weighed-append xs ys)
+    ∙ ap (λ k. k % p) apart
+    ∙ reduced (s * 2 ^ length xs + weighed xs) (2 ^ length ys) (weighed ys) p
+
+pub nothing_weighs : (s p : ℕ) → s < p → (s * 2 ^ length {A = ℕ} [] + weighed []) % p ≡ s
+unfolding weighed
+nothing_weighs s p h = ap (λ k. k % p) (let same : s * 1 + 0 ≡ s = omega arith in same) ∙ mod-eq_of_lt h
+
+-- ---- lines
+
+pub covered_line : (bs line rest : List ℕ) → lines_of bs ≡ line ∷ lines_of rest → covered bs ≡ counted line ++ covered rest
+unfolding covered
+covered_line bs line rest e = ap (flat_map counted) e
+
+pub covered_nothing : (bs : List ℕ) → bs ≡ [] → covered bs ≡ []
+unfolding covered lines_of
+covered_nothing bs e = rw e refl
+
+pub line_ends : (bs : List ℕ) → prefix_len (λ b. not (b == 10)) bs < length bs
+    → lines_of bs ≡ take (prefix_len (λ b. not (b == 10)) bs + 1) bs ∷ lines_of (drop (prefix_len (λ b. not (b == 10)) bs + 1) bs)
+unfolding lines_of
+line_ends [] h = absurd (omega arith)
+line_ends (c ∷ cs) h = elim (cases_Bool (c == 10)) [
+  | inl newline ↦ rw newline (ap (λ b. (b ∷ []) ∷ lines_of cs) (sym (eqb-true c 10 newline)))
+  | inr other ↦
+      let k = prefix_len (λ b. not (b == 10)) cs in
+      let short : k < length cs = (let inside : 1 + k < suc (length cs) = rw other at h in omega arith) in
+      let more : 1 + k + 1 ≡ suc (k + 1) = omega arith in
+      rw (other, more) (ap (with_first c) (line_ends cs short))
+]
+
+pub last_line : (bs : List ℕ) → 0 < length bs → length bs ≤ prefix_len (λ b. not (b == 10)) bs → lines_of bs ≡ bs ∷ []
+unfolding lines_of
+last_line [] some h = absurd (omega arith)
+last_line (c ∷ []) some h = elim (cases_Bool (c == 10)) [
+  | inl newline ↦ absurd (let bad : 1 ≤ 0 = rw newline at h in omega arith)
+  | inr other ↦ rw other refl
+]
+last_line (c ∷ d ∷ ds) some h = elim (cases_Bool (c == 10)) [
+  | inl newline ↦ absurd (let bad : suc (length (d ∷ ds)) ≤ 0 = rw newline at h in omega arith)
+  | inr other ↦
+      let k = prefix_len (λ b. not (b == 10)) (d ∷ ds) in
+      let short : length (d ∷ ds) ≤ k = (let inside : suc (length (d ∷ ds)) ≤ 1 + k = rw other at h in omega arith) in
+      rw other (ap (with_first c) (last_line (d ∷ ds) (omega arith) short))
+]
+
+pub nil_from_length : (xs : List ℕ) → length xs ≡ 0 → xs ≡ []
+nil_from_length [] e = refl
+nil_from_length (x ∷ xs) e = absurd (omega arith)
+
+-- ---- the whole
+
+pub check_start : (bs : List ℕ) → check_of bs ≡ (0 * 2 ^ length (covered bs) + weighed (covered bs)) % (2 ^ 30 - 83)
+unfolding check_of
+check_start bs = ap (λ k. k % (2 ^ 30 - 83)) (let same : weighed (covered bs) ≡ 0 * 2 ^ length (covered bs) + weighed (covered bs) = omega arith in same)
+
+-- ---- the table of codes
+
+abbrev pub same_codes : List ℕ → ℕ → Bool
+same_codes table zero = true
+same_codes table (suc n) = (get_or table n 0 == code_of n) && same_codes table n
+
+pub code_in : (table : List ℕ) (n b : ℕ) → same_codes table n ≡ true → b < n → get_or table b 0 ≡ code_of b
+code_in table zero b e h = absurd (omega arith)
+code_in table (suc n) b e h =
+    let both = and_parts (get_or table n 0 == code_of n) (same_codes table n) e in
+    elim (cases_eq b n) [
+      | inl same ↦ rw same (eqb-true (get_or table n 0) (code_of n) both.0)
+      | inr other ↦ code_in table n b both.1 (let less : b < n = omega arith in less)
+    ]

@@ -1,0 +1,17 @@
+//! The grammar of a saved text: what its bytes spell, read from the front.
+#![tactic(auto)]
+
+mod bytes;
+mod check;
+mod fault;
+mod fields;
+mod header;
+mod numbers;
+mod records;
+mod saved;
+mod strings;
+
+pub use check::check_number;
+pub use fault::Fault;
+pub use header::{Header, read_header};
+pub use saved::{Saved, read_saved};

@@ -1,0 +1,111 @@
+//! Numbers in a saved text.
+ghost use Rattle.std.specs.Prelude.{◌≡◌, ◌<◌, ◌≤◌, ◌-◌, ◌^◌, min, length, IfOk, FitsSigned};
+ghost use Rattle.std.specs.Int.{w64};
+ghost use Rattle.std.specs.Option.{option_and_then};
+ghost use Rattle.std.specs.Str.Parse.{AllDigits, digits_value};
+ghost use Rattle.sgb_grammar.specs.Reading.{Spells, Capped};
+ghost use Rattle.sgb_grammar.specs.Number.{digits_in, digits_at, count_at, number_at, positive_of, negative_of};
+
+use crate::Fault;
+use crate::bytes::after;
+
+/// The least number that has no place in an `i64`.
+const BOUND: u64 = 1 << 63;
+
+/// Digits that spell a number below 2^63, and what follows them.
+#[tactic(auto, unfolding(crate::specs::Number::count_at))]
+pub(crate) fn count(bytes: &[u8]) -> Result<(u64, &[u8]), Fault>
+    ensures read { Spells result (count_at bytes.now) }
+    ensures small { IfOk result (λ p. p.0 < 2 ^ 63) }
+{
+    match magnitude(bytes) {
+        Some((value, rest)) => {
+            if value < BOUND {
+                Ok((value, rest))
+            } else {
+                Err(Fault::Syntax)
+            }
+        }
+        None => Err(Fault::Syntax),
+    }
+}
+
+/// Digits, and a minus before them or none, that spell a number of an `i64`, and what follows them.
+#[tactic(auto, unfolding(crate::specs::Number::number_at))]
+pub(crate) fn number(bytes: &[u8]) -> Result<(i64, &[u8]), Fault>
+    ensures read { Spells result (number_at bytes.now) }
+    ensures range { IfOk result (λ p. FitsSigned w64 p.0) }
+{
+    match after(b"-", bytes) {
+        Ok(digits) => negative(digits),
+        Err(_) => positive(bytes),
+    }
+}
+
+fn positive(bytes: &[u8]) -> Result<(i64, &[u8]), Fault>
+    ensures read { Spells result (option_and_then positive_of (digits_at bytes.now)) }
+    ensures range { IfOk result (λ p. FitsSigned w64 p.0) }
+{
+    match magnitude(bytes) {
+        Some((value, rest)) => {
+            if value < BOUND {
+                Ok((value as i64, rest))
+            } else {
+                Err(Fault::Syntax)
+            }
+        }
+        None => Err(Fault::Syntax),
+    }
+}
+
+// The digits stand behind a minus.
+fn negative(digits: &[u8]) -> Result<(i64, &[u8]), Fault>
+    ensures read { Spells result (option_and_then negative_of (digits_at digits.now)) }
+    ensures range { IfOk result (λ p. FitsSigned w64 p.0) }
+{
+    match magnitude(digits) {
+        Some((value, rest)) => {
+            if value < BOUND {
+                Ok((-(value as i64), rest))
+            } else if value == BOUND {
+                Ok((i64::MIN, rest))
+            } else {
+                Err(Fault::Syntax)
+            }
+        }
+        None => Err(Fault::Syntax),
+    }
+}
+
+// The number that the first digits spell, where there are some; one above 64 bits becomes the greatest.
+fn magnitude(bytes: &[u8]) -> Option<(u64, &[u8])>
+    ensures { Capped result (digits_at bytes.now) }
+{
+    let (digits, rest) = bytes.split_at(count_digits(bytes));
+    if digits.is_empty() {
+        None
+    } else {
+        Some((worth(digits), rest))
+    }
+}
+
+fn count_digits(bytes: &[u8]) -> usize
+    ensures count { result ≡ digits_in bytes.now }
+    ensures within { result ≤ length bytes.now }
+{
+    bytes.iter().take_while(|b| b.is_ascii_digit()).count()
+}
+
+// The number that the digits spell, at most 2^64 - 1.
+fn worth(digits: &[u8]) -> u64
+    requires { AllDigits 10 digits.now }
+    ensures { result ≡ min (digits_value 10 digits.now) (2 ^ 64 - 1) }
+{
+    let mut value = 0u64;
+    for digit in digits {
+        value = value
+            .saturating_mul(10)
+            .saturating_add(u64::from(digit.saturating_sub(b'0')));
+    }
+    value
+}

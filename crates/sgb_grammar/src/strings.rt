@@ -1,0 +1,153 @@
+//! Texts between quotes.
+ghost use Rattle.std.specs.Prelude.{◌≡◌, ◌<◌, ◌≤◌, ◌⊎◌, length, false, IsTrue, IfOk, IfErr, Some, slice_index};
+ghost use Rattle.std.specs.List.{prefix_len, list_all};
+ghost use Rattle.sgb_graph.specs.Text.{is_text_byte};
+ghost use Rattle.sgb_grammar.specs.Reading.{Reads, Fails};
+ghost use Rattle.sgb_grammar.specs.String.{inside_at, text_at, within, Splits, Ends};
+
+use crate::Fault;
+use crate::bytes::{after, next};
+use sgb_graph::{Label, Refusal, Text};
+use std::alloc::Global;
+
+/// The most bytes of a label and of a text in a field.
+pub(crate) const TEXT_LIMIT: usize = 4095;
+
+/// A run of a text.
+#[derive(Clone, Copy)]
+enum Piece<'a> {
+    /// The text ends with it; what follows the closing quote.
+    Last(&'a [u8], &'a [u8]),
+    /// The line ends behind it; the next line.
+    Broken(&'a [u8], &'a [u8]),
+}
+
+/// What ends a run of a text.
+#[derive(Clone, Copy)]
+enum Ending<'a> {
+    /// The closing quote, and what follows it.
+    Quote(&'a [u8]),
+    /// A backslash and the line's end, and the next line.
+    Line(&'a [u8]),
+}
+
+/// A name between quotes, and what follows it. The empty one takes no memory.
+pub(crate) fn label(alloc: Global, bytes: &[u8]) -> Result<(Label, &[u8]), Fault>
+    ensures { Reads result (text_at 4095 bytes.now) }
+{
+    match after(b"\"\"", bytes) {
+        Ok(rest) => Ok((Label::empty(), rest)),
+        Err(_) => {
+            let (name, rest) = text(alloc, TEXT_LIMIT, bytes)?;
+            Ok((Label::new(name), rest))
+        }
+    }
+}
+
+/// A text of at most `limit` bytes between quotes, and what follows it.
+#[tactic(auto, unfolding(crate::specs::String::text_at))]
+pub(crate) fn text(alloc: Global, limit: usize, bytes: &[u8]) -> Result<(Text, &[u8]), Fault>
+    requires { limit ≤ 4095 }
+    ensures { Reads result (text_at limit bytes.now) }
+{
+    let inside = after(b"\"", bytes)?;
+    match split_piece(inside) {
+        Some(Piece::Last(run, rest)) => short_text(alloc, limit, run, rest),
+        Some(Piece::Broken(_, _)) => {
+            let (whole, rest) = gather(alloc, inside)?;
+            short_text(alloc, limit, &whole, rest)
+        }
+        None => Err(Fault::Syntax),
+    }
+}
+
+// The text of these bytes, where they are not too many.
+fn short_text<'a>(
+    alloc: Global,
+    limit: usize,
+    bytes: &[u8],
+    rest: &'a [u8],
+) -> Result<(Text, &'a [u8]), Fault>
+    requires limit { limit ≤ 4095 }
+    requires printable { IsTrue (list_all is_text_byte bytes.now) }
+    ensures { Reads result (within limit (bytes.now, rest.now)) }
+{
+    if bytes.len() > limit {
+        return Err(Fault::Syntax);
+    }
+    match Text::new(alloc, bytes) {
+        Ok(text) => Ok((text, rest)),
+        Err(Refusal::NoRoom) => Err(Fault::NoRoom),
+        Err(_) => Err(Fault::Syntax),
+    }
+}
+
+// The text up to the closing quote, joined where lines end.
+fn gather(alloc: Global, bytes: &[u8]) -> Result<(Vec<u8>, &[u8]), Fault>
+    ensures ok { IfOk result (λ p. inside_at false bytes.now ≡ Some (p.0.items, p.1.now)) }
+    ensures err { IfErr result (λ e. Fails e (inside_at false bytes.now)) }
+{
+    let mut text = Vec::new(alloc);
+    let mut rest = bytes;
+    'lines: loop {
+        match split_piece(rest) {
+            Some(Piece::Last(run, behind)) => {
+                return match text.extend_from_slice(run) {
+                    Ok(()) => Ok((text, behind)),
+                    Err(_) => Err(Fault::NoRoom),
+                };
+            }
+            Some(Piece::Broken(run, line)) => {
+                if text.extend_from_slice(run).is_err() {
+                    return Err(Fault::NoRoom);
+                }
+                rest = line;
+            }
+            None => return Err(Fault::Syntax),
+        }
+    }
+}
+
+// The first run, where a closing quote or a line's end follows it.
+fn split_piece(bytes: &[u8]) -> Option<Piece<'_>>
+    ensures { Splits result bytes.now }
+{
+    let (run, rest) = bytes.split_at(count_text_bytes(bytes));
+    match split_ending(rest) {
+        Some(Ending::Quote(behind)) => Some(Piece::Last(run, behind)),
+        Some(Ending::Line(line)) => Some(Piece::Broken(run, line)),
+        None => None,
+    }
+}
+
+fn split_ending(bytes: &[u8]) -> Option<Ending<'_>>
+    requires { is_text_byte (slice_index bytes.now 0) ≡ false }
+    ensures { Ends result bytes.now }
+{
+    let (first, rest) = next(bytes)?;
+    if first == b'"' {
+        return Some(Ending::Quote(rest));
+    }
+    if first != b'\\' {
+        return None;
+    }
+    let (end, line) = next(rest)?;
+    if end == b'\n' {
+        Some(Ending::Line(line))
+    } else {
+        None
+    }
+}
+
+fn count_text_bytes(bytes: &[u8]) -> usize
+    ensures count { result ≡ prefix_len is_text_byte bytes.now }
+    ensures within { result ≤ length bytes.now }
+{
+    bytes.iter().take_while(|b| is_text_byte(**b)).count()
+}
+
+fn is_text_byte(byte: u8) -> bool
+    ensures { result ≡ is_text_byte byte }
+{
+    byte >= b' ' && byte <= b'~' && byte != b'"' && byte != b'\\'
+}

@@ -1,0 +1,73 @@
+//! Restores a graph from its saved text.
+ghost use Rattle.std.specs.Prelude.{◌≡◌, IfOk, IfErr};
+ghost use Rattle.sgb_text.specs.Restore.{Accepted, Refused, is_within_limits, passes, IsReadAsOne, IsRefusedForRoom};
+
+use sgb_grammar::{Fault, Header, check_number, read_header, read_saved};
+use sgb_graph::{Graph, Refusal};
+use std::alloc::Global;
+
+/// Whether the check number of a text is compared.
+#[derive(Clone, Copy, Debug, PartialEq, Eq)]
+pub enum CheckRule {
+    /// It must be right, or negative.
+    Match,
+    /// It may be any number.
+    Any,
+}
+
+/// The graph that a text spells.
+///
+/// Refused `Syntax` where the first line is bad, or no graph is spelled; `TooLarge` where a count in a good first line
+/// is above the limits; and last, `CheckWrong`, where the rule asks for a check number and the text names another. Takes
+/// memory for the records, for their texts and for the graph.
+pub fn restore(alloc: Global, text: &[u8], rule: CheckRule) -> Result<Graph, Refusal>
+    ensures ok { IfOk result (λ g. Accepted rule text.now g) }
+    ensures err { IfErr result (λ e. Refused rule text.now e) }
+{
+    let Ok((header, lines)) = read_header(text) else {
+        return Err(Refusal::Syntax);
+    };
+    if !is_within_limits(&header) {
+        return Err(Refusal::TooLarge);
+    }
+    match read_saved(alloc, &header, lines) {
+        Ok(saved) => {
+            let agrees = passes(rule, saved.number, saved.body);
+            match Graph::build(alloc, saved.parts) {
+                Ok(graph) => {
+                    if agrees {
+                        Ok(graph)
+                    } else {
+                        Err(Refusal::CheckWrong)
+                    }
+                }
+                Err(Refusal::NoRoom) => Err(Refusal::NoRoom),
+                Err(_) => Err(Refusal::Syntax),
+            }
+        }
+        Err(Fault::NoRoom) => Err(Refusal::NoRoom),
+        Err(Fault::Syntax) => Err(Refusal::Syntax),
+    }
+}
+
+fn is_within_limits(header: &Header) -> bool
+    ensures { result ≡ is_within_limits header.now }
+{
+    header.vertices <= 65_535 && header.arcs <= 1_000_000
+}
+
+// The rule allows this number under this body.
+fn passes(rule: CheckRule, number: i64, body: &[u8]) -> bool
+    ensures { result ≡ passes rule number body.now }
+{
+    match rule {
+        CheckRule::Any => true,
+        CheckRule::Match => number < 0 || number as u64 == check_number(body),
+    }
+}
+
+/// The law of restoring: a text that is accepted spells one graph, and nothing but want of memory refuses it.
+pub fn answers_are_exact()
+    ensures graph { IsReadAsOne }
+    ensures refusals { IsRefusedForRoom }
+{}
