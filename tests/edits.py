@@ -278,9 +278,9 @@ def prove(crate):
 
 
 def workers():
-    """How many checks run side by side, RT_JOBS where it is set."""
-    jobs = os.environ.get('RT_JOBS', '')
-    return int(jobs) if jobs.isdigit() and int(jobs) else max(1, min(rt.processors(), rt.free() // MEMORY))
+    """How many checks run side by side, RT_JOBS where it is set: one processor of many is left to the proofs."""
+    jobs, most = os.environ.get('RT_JOBS', ''), rt.processors()
+    return int(jobs) if jobs.isdigit() and int(jobs) else max(1, min(most if most < 3 else most - 1, rt.free() // MEMORY))
 
 
 def timed(call, *given):
@@ -313,7 +313,7 @@ class Tally:
                 self.tell(False, crate.name, 'the crate is not proved, so none of its %d edits was tried' % len(good))
                 continue
             if edits or unread:
-                # The largest groups first: the checks of a crate begin while the next one is proved.
+                # The edits of a crate are tried while the next one is proved.
                 tried = [pool.submit(timed, try_group, it) for it in groups_of(good)]
                 running.append((crate, len(edits) + len(unread), took, tried))
         for crate, count, took, tried in running:
