@@ -273,7 +273,7 @@ def prove(crate):
                          stderr=subprocess.STDOUT, errors='replace')
     is_proved = ran.returncode == 0 and re.search(r'(?m)^logic=proved ', ran.stdout)
     if not is_proved:
-        print('\n'.join(re.findall(r'(?m)^.*(?:error|: not proved|: no proof|: could not tell).*$', ran.stdout)[:6]))
+        print('\n'.join(re.findall(r'(?m)^.*(?:\berror(?:\[|:)|: not proved|: no proof|: could not tell).*$', ran.stdout)[:6]))
     return bool(is_proved)
 
 

@@ -24,7 +24,7 @@ SHOWN = 30
 
 # The lines of `rt ci` that tell how far it is, and those of any command that tell what failed.
 PROGRESS = re.compile(r'rt: (?:\S+ (?:NOT )?proved|\S+: (?:its tests|trying its)|\S+ ran\b|FAILED|must-fail .*: (?:BAD|NOT))')
-FAILURE = re.compile(r'error|NOT (?:PROVED|REFUSED|proved)|BAD EDIT|FAILED|: not proved|: no proof|could not tell'
+FAILURE = re.compile(r'\berror(?:\[|:)|NOT (?:PROVED|REFUSED|proved)|BAD EDIT|FAILED|: not proved|: no proof|could not tell'
                      r'|is not proved|is not in the layout|differ|rt: run rt fmt')
 
 
