@@ -1,12 +1,12 @@
 -- Lemmas on second halves, and on the other half of an arc.
-use Rattle.std.proofs.Common.{◌≡◌, ◌≢◌, ◌<◌, ◌≤◌, ◌+◌, ◌-◌, ℕ, zero, suc, List, [], ◌∷◌, length, get_or, map, Option, Some, None, is_some, Bool, true, false, ◌&&◌, not, ◌==◌, nat_lt, nat_le, cond, ◌⊎◌, inl, inr, refl, sym, ap, subst, ◌∙◌, arith, zero-add}
+use Rattle.std.proofs.Common.{◌≡◌, ◌<◌, ◌≤◌, ◌+◌, ◌-◌, ℕ, zero, suc, List, [], ◌∷◌, length, get_or, map, Option, Some, None, is_some, Bool, true, false, ◌&&◌, not, ◌==◌, nat_lt, nat_le, cond, ◌⊎◌, inl, inr, refl, sym, ap, subst, ◌∙◌, arith, zero-add}
 use Rattle.std.specs.List.{list_all, filter, range_with_len}
-use Rattle.std.proofs.lemmas.Bool.{cases_Bool, and_parts, and_from, eqb-true, eq-eqb, ne_eqb, lt-ltb, le-ltb, leb-true}
+use Rattle.std.proofs.lemmas.Bool.{cases_Bool, and_parts, eqb-true, eq-eqb, ne_eqb, lt-ltb, le-ltb, leb-true}
 use Rattle.sgb_graph.specs.declared.field.Tip.{Tip}
 use Rattle.sgb_graph.specs.declared.field.Tip.TheVariants.{Zero, One, To}
-use Rattle.sgb_graph.specs.Graph.{GraphOf, ArcOf, n_of, made_of, arcs_of, arc_at, has_arc, no_vertex}
+use Rattle.sgb_graph.specs.Graph.{GraphOf, ArcOf, n_of, made_of, arcs_of, arc_at, has_arc}
 use Rattle.sgb_graph.specs.Edit.{owner_of, entry_at, arc_or, no_arc}
-use Rattle.sgb_graph.specs.Read.{entry_view, arc_view}
+use Rattle.sgb_graph.specs.Read.{entry_view}
 use Rattle.sgb_graph.specs.Paired.{goes, is_vertex, leads_from, is_loop, is_loop_pair, without_halves, is_half, without_half_places, walk, are_loops_paired, is_tip_matched, is_view_matched, is_matched, is_paired, GoesTo}
 use Rattle.sgb_graph.proofs.Graphs.{made_of_live, no_arcs_past}
 use Rattle.sgb_graph.proofs.TakeOut.{some_entry}

@@ -1,11 +1,10 @@
 -- Lemmas on what the readers of a graph show.
-use Rattle.std.proofs.Common.{◌≡◌, ◌<◌, ℕ, List, [], ◌∷◌, ◌++◌, length, get_or, Option, Some, None, is_some, IsSome, IfSome, All, true, refl, sym, ap, subst, ◌∙◌, arith}
+use Rattle.std.proofs.Common.{◌≡◌, ◌<◌, ℕ, List, [], ◌∷◌, ◌++◌, length, get_or, Option, Some, None, is_some, IsSome, IfSome, All, true, refl, ap, subst, ◌∙◌, arith}
 use Rattle.sgb_graph.specs.declared.field.ArcNo.{ArcNo}
 use Rattle.sgb_graph.specs.declared.graph.Vertex.{Vertex}
 use Rattle.sgb_graph.specs.declared.graph.Slot.{Slot}
 use Rattle.sgb_graph.specs.declared.graph.Graph.TheInside.{Inside}
-use Rattle.sgb_graph.specs.declared.graph.read.ArcView.{ArcView}
-use Rattle.sgb_graph.specs.Graph.{GraphOf, ArcOf, IsGraph, IsArc, IsTip, n_of, made_of, arcs_of, arc_at, vertex_at, has_arc}
+use Rattle.sgb_graph.specs.Graph.{GraphOf, ArcOf, IsGraph, IsArc, IsTip, n_of, made_of, arcs_of, arc_at}
 use Rattle.sgb_graph.specs.Edit.{owner_of, entry_at, arc_or, no_arc}
 use Rattle.sgb_graph.specs.Read.{entry_view, arc_view, ShowsEntry, first_of, IsNextOf}
 use Rattle.sgb_graph.specs.Chain.{Leads}

@@ -1,11 +1,11 @@
 -- What an edit left and kept leads back to the graph that it met.
-use Rattle.std.proofs.Common.{◌≡◌, ◌+◌, ℕ, List, [], ◌∷◌, ◌++◌, length, take, Option, None, refl, sym, ap, ◌∙◌, append_assoc}
+use Rattle.std.proofs.Common.{◌≡◌, ◌+◌, ℕ, List, [], ◌∷◌, take, None, ap, ◌∙◌, append_assoc}
 use lib.Seq.{take-append_seam}
 use Rattle.sgb_graph.specs.declared.field.ArcNo.{ArcNo}
 use Rattle.sgb_graph.specs.declared.delta.CutArc.{CutArc}
 use Rattle.sgb_graph.specs.declared.delta.GraphDelta.{GraphDelta}
 use Rattle.sgb_graph.specs.declared.delta.GraphDelta.TheVariants.{NewArc, NewEdge, Cut, SetLen, SetUtil, SetLabel, SetId, SetTypes}
-use Rattle.sgb_graph.specs.Graph.{GraphOf, ArcOf, made_of}
+use Rattle.sgb_graph.specs.Graph.{GraphOf, made_of}
 use Rattle.sgb_graph.specs.Edit.{without_arc, with_cut_arc}
 use Rattle.sgb_graph.specs.Delta.{LeftBy, LeftByArc, LeftByEdge, LeftByCut, LeftById, LeftByTypes}
 use Rattle.sgb_graph.specs.Reverted.{reverted, with_numbers}

@@ -1,5 +1,5 @@
 -- Lemmas on the fields of two graphs that are compared.
-use Rattle.std.proofs.Common.{◌≡◌, ◌<◌, ◌+◌, ℕ, ℤ, zero, suc, List, [], ◌∷◌, ◌++◌, length, get_or, map, Option, Some, None, is_some, IfSome, Bool, true, false, ◌&&◌, ◌==◌, nat_eq, inl, inr, refl, sym, ap, subst, ◌∙◌, arith}
+use Rattle.std.proofs.Common.{◌≡◌, ◌<◌, ℕ, zero, suc, List, [], ◌∷◌, ◌++◌, length, get_or, map, Option, Some, None, is_some, IfSome, Bool, true, false, ◌&&◌, ◌==◌, nat_eq, inl, inr, refl, sym, ap, subst, ◌∙◌, arith}
 use Rattle.std.specs.List.{list_all, zip}
 use Rattle.std.specs.Cmp.Lexicographic.{pointwise}
 use Rattle.std.specs.Ordering.{int_eq}
@@ -9,13 +9,13 @@ use Rattle.sgb_graph.specs.declared.field.ArcNo.{ArcNo}
 use Rattle.sgb_graph.specs.declared.graph.Vertex.{Vertex}
 use Rattle.sgb_graph.specs.declared.graph.Slot.{Slot}
 use Rattle.sgb_graph.specs.declared.graph.Graph.TheInside.{Inside}
-use Rattle.sgb_graph.specs.Graph.{GraphOf, VertexOf, n_of, arcs_of, arc_at, has_arc, occurrences, vertex_at}
-use Rattle.sgb_graph.specs.Chain.{Leads, chain}
-use Rattle.sgb_graph.specs.Private.Arena.{Slots, Shows, IsArena, slot_at, next_at, next_of, entry_of, owner_in, numbers, vertex_of, graph_of}
+use Rattle.sgb_graph.specs.Graph.{GraphOf, VertexOf, n_of, arcs_of, occurrences}
+use Rattle.sgb_graph.specs.Chain.{chain}
+use Rattle.sgb_graph.specs.Private.Arena.{Slots, IsArena, slot_at, next_at, next_of, entry_of, owner_in, numbers, vertex_of, graph_of}
 use Rattle.sgb_graph.specs.Edit.{arc_or, no_arc}
 use Rattle.sgb_graph.specs.Same.{tip_eq, util_eq, graph_eq}
 use Rattle.sgb_graph.specs.Private.SameRows.{link_eq, row_eq, slot_eq, each_eq, own_eq, lists_eq}
-use Rattle.sgb_graph.proofs.Counts.{occurs_yes, occurs_no}
+use Rattle.sgb_graph.proofs.Counts.{occurs_no}
 use Rattle.sgb_graph.proofs.Graphs.{same_graph, vertex_of_listed}
 use Rattle.sgb_graph.proofs.Shows.{Opened, opened}
 use Rattle.sgb_graph.proofs.Reading.{first_is, next_is}

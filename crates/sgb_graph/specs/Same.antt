@@ -1,5 +1,5 @@
 -- Graphs compared by all that contracts see of them.
-use Rattle.std.specs.Prelude.{ℕ, List, Option, Some, None, Bool, true, false, ◌&&◌, nat_eq}
+use Rattle.std.specs.Prelude.{Option, Some, None, Bool, true, false, ◌&&◌, nat_eq}
 use Rattle.std.specs.Cmp.Lexicographic.{pointwise}
 use Rattle.std.specs.Ordering.{int_eq}
 use Rattle.sgb_graph.specs.declared.field.Tip.{Tip}

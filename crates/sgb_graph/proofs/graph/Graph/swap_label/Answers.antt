@@ -1,4 +1,4 @@
-use Rattle.std.proofs.Common.{◌<◌, ◌∙◌, refl, arith}
+use Rattle.std.proofs.Common.{◌<◌, refl}
 use Rattle.std.specs.Vec.{with_item}
 use Rattle.sgb_graph.specs.declared.graph.Graph.TheInside.{Inside}
 use Rattle.sgb_graph.specs.Graph.{n_of}

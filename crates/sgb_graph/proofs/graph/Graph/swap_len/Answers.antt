@@ -1,4 +1,4 @@
-use Rattle.std.proofs.Common.{◌≡◌, ◌∙◌, sym, refl, true}
+use Rattle.std.proofs.Common.{◌≡◌, ◌∙◌, refl, true}
 use Rattle.std.specs.Int.{w64}
 use Rattle.std.specs.Vec.{with_items}
 use Rattle.std.proofs.lemmas.Int.{to_z-of_z}

@@ -1,5 +1,5 @@
-use Rattle.std.proofs.Common.{◌≡◌, ◌<◌, ◌≤◌, length, All, IsSome, arith, subst}
-use Rattle.sgb_graph.specs.Graph.{GraphOf, IsGraph, made_of, arc_at}
+use Rattle.std.proofs.Common.{◌≡◌, ◌<◌, IsSome, arith, subst}
+use Rattle.sgb_graph.specs.Graph.{IsGraph, made_of, arc_at}
 use Rattle.sgb_graph.specs.Edit.{owner_of}
 use Rattle.sgb_graph.proofs.Graphs.{arcs_live, few_arcs_of}
 use Rattle.sgb_graph.proofs.Shows.{linked_at}
