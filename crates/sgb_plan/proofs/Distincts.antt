@@ -44,8 +44,8 @@ Distinct-map_where f P (x ∷ xs) tells all apart =
     Distinct-cons (f x) (map f xs)
     (All-map (λ z. f x ≢ z) f xs
     (λ k d below same.
-        Distinct-head x xs apart k d below
-        (tells x (get_or xs k d) (All-head P x xs all) (All-tail P x xs all k d below) same)))
+    Distinct-head x xs apart k d below
+    (tells x (get_or xs k d) (All-head P x xs all) (All-tail P x xs all k d below) same)))
     (Distinct-map_where f P xs tells (All-tail P x xs all) (Distinct-tail x xs apart))
 
 pub Distinct-map : {X Y : Type 0} (f : X → Y) (xs : List X) → ((x y : X) → f x ≡ f y → x ≡ y) → Distinct xs → Distinct (map f xs)
@@ -66,12 +66,12 @@ Distinct-flat_map f key name (x ∷ xs) names keys pieces =
     (All-head (λ y. Distinct (f y)) x xs pieces)
     (Distinct-flat_map f key name xs (Distinct-tail (name x) (map name xs) names) keys (All-tail (λ y. Distinct (f y)) x xs pieces))
     (λ i a in_piece.
-        let one = get_or (f x) i a in
-        All-flat_map (λ z. one ≢ z) f xs
-        (λ j b in_list k c in_other same.
-            let below : j < length (map name xs) = omega (arith, length-map xs name) in
-            others j (name b) below
-            (sym (keys x i a in_piece) ∙ (ap key same ∙ (keys (get_or xs j b) k c in_other ∙ sym (get_or-map name xs j b (name b) in_list))))))
+    let one = get_or (f x) i a in
+    All-flat_map (λ z. one ≢ z) f xs
+    (λ j b in_list k c in_other same.
+    let below : j < length (map name xs) = omega (arith, length-map xs name) in
+    others j (name b) below
+    (sym (keys x i a in_piece) ∙ (ap key same ∙ (keys (get_or xs j b) k c in_other ∙ sym (get_or-map name xs j b (name b) in_list))))))
 
 -- the same, where the piece of a number has it for a key
 pub Distinct-flat_map_range : {Y : Type 0} (f : ℕ → List Y) (key : Y → ℕ) (a n : ℕ) → ((x : ℕ) → All (λ y. key y ≡ x) (f x)) → ((x : ℕ) → Distinct (f x)) → Distinct (flat_map f (range_with_len a n))
@@ -87,10 +87,10 @@ pub position_at : {X : Type 0} (p : X → Bool) (xs : List X) (i : ℕ) (d : X) 
 position_at p xs i d apart below only passes =
     position_or_len_is p xs i d (omega arith)
     (λ k less.
-        elim (cases_Bool (p (get_or xs k d))) [
-          | inl yes_too ↦ absurd (apart k i d less below (only (get_or xs k d) yes_too))
-          | inr fails ↦ fails
-        ])
+    elim (cases_Bool (p (get_or xs k d))) [
+      | inl yes_too ↦ absurd (apart k i d less below (only (get_or xs k d) yes_too))
+      | inr fails ↦ fails
+    ])
     (λ h. passes)
 
 pub position_or_len-map : {X Y : Type 0} (p : Y → Bool) (f : X → Y) (xs : List X) → position_or_len p (map f xs) ≡ position_or_len (λ x. p (f x)) xs

@@ -71,7 +71,7 @@ dotted_injective (x ∷ xs) (y ∷ ys) small low same =
     let fits : x < 2 ^ 64 = All-head (λ n. n < 2 ^ 64) x xs small in
     let fits_too : y < 2 ^ 64 = All-head (λ n. n < 2 ^ 64) y ys low in
     let whole : decimal x ++ behind 46 (map decimal xs) ≡ decimal y ++ behind 46 (map decimal ys) =
-        sym (join-cons 46 (decimal x) (map decimal xs)) ∙ (same ∙ join-cons 46 (decimal y) (map decimal ys)) in
+    sym (join-cons 46 (decimal x) (map decimal xs)) ∙ (same ∙ join-cons 46 (decimal y) (map decimal ys)) in
     let first = first_piece (decimal x) (decimal y) (map decimal xs) (map decimal ys) (no_dots x fits) (no_dots y fits_too) whole in
     cons_same (decimal_injective x y fits fits_too first.0)
     (behind_same xs ys (All-tail (λ n. n < 2 ^ 64) x xs small) (All-tail (λ n. n < 2 ^ 64) y ys low) first.1)

@@ -21,7 +21,7 @@ pub drawn-apart : (min max : ℤ) (w : Generator) → (min ≡ max → ⊥) → 
 unfolding drawn_length
 drawn-apart min max w apart =
     let differ : int_eq min max ≡ false =
-        elim (cases_Bool (int_eq min max)) [ | inl same ↦ absurd (apart ((Decides-int_eq min max).0 same)) | inr other ↦ other ] in
+    elim (cases_Bool (int_eq min max)) [ inl same ↦ absurd (apart ((Decides-int_eq min max).0 same)) | inr other ↦ other ] in
     rw differ refl
 
 -- the bound of the uniform number, as it is computed

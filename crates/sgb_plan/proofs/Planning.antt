@@ -163,13 +163,13 @@ pub refused_insertions : (p : Plan) {b : Builder} {e : Refusal} → b ≡ with_n
 refused_insertions p named (inl room) = inl room
 refused_insertions p {b} named (inr large) =
     let same : made_of (grown b p.insertions).graph ≡ made_of (graph_of_plan p) =
-        ap (λ c. made_of (grown c p.insertions).graph) named ∙ ap made_of (all_made p) in
+    ap (λ c. made_of (grown c p.insertions).graph) named ∙ ap made_of (all_made p) in
     many_numbers p large.0 (omega (arith, large.1, same))
 
 pub made : (p : Plan) {b c : Builder} → b ≡ with_named (begun p) p.vertices → c ≡ grown b p.insertions → IsGraph c.graph → IsMade (Ok p) (Ok c.graph)
 made p {b} {c} named inserted sound =
     let is : c.graph ≡ graph_of_plan p =
-        ap (λ (d : Builder). d.graph) (inserted ∙ ap (λ d. grown d p.insertions) named) ∙ all_made p in
+    ap (λ (d : Builder). d.graph) (inserted ∙ ap (λ d. grown d p.insertions) named) ∙ all_made p in
     let few : length p.vertices ≤ 65535 = omega (arith, sound.few_vertices, ap n_of is, n-graph_of_plan p) in
     let few_numbers : made_of (graph_of_plan p) ≤ 1000000 = omega (arith, sound.few_arcs, ap made_of is) in
     outcome_fits p (rw (le-ltb 65535 (length p.vertices) few, le-ltb 1000000 (made_of (graph_of_plan p)) few_numbers) refl)

@@ -74,7 +74,7 @@ printable_hex zero n acc h = h
 printable_hex (suc k) n acc h =
     let low : n % 16 < 16 = omega arith in
     let more : IsTrue (list_all is_text_byte (digit_glyph false (n % 16) ∷ acc)) =
-        and_from (is_text_byte (digit_glyph false (n % 16))) (list_all is_text_byte acc) (glyph_byte (n % 16) low) h in
+    and_from (is_text_byte (digit_glyph false (n % 16))) (list_all is_text_byte acc) (glyph_byte (n % 16) low) h in
     elim (cases_Bool (n / 16 == 0)) [
       | inl last ↦ rw last more
       | inr other ↦ rw other (printable_hex k (n / 16) (digit_glyph false (n % 16) ∷ acc) more)
@@ -97,7 +97,7 @@ short_hex (suc j) (suc k) n acc h below =
       | inr other ↦
           let low : n / 16 < above_digits j = omega arith in
           let rest : length (digits_onto k 16 false (n / 16) (digit_glyph false (n % 16) ∷ acc)) ≤ j + 1 + length (digit_glyph false (n % 16) ∷ acc) =
-              short_hex j k (n / 16) (digit_glyph false (n % 16) ∷ acc) (omega arith) low in
+          short_hex j k (n / 16) (digit_glyph false (n % 16) ∷ acc) (omega arith) low in
           rw other (omega (arith, rest))
     ]
 
@@ -129,7 +129,7 @@ IsShort-shortened most t h printable =
       | inl fits ↦ rw fits (record { short = leb-true (length t) most fits; printable = printable })
       | inr long ↦
           let front : IsShort (most - 4) (take (most - 4) t) =
-              record { short = omega (arith, length-take (most - 4) t); printable = printable_front (most - 4) t printable } in
+          record { short = omega (arith, length-take (most - 4) t); printable = printable_front (most - 4) t printable } in
           let whole : IsShort (most - 4 + 4) (take (most - 4) t ++ codes "...)") = IsShort-append front (record { short = omega arith; printable = refl }) in
           rw long (IsShort-more (omega arith) whole)
     ]

@@ -5,9 +5,9 @@ ghost use Rattle.sgb_graph.specs.Text.{IsText, is_text_byte};
 ghost use Rattle.sgb_plan.specs.Id.{id_of, id_of_one, id_of_two, behind_commas, part_text, shortened, widest_id, widest_parts};
 ghost use Rattle.sgb_plan.specs.Private.Bytes.{IsShort};
 
+use crate::Part;
 use crate::append::append_part;
 use crate::text::text_of;
-use crate::Part;
 use sgb_graph::{Refusal, Text};
 use std::alloc::{AllocError, Global};
 
@@ -27,7 +27,12 @@ pub fn id_of(alloc: Global, word: &str, parts: &[Part<'_>]) -> Result<Text, Refu
 
 /// The id of a word, the id of a graph and further parts, as `complement(g,0,0,0)`. The graph's id is cut to the room
 /// that the others leave of 160 bytes: a longer one keeps all but the last four of these bytes, and then `...)`.
-pub fn id_of_one(alloc: Global, word: &str, graph: &[u8], parts: &[Part<'_>]) -> Result<Text, Refusal>
+pub fn id_of_one(
+    alloc: Global,
+    word: &str,
+    graph: &[u8],
+    parts: &[Part<'_>],
+) -> Result<Text, Refusal>
     requires text { IsTrue (list_all is_text_byte word.now) }
     requires graph { IsText graph.now }
     requires narrow { widest_id word.now parts.now ≤ 150 }
@@ -46,7 +51,13 @@ pub fn id_of_one(alloc: Global, word: &str, graph: &[u8], parts: &[Part<'_>]) ->
 /// The id of a word, the ids of two graphs and further parts, as `gunion(g,h,0,0)`. Where the others leave no room for
 /// both graphs' ids of 160 bytes, each that is longer than half of that room is cut to this half: it keeps all but the
 /// last four of these bytes, and then `...)`.
-pub fn id_of_two(alloc: Global, word: &str, first: &[u8], second: &[u8], parts: &[Part<'_>]) -> Result<Text, Refusal>
+pub fn id_of_two(
+    alloc: Global,
+    word: &str,
+    first: &[u8],
+    second: &[u8],
+    parts: &[Part<'_>],
+) -> Result<Text, Refusal>
     requires text { IsTrue (list_all is_text_byte word.now) }
     requires first { IsText first.now }
     requires second { IsText second.now }

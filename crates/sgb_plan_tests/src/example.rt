@@ -29,7 +29,14 @@ fn name_vertices(builder: &mut Builder, alloc: Global, n: u32) -> Result<(), Ref
 {
     for v in 0..n {
         let label = dotted(alloc, &[v])?;
-        let fields = [Util::Zero, Util::Zero, Util::Zero, Util::Zero, Util::Zero, Util::Zero];
+        let fields = [
+            Util::Zero,
+            Util::Zero,
+            Util::Zero,
+            Util::Zero,
+            Util::Zero,
+            Util::Zero,
+        ];
         builder.push_vertex(Label::new(label), fields)?;
     }
     Ok(())

@@ -17,7 +17,10 @@ fn of_generators(rt: HostRuntime) -> Result<(), Fail> {
         Part::Flag(false),
     ];
     let id = id_of(rt.alloc(), "board", &board)?;
-    assert_eq!(rt; id.bytes(), b"board(3,4,0,0,-1,-9223372036854775808,0)".as_slice());
+    assert_eq!(rt;
+        id.bytes(),
+        b"board(3,4,0,0,-1,-9223372036854775808,0)".as_slice()
+    );
     let id = id_of(rt.alloc(), "nothing", &[])?;
     assert_eq!(rt; id.bytes(), b"nothing()".as_slice());
     Ok(())
@@ -25,7 +28,11 @@ fn of_generators(rt: HostRuntime) -> Result<(), Fail> {
 
 #[test]
 fn of_bits(rt: HostRuntime) -> Result<(), Fail> {
-    let id = id_of(rt.alloc(), "subsets", &[Part::Count(2), Part::Bits(u64::MAX)])?;
+    let id = id_of(
+        rt.alloc(),
+        "subsets",
+        &[Part::Count(2), Part::Bits(u64::MAX)],
+    )?;
     assert_eq!(rt; id.bytes(), b"subsets(2,0xffffffffffffffff)".as_slice());
     let id = id_of(rt.alloc(), "subsets", &[Part::Bits(0), Part::Flag(true)])?;
     assert_eq!(rt; id.bytes(), b"subsets(0x0,1)".as_slice());
@@ -36,19 +43,33 @@ fn of_bits(rt: HostRuntime) -> Result<(), Fail> {
 fn of_random_work(rt: HostRuntime) -> Result<(), Fail> {
     let lowest = [Part::Flag(true), Part::Drawn(Seed::Number(i64::MIN))];
     let id = id_of_one(rt.alloc(), "random_lengths", b"gb_new_graph(1)", &lowest)?;
-    assert_eq!(rt; id.bytes(), b"random_lengths(gb_new_graph(1),1,-9223372036854775808)".as_slice());
+    assert_eq!(rt;
+        id.bytes(),
+        b"random_lengths(gb_new_graph(1),1,-9223372036854775808)".as_slice()
+    );
     let current = [Part::Number(6), Part::Drawn(Seed::Current)];
     let id = id_of_one(rt.alloc(), "random_lengths", b"gb_new_graph(1)", &current)?;
-    assert_eq!(rt; id.bytes(), b"random_lengths(gb_new_graph(1),6,-)".as_slice());
+    assert_eq!(rt;
+        id.bytes(),
+        b"random_lengths(gb_new_graph(1),6,-)".as_slice()
+    );
     Ok(())
 }
 
 #[test]
 fn with_a_description(rt: HostRuntime) -> Result<(), Fail> {
     let description = Text::new(rt.alloc(), b"m (d)")?;
-    let parts = [Part::Word(&description), Part::Flag(false), Part::Flag(true), Part::Flag(true)];
+    let parts = [
+        Part::Word(&description),
+        Part::Flag(false),
+        Part::Flag(true),
+        Part::Flag(true),
+    ];
     let id = id_of_one(rt.alloc(), "induced", b"gb_new_graph(1)", &parts)?;
-    assert_eq!(rt; id.bytes(), b"induced(gb_new_graph(1),m (d),0,1,1)".as_slice());
+    assert_eq!(rt;
+        id.bytes(),
+        b"induced(gb_new_graph(1),m (d),0,1,1)".as_slice()
+    );
     Ok(())
 }
 
@@ -56,7 +77,12 @@ fn with_a_description(rt: HostRuntime) -> Result<(), Fail> {
 fn complement_of(alloc: Global, letters: usize) -> Result<(usize, bool), Fail> {
     let graph = vec![in alloc; b'a'; letters]?;
     let graph = Text::new(alloc, &graph)?;
-    let id = id_of_one(alloc, "complement", graph.bytes(), &[Part::Flag(false), Part::Flag(true), Part::Flag(false)])?;
+    let id = id_of_one(
+        alloc,
+        "complement",
+        graph.bytes(),
+        &[Part::Flag(false), Part::Flag(true), Part::Flag(false)],
+    )?;
     Ok((id.bytes().len(), id.bytes().ends_with(b"a...),0,1,0)")))
 }
 
@@ -75,7 +101,13 @@ fn union_of(alloc: Global, first: usize, second: usize) -> Result<(usize, bool),
     let second = vec![in alloc; b'b'; second]?;
     let first = Text::new(alloc, &first)?;
     let second = Text::new(alloc, &second)?;
-    let id = id_of_two(alloc, "gunion", first.bytes(), second.bytes(), &[Part::Flag(true), Part::Flag(false)])?;
+    let id = id_of_two(
+        alloc,
+        "gunion",
+        first.bytes(),
+        second.bytes(),
+        &[Part::Flag(true), Part::Flag(false)],
+    )?;
     Ok((id.bytes().len(), id.bytes().ends_with(b"b...),1,0)")))
 }
 

@@ -19,7 +19,10 @@ fn refusal(min: i64, max: i64) -> Option<Refusal> {
 fn drawn(rt: HostRuntime) {
     assert_eq!(rt; first_length(1, 6), Some((5, 1)));
     assert_eq!(rt; first_length(-3, -2), Some((-3, 1)));
-    assert_eq!(rt; first_length(i64::MIN, i64::MIN + 0x7fff_ffff), Some((i64::MIN + 2029883356, 1)));
+    assert_eq!(rt;
+        first_length(i64::MIN, i64::MIN + 0x7fff_ffff),
+        Some((i64::MIN + 2029883356, 1))
+    );
     assert_eq!(rt; first_length(5, 5), Some((5, 0)));
 }
 

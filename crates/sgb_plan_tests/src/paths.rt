@@ -15,7 +15,10 @@ fn three_in_a_row(rt: HostRuntime) -> Result<(), Fail> {
 #[test]
 fn refused(rt: HostRuntime) -> Result<(), Fail> {
     assert_eq!(rt; path(rt.alloc(), 0, false).err(), Some(Refusal::BadSpecs));
-    assert_eq!(rt; path(rt.alloc(), 65_536, true).err(), Some(Refusal::TooLarge));
+    assert_eq!(rt;
+        path(rt.alloc(), 65_536, true).err(),
+        Some(Refusal::TooLarge)
+    );
     let longest = path(rt.alloc(), 65_535, false)?;
     assert_eq!(rt; longest.made(), 131_068);
     Ok(())
