@@ -1,14 +1,24 @@
 //! Single calls of the session's graphs.
 
+use crate::journals::{apply, undo};
 use sgb_shell::{Command, Delta, Edit, Line, Name, Query, Reply, Session, ShellRefusal, parse};
 use sgb_undo::{Journal, Reversible};
 use std::alloc::Global;
 use std::test::Fail;
 
+/// What a line asks for.
+pub fn read(alloc: Global, line: &[u8]) -> Result<Line, ShellRefusal> {
+    parse(alloc, line)
+}
+
+fn apply_to(session: &mut Session, command: &Command) -> Result<(Delta, Reply), ShellRefusal> {
+    session.apply(command)
+}
+
 // What a line does to a session that has no journal.
 fn done(alloc: Global, session: &mut Session, line: &[u8]) -> Result<(Delta, Reply), ShellRefusal> {
-    match parse(alloc, line)? {
-        Line::Change(command) => session.apply(&command),
+    match read(alloc, line)? {
+        Line::Change(command) => apply_to(session, &command),
         _ => Err(ShellRefusal::ScriptSyntax),
     }
 }
@@ -27,41 +37,77 @@ fn two_graphs(alloc: Global) -> Result<Session, ShellRefusal> {
     Ok(session)
 }
 
+// Whether the graph at this place has this name.
+fn is_named(session: &Session, place: usize, name: &[u8]) -> bool {
+    place < session.len() && session.name_at(place).bytes() == name
+}
+
+// How many vertices, arcs and numbers the graph at this place has.
+fn counts_of(session: &Session, place: usize) -> Option<(u32, u32, u32)> {
+    if place >= session.len() {
+        return None;
+    }
+    let graph = session.graph_at(place);
+    Some((graph.n(), graph.m(), graph.made()))
+}
+
+fn found(session: &Session, name: &[u8]) -> Result<Option<usize>, ShellRefusal> {
+    Ok(session.find(&named(name)?))
+}
+
 #[test]
 fn graphs_are_counted_and_named(rt: HostRuntime) -> Result<(), Fail> {
     let session = two_graphs(rt.alloc())?;
-    assert_eq!(rt; session.len(), 2);
-    assert!(rt; session.name_at(0).bytes() == b"a".as_slice());
-    let graph = session.graph_at(1);
-    assert_eq!(rt; (graph.n(), graph.m(), graph.made()), (2, 3, 3));
+    assert!(rt; session.len() == 2);
+    assert!(rt; is_named(&session, 0, b"a"));
+    assert!(rt; counts_of(&session, 1) == Some((2, 3, 3)));
     Ok(())
 }
 
 #[test]
 fn graphs_are_found_by_name(rt: HostRuntime) -> Result<(), Fail> {
     let session = two_graphs(rt.alloc())?;
-    for (bytes, place) in [(b"a", Some(0)), (b"b", Some(1)), (b"A", None)] {
-        let name = named(bytes)?;
-        assert!(rt; session.find(&name) == place);
+    for (name, place) in [(b"a", Some(0)), (b"b", Some(1)), (b"A", None)] {
+        assert!(rt; found(&session, name)? == place);
     }
-    assert!(rt; Name::new(b"9").is_none());
+    assert!(rt; named(b"9").is_err());
     Ok(())
+}
+
+// What a line's delta is.
+fn delta_of(alloc: Global, session: &mut Session, line: &[u8]) -> Result<Delta, ShellRefusal> {
+    let (delta, _reply) = done(alloc, session, line)?;
+    Ok(delta)
+}
+
+// Whether the delta gives back the graph of this name, with so many arcs, to this place.
+fn gives_back(delta: &Delta, place: usize, name: &[u8], arcs: u32) -> bool {
+    match delta {
+        Delta::Dropped(at, dropped, graph) => {
+            *at == place && dropped.bytes() == name && graph.m() == arcs
+        }
+        _ => false,
+    }
 }
 
 #[test]
 fn each_kind_of_delta_is_left(rt: HostRuntime) -> Result<(), Fail> {
     let mut session = two_graphs(rt.alloc())?;
-    let (seeded, _) = done(rt.alloc(), &mut session, b"seed 3")?;
+    let seeded = delta_of(rt.alloc(), &mut session, b"seed 3")?;
     assert!(rt; matches!(seeded, Delta::Seed(_)));
-    let (drawn, _) = done(rt.alloc(), &mut session, b"unif 1")?;
+    let drawn = delta_of(rt.alloc(), &mut session, b"unif 1")?;
     assert!(rt; matches!(drawn, Delta::Draws(1)));
-    let (made, _) = done(rt.alloc(), &mut session, b"graph c 3")?;
+    let made = delta_of(rt.alloc(), &mut session, b"graph c 3")?;
     assert!(rt; matches!(made, Delta::Made));
-    let (dropped, _) = done(rt.alloc(), &mut session, b"drop b")?;
-    assert!(rt;
-        matches!(&dropped, Delta::Dropped(1, name, graph) if name.bytes() == b"b".as_slice() && graph.m() == 3)
-    );
+    let dropped = delta_of(rt.alloc(), &mut session, b"drop b")?;
+    assert!(rt; gives_back(&dropped, 1, b"b", 3));
     Ok(())
+}
+
+// Whether a line leaves the delta of an edit of b.
+fn edits_b(alloc: Global, session: &mut Session, line: &str) -> Result<bool, ShellRefusal> {
+    let delta = delta_of(alloc, session, line.as_bytes())?;
+    Ok(matches!(delta, Delta::Edit(1, _)))
 }
 
 #[test]
@@ -78,20 +124,25 @@ fn an_edit_tells_its_place(rt: HostRuntime) -> Result<(), Fail> {
         "id b \"y\"",
     ];
     for edit in edits {
-        let (delta, _) = done(rt.alloc(), &mut session, edit.as_bytes())?;
-        assert!(rt; matches!(delta, Delta::Edit(1, _)), "{edit}");
+        assert!(rt; edits_b(rt.alloc(), &mut session, edit)?, "{edit}");
     }
     Ok(())
+}
+
+// What a line is answered.
+fn reply_to(alloc: Global, session: &mut Session, line: &[u8]) -> Result<Reply, ShellRefusal> {
+    let (_delta, reply) = done(alloc, session, line)?;
+    Ok(reply)
 }
 
 #[test]
 fn each_kind_of_reply_is_given(rt: HostRuntime) -> Result<(), Fail> {
     let mut session = two_graphs(rt.alloc())?;
-    let (_, answered) = done(rt.alloc(), &mut session, b"id a \"\"")?;
+    let answered = reply_to(rt.alloc(), &mut session, b"id a \"\"")?;
     assert!(rt; matches!(answered, Reply::Done));
-    let (_, drawn) = done(rt.alloc(), &mut session, b"next")?;
+    let drawn = reply_to(rt.alloc(), &mut session, b"next")?;
     assert!(rt; matches!(drawn, Reply::Number(2_029_883_356)));
-    let (_, made) = done(rt.alloc(), &mut session, b"graph c 3")?;
+    let made = reply_to(rt.alloc(), &mut session, b"graph c 3")?;
     assert!(rt; matches!(made, Reply::Made(_, 3, 0)));
     Ok(())
 }
@@ -99,33 +150,118 @@ fn each_kind_of_reply_is_given(rt: HostRuntime) -> Result<(), Fail> {
 #[test]
 fn replies_give_the_numbers_of_arcs(rt: HostRuntime) -> Result<(), Fail> {
     let mut session = two_graphs(rt.alloc())?;
-    let (_, arc) = done(rt.alloc(), &mut session, b"arc b 1 1 0")?;
+    let arc = reply_to(rt.alloc(), &mut session, b"arc b 1 1 0")?;
     assert!(rt; matches!(arc, Reply::Arc(number) if number.0 == 3));
-    let (_, edge) = done(rt.alloc(), &mut session, b"edge b 1 1 0")?;
+    let edge = reply_to(rt.alloc(), &mut session, b"edge b 1 1 0")?;
     assert!(rt; matches!(edge, Reply::Edge(first, second) if first.0 == 4 && second.0 == 5));
     Ok(())
+}
+
+// The number of a new arc of b.
+fn arc_made(alloc: Global, session: &mut Session) -> Result<u32, ShellRefusal> {
+    match done(alloc, session, b"arc b 0 1 7")? {
+        (_, Reply::Arc(number)) => Ok(number.0),
+        _ => Err(ShellRefusal::ScriptSyntax),
+    }
+}
+
+#[test]
+fn thousands_of_arcs_are_applied(rt: HostRuntime) -> Result<(), Fail> {
+    let mut session = two_graphs(rt.alloc())?;
+    for number in 3..10_000u32 {
+        assert!(rt; arc_made(rt.alloc(), &mut session)? == number);
+    }
+    Ok(())
+}
+
+// What is said to a line that ends in a text of so many letters.
+fn text_refused(
+    alloc: Global,
+    session: &mut Session,
+    front: &str,
+    letters: usize,
+) -> Result<Option<ShellRefusal>, Fail> {
+    let text = vec![in alloc; b'a'; letters]?;
+    let mut line = Vec::from_slice(alloc, front.as_bytes())?;
+    line.extend_from_slice(&text)?;
+    line.push(b'"')?;
+    Ok(done(alloc, session, line.as_slice()).err())
+}
+
+#[test]
+fn the_longest_texts_are_applied(rt: HostRuntime) -> Result<(), Fail> {
+    let mut session = two_graphs(rt.alloc())?;
+    for front in [
+        "label b 0 \"",
+        "set b V0 u \"",
+        "set b A0 a \"",
+        "set b G zz \"",
+    ] {
+        let refused = text_refused(rt.alloc(), &mut session, front, 4095)?;
+        assert!(rt; refused.is_none(), "{front}");
+    }
+    let bad = Some(ShellRefusal::BadOperand);
+    for (letters, want) in [(4095, bad), (161, bad), (160, None)] {
+        let refused = text_refused(rt.alloc(), &mut session, "id b \"", letters)?;
+        assert!(rt; refused == want, "{letters} letters");
+    }
+    Ok(())
+}
+
+// Where the graph of this name stands.
+fn place_of(journal: &Journal<Session>, name: &Name) -> Option<usize> {
+    journal.machine().find(name)
 }
 
 #[test]
 fn a_journal_takes_a_drop_back(rt: HostRuntime) -> Result<(), Fail> {
     let mut journal = Journal::new(rt.alloc(), two_graphs(rt.alloc())?);
     let name = named(b"a")?;
-    assert!(rt; matches!(journal.apply(Command::Drop(name)), Ok(Reply::Done)));
-    assert!(rt; journal.machine().find(&name).is_none());
-    assert!(rt; journal.undo().is_ok());
-    assert_eq!(rt; journal.machine().find(&name), Some(0));
-    assert_eq!(rt; journal.machine().len(), 2);
+    assert!(rt; apply(&mut journal, Command::Drop(name)) == Some(Reply::Done));
+    assert!(rt; place_of(&journal, &name).is_none());
+    assert!(rt; undo(&mut journal));
+    assert!(rt; place_of(&journal, &name) == Some(0));
+    assert!(rt; place_of(&journal, &named(b"b")?) == Some(1));
     Ok(())
+}
+
+// The number of vertices that a line gives a graph.
+fn vertices_of(alloc: Global, line: &[u8]) -> Option<i64> {
+    match read(alloc, line) {
+        Ok(Line::Change(Command::Graph(_, n))) => Some(n),
+        _ => None,
+    }
+}
+
+fn is_cut(alloc: Global, line: &[u8]) -> bool {
+    matches!(
+        read(alloc, line),
+        Ok(Line::Change(Command::Edit(_, Edit::Cut(_))))
+    )
+}
+
+fn is_list(alloc: Global, line: &[u8]) -> bool {
+    matches!(read(alloc, line), Ok(Line::Ask(Query::List)))
+}
+
+fn is_show(alloc: Global, line: &[u8]) -> bool {
+    matches!(read(alloc, line), Ok(Line::Ask(Query::Show(_))))
+}
+
+fn is_undo(alloc: Global, line: &[u8]) -> bool {
+    matches!(read(alloc, line), Ok(Line::Undo))
+}
+
+fn is_redo(alloc: Global, line: &[u8]) -> bool {
+    matches!(read(alloc, line), Ok(Line::Redo))
 }
 
 #[test]
 fn lines_of_graphs_are_read(rt: HostRuntime) {
-    let line = parse(rt.alloc(), b"graph g -5");
-    assert!(rt; matches!(line, Ok(Line::Change(Command::Graph(_, -5)))));
-    let line = parse(rt.alloc(), b"cut g -1");
-    assert!(rt; matches!(line, Ok(Line::Change(Command::Edit(_, Edit::Cut(_))))));
-    assert!(rt; matches!(parse(rt.alloc(), b"list"), Ok(Line::Ask(Query::List))));
-    assert!(rt; matches!(parse(rt.alloc(), b"show g"), Ok(Line::Ask(Query::Show(_)))));
-    assert!(rt; matches!(parse(rt.alloc(), b" undo"), Ok(Line::Undo)));
-    assert!(rt; matches!(parse(rt.alloc(), b"redo "), Ok(Line::Redo)));
+    assert!(rt; vertices_of(rt.alloc(), b"graph g -5") == Some(-5));
+    assert!(rt; is_cut(rt.alloc(), b"cut g -1"));
+    assert!(rt; is_list(rt.alloc(), b"list"));
+    assert!(rt; is_show(rt.alloc(), b"show g"));
+    assert!(rt; is_undo(rt.alloc(), b" undo"));
+    assert!(rt; is_redo(rt.alloc(), b"redo "));
 }

@@ -10,12 +10,18 @@ mod fake;
 #[cfg(test)]
 mod fields;
 #[cfg(test)]
+mod journals;
+#[cfg(test)]
 mod limits;
 #[cfg(test)]
 mod lines;
+#[cfg(test)]
+mod many;
 #[cfg(test)]
 mod session;
 #[cfg(test)]
 mod table;
 #[cfg(test)]
 mod whole;
+#[cfg(test)]
+mod worked;

@@ -2,7 +2,8 @@
 
 use crate::fake::{Room, Same, Steps};
 use sgb_shell::{RunEnd, RunFault, SCRIPT_LIMIT, run};
-use std::alloc::Global;
+use std::alloc::{AllocError, Global};
+use std::io::Read;
 use std::test::Fail;
 
 const FIRST: &[u8] = b"seed -314159\nnext\nundo\nnext\n";
@@ -10,13 +11,14 @@ const FIRST: &[u8] = b"seed -314159\nnext\nundo\nnext\n";
 const FIRST_TRANSCRIPT: &[u8] = b"ok\n119318998\nundone\n119318998\n";
 
 // After 65,535 numbers nothing more is performed, until the last number is taken back; it comes again.
-const FULL: &[u8] = b"next\ndrop nobody\nshow nobody\nundo\nnext\n";
+const FULL: &[u8] = b"next\ndrop nobody\nshow nobody\nundo\nnext\nnext\n";
 
 const FULL_ENDING: &[u8] = b"line 65536: refused 105 journal is full
 line 65537: refused 105 journal is full
 line 65538: refused 50 no such graph
 undone
 1104040056
+line 65541: refused 105 journal is full
 ";
 
 static SCRIPTS: [(&str, &str); 9] = [
@@ -77,108 +79,138 @@ fn scripts_have_their_transcripts(rt: HostRuntime) -> Result<(), Fail> {
     Ok(())
 }
 
+// Adds a line to the script, so many times.
+fn repeat(script: &mut Vec<u8>, count: u32, line: &[u8]) -> Result<(), AllocError> {
+    for _ in 0..count {
+        script.extend_from_slice(line)?;
+    }
+    Ok(())
+}
+
+fn sixty_draws(alloc: Global) -> Result<Vec<u8>, AllocError> {
+    let mut script = Vec::new(alloc);
+    repeat(&mut script, 60, b"next\n")?;
+    repeat(&mut script, 60, b"undo\n")?;
+    repeat(&mut script, 1, b"next\n")?;
+    Ok(script)
+}
+
 #[test]
 fn sixty_draws_are_taken_back(rt: HostRuntime) -> Result<(), Fail> {
-    let mut script = Vec::new(rt.alloc());
-    for _ in 0..60u32 {
-        script.extend_from_slice(b"next\n")?;
-    }
-    for _ in 0..60u32 {
-        script.extend_from_slice(b"undo\n")?;
-    }
-    script.extend_from_slice(b"next\n")?;
+    let script = sixty_draws(rt.alloc())?;
     let text = transcript_of(rt.alloc(), script.as_slice())?;
     assert!(rt; text.as_slice().starts_with(b"2029883356\n"));
     assert!(rt; text.as_slice().ends_with(b"undone\n2029883356\n"));
     Ok(())
 }
 
+fn full_journal(alloc: Global) -> Result<Vec<u8>, AllocError> {
+    let mut script = Vec::new(alloc);
+    repeat(&mut script, 65_535, b"next\n")?;
+    repeat(&mut script, 1, FULL)?;
+    Ok(script)
+}
+
 #[test]
 fn a_full_journal_is_told(rt: HostRuntime) -> Result<(), Fail> {
-    let mut script = Vec::new(rt.alloc());
-    for _ in 0..65_535u32 {
-        script.extend_from_slice(b"next\n")?;
-    }
-    script.extend_from_slice(FULL)?;
+    let script = full_journal(rt.alloc())?;
     let text = transcript_of(rt.alloc(), script.as_slice())?;
     assert!(rt; text.as_slice().ends_with(FULL_ENDING));
     Ok(())
 }
 
-fn kept(alloc: Global, room: usize, step: usize) -> Room {
-    Room {
+// How a run ends, and what a writer keeps of it that has so much room, and takes so many bytes at a time.
+fn written<R: Read + Drop>(
+    alloc: Global,
+    reader: R,
+    room: usize,
+    step: usize,
+) -> (Result<RunEnd, RunFault>, Vec<u8>) {
+    let writer = Room {
         kept: Vec::new(alloc),
         room,
         step,
+    };
+    let ended = run(alloc, reader, writer);
+    (ended.end, ended.writer.into_inner().kept)
+}
+
+// Whether a run of a reader ends so, and writes this.
+fn ends<R: Read + Drop>(
+    alloc: Global,
+    reader: R,
+    end: Result<RunEnd, RunFault>,
+    text: &[u8],
+) -> bool {
+    let (ended, kept) = written(alloc, reader, 1000, 1000);
+    ended == end && kept.as_slice() == text
+}
+
+const FOUR_LINES: Result<RunEnd, RunFault> = Ok(RunEnd {
+    lines: 4,
+    refused: 0,
+});
+
+// The first script, byte by byte.
+fn single_bytes() -> Steps<'static> {
+    Steps {
+        rest: FIRST,
+        step: 1,
+        fails: false,
     }
+}
+
+// How many reads a run of the first script makes, where each gives one byte.
+fn reads_of_single_bytes(alloc: Global) -> u64 {
+    run(alloc, single_bytes(), Vec::new(alloc)).reader.reads()
 }
 
 #[test]
 fn steps_of_one_byte_change_nothing(rt: HostRuntime) {
-    let reader = Steps {
-        rest: FIRST,
-        step: 1,
-        fails: false,
-    };
-    let ended = run(rt.alloc(), reader, kept(rt.alloc(), 1000, 1));
-    assert_eq!(rt;
-        ended.end,
-        Ok(RunEnd {
-            lines: 4,
-            refused: 0
-        })
-    );
-    assert_eq!(rt; ended.reader.reads(), 29);
-    assert!(rt; ended.writer.into_inner().kept.as_slice() == FIRST_TRANSCRIPT);
+    let (end, kept) = written(rt.alloc(), single_bytes(), 1000, 1);
+    assert!(rt; end == FOUR_LINES);
+    assert!(rt; kept.as_slice() == FIRST_TRANSCRIPT);
+    assert!(rt; reads_of_single_bytes(rt.alloc()) == 29);
+}
+
+// Whether a run of the script's first bytes, in steps, ends so and writes so many bytes of the transcript.
+fn ends_after(
+    alloc: Global,
+    count: usize,
+    step: usize,
+    end: Result<RunEnd, RunFault>,
+    front: usize,
+) -> bool {
+    let rest = &FIRST[..count.min(FIRST.len())];
+    let text = &FIRST_TRANSCRIPT[..front.min(FIRST_TRANSCRIPT.len())];
+    let fails = end.is_err();
+    let reader = Steps { rest, step, fails };
+    ends(alloc, reader, end, text)
 }
 
 #[test]
 fn a_cut_line_is_done_at_the_end_and_not_at_a_fault(rt: HostRuntime) {
-    let cases = [
-        (20, true, Err(RunFault::Read), 13),
-        (27, true, Err(RunFault::Read), 20),
-        (
-            27,
-            false,
-            Ok(RunEnd {
-                lines: 4,
-                refused: 0,
-            }),
-            30,
-        ),
-        (28, true, Err(RunFault::Read), 30),
-    ];
-    for (count, fails, end, written) in cases {
-        let (rest, _) = FIRST.split_at(count);
-        let reader = Steps {
-            rest,
-            step: 7,
-            fails,
-        };
-        let ended = run(rt.alloc(), reader, kept(rt.alloc(), 1000, 1000));
-        assert!(rt; ended.end == end, "{count} bytes");
-        let (front, _) = FIRST_TRANSCRIPT.split_at(written);
-        assert!(rt;
-            ended.writer.into_inner().kept.as_slice() == front,
-            "{count} bytes"
-        );
+    for step in [1, 7, 1000] {
+        assert!(rt; ends_after(rt.alloc(), 20, step, Err(RunFault::Read), 13));
+        assert!(rt; ends_after(rt.alloc(), 27, step, Err(RunFault::Read), 20));
+        assert!(rt; ends_after(rt.alloc(), 27, step, FOUR_LINES, 30));
+        assert!(rt; ends_after(rt.alloc(), 28, step, Err(RunFault::Read), 30));
     }
 }
 
 #[test]
 fn a_writer_without_room_keeps_a_front(rt: HostRuntime) {
-    for room in 0..31usize {
-        let ended = run(rt.alloc(), FIRST, kept(rt.alloc(), room, 1000));
-        let (front, _) = FIRST_TRANSCRIPT.split_at(room.min(FIRST_TRANSCRIPT.len()));
-        assert!(rt; ended.end.is_ok() == (room == 30), "room for {room}");
-        if room < 30 {
-            assert!(rt; ended.end == Err(RunFault::Write), "room for {room}");
-        }
+    for room in 0..30usize {
+        let (end, kept) = written(rt.alloc(), FIRST, room, 1000);
+        assert!(rt; end == Err(RunFault::Write), "room for {room}");
         assert!(rt;
-            ended.writer.into_inner().kept.as_slice() == front,
+            kept.as_slice() == &FIRST_TRANSCRIPT[..room],
             "room for {room}"
         );
     }
+    let (end, kept) = written(rt.alloc(), FIRST, 30, 1000);
+    assert!(rt; end == FOUR_LINES);
+    assert!(rt; kept.as_slice() == FIRST_TRANSCRIPT);
 }
 
 // A graph is shown after its arcs were made.
@@ -202,53 +234,74 @@ seed 0, draws 0, unread 54
 fn a_show_without_room_keeps_a_front(rt: HostRuntime) {
     let whole = SHOWN_TRANSCRIPT.len();
     for room in 0..whole + 1 {
-        let ended = run(rt.alloc(), SHOWN, kept(rt.alloc(), room, 1000));
-        assert!(rt; ended.end.is_ok() == (room == whole), "room for {room}");
+        let (end, kept) = written(rt.alloc(), SHOWN, room, 1000);
+        assert!(rt; end.is_ok() == (room == whole), "room for {room}");
         assert!(rt;
-            ended.writer.into_inner().kept.as_slice() == &SHOWN_TRANSCRIPT[..room],
+            kept.as_slice() == &SHOWN_TRANSCRIPT[..room],
             "room for {room}"
         );
     }
 }
 
-#[test]
-fn a_script_has_its_limit(rt: HostRuntime) {
+// How a run of so many newlines ends, and how many of them are left.
+fn after_newlines(alloc: Global, count: usize) -> (Result<RunEnd, RunFault>, usize) {
     let newlines = Same {
         byte: b'\n',
-        left: SCRIPT_LIMIT,
+        left: count,
     };
-    let ended = run(rt.alloc(), newlines, kept(rt.alloc(), 0, 1));
-    assert_eq!(rt;
-        ended.end,
-        Ok(RunEnd {
+    let ended = run(alloc, newlines, Vec::new(alloc));
+    (ended.end, ended.reader.into_inner().left)
+}
+
+#[test]
+fn a_script_has_its_limit(rt: HostRuntime) {
+    let (end, _left) = after_newlines(rt.alloc(), SCRIPT_LIMIT);
+    assert!(rt;
+        end == Ok(RunEnd {
             lines: 16_777_216,
             refused: 0
         })
     );
-    let one_more = Same {
-        byte: b'\n',
-        left: SCRIPT_LIMIT + 1,
-    };
-    let ended = run(rt.alloc(), one_more, kept(rt.alloc(), 0, 1));
-    assert_eq!(rt; ended.end, Err(RunFault::TooLong));
-    assert_eq!(rt; ended.reader.into_inner().left, 0);
+    let (end, left) = after_newlines(rt.alloc(), SCRIPT_LIMIT + 1);
+    assert!(rt; end == Err(RunFault::TooLong));
+    assert!(rt; left == 0);
+}
+
+// Six bytes too many; the last line but one is cut by the limit.
+fn cut_by_the_limit(alloc: Global) -> Result<Vec<u8>, AllocError> {
+    let mut script = Vec::from_slice(alloc, b"next\n")?;
+    for _ in script.len()..SCRIPT_LIMIT - 4 {
+        script.push(b'\n')?;
+    }
+    script.extend_from_slice(b"next\nnext\n")?;
+    Ok(script)
+}
+
+#[test]
+fn lines_within_the_limit_are_answered(rt: HostRuntime) -> Result<(), Fail> {
+    let script = cut_by_the_limit(rt.alloc())?;
+    let end = Err(RunFault::TooLong);
+    assert!(rt; ends(rt.alloc(), script.as_slice(), end, b"2029883356\n"));
+    Ok(())
+}
+
+// A remark of so many bytes, and a draw.
+fn long_remark(alloc: Global, count: u32) -> Result<Vec<u8>, AllocError> {
+    let mut script = Vec::new(alloc);
+    for _ in 0..count {
+        script.push(b'#')?;
+    }
+    script.extend_from_slice(b"\nnext\n")?;
+    Ok(script)
 }
 
 #[test]
 fn a_line_has_its_limit(rt: HostRuntime) -> Result<(), Fail> {
-    for (count, refused) in [(8192, false), (8193, true)] {
-        let mut script = Vec::new(rt.alloc());
-        for _ in 0..count {
-            script.push(b'#')?;
-        }
-        script.extend_from_slice(b"\nnext\n")?;
-        let text = transcript_of(rt.alloc(), script.as_slice())?;
-        assert!(rt;
-            text.as_slice()
-                .starts_with(b"line 1: refused 100 bad command\n")
-                == refused
-        );
-        assert!(rt; text.as_slice().ends_with(b"2029883356\n"));
-    }
+    let longest = long_remark(rt.alloc(), 8192)?;
+    let text = transcript_of(rt.alloc(), longest.as_slice())?;
+    assert!(rt; text.as_slice() == b"2029883356\n".as_slice());
+    let longer = long_remark(rt.alloc(), 8193)?;
+    let text = transcript_of(rt.alloc(), longer.as_slice())?;
+    assert!(rt; text.as_slice() == b"line 1: refused 100 bad command\n2029883356\n".as_slice());
     Ok(())
 }
