@@ -5,7 +5,7 @@ use sgb_graph::{ArcNo, Graph, GraphDelta};
 use sgb_script::Name;
 
 /// What undoing a command needs beside the command. It holds no copy of a graph or of the table.
-#[derive(Drop)]
+#[derive(Drop, PartialEq, Eq)]
 pub enum Delta {
     /// The generator before a seeding.
     Seed(Mark),
