@@ -1,13 +1,13 @@
 //! Arcs and edges: their numbers, their order, and cuts.
 
-use crate::edits::{arc, arc_and_back, cut, cut_and_back, edge, edge_and_back, star};
-use crate::looks::{has_counts, has_id, is_arc, is_hole, lists, next_of};
-use sgb_graph::{Graph, Refusal};
+use crate::edits::{arc, arc_and_back, cut, cut_and_back, edge, edge_and_back, new_graph, star};
+use crate::looks::{has_counts, has_id, is_arc, is_followed_by, is_hole, lists};
+use sgb_graph::{ArcNo, Refusal};
 use std::test::Fail;
 
 #[test]
 fn a_new_graph_is_bare(rt: HostRuntime) -> Result<(), Fail> {
-    let graph = Graph::new(rt.alloc(), 4)?;
+    let graph = new_graph(rt.alloc(), 4)?;
     assert!(rt; graph.n() == 4);
     assert!(rt; graph.m() == 0);
     assert!(rt; graph.made() == 0);
@@ -18,21 +18,21 @@ fn a_new_graph_is_bare(rt: HostRuntime) -> Result<(), Fail> {
 
 #[test]
 fn arcs_stand_newest_first(rt: HostRuntime) -> Result<(), Fail> {
-    let mut graph = Graph::new(rt.alloc(), 4)?;
+    let mut graph = new_graph(rt.alloc(), 4)?;
     for to in 1..4u32 {
         assert!(rt; arc(&mut graph, 0, to, i64::from(to))? == to - 1);
     }
     assert!(rt; lists(&graph, 0, &[2, 1, 0]));
     assert!(rt; is_arc(&graph, 1, 0, 2, 2));
-    assert!(rt; next_of(&graph, 2) == Some(1));
-    assert!(rt; next_of(&graph, 0).is_none());
+    assert!(rt; is_followed_by(&graph, 2, Some(ArcNo(1))));
+    assert!(rt; is_followed_by(&graph, 0, None));
     assert!(rt; arc(&mut graph, 0, 4, 1) == Err(Refusal::BadOperand));
     Ok(())
 }
 
 #[test]
 fn an_edge_has_two_halves(rt: HostRuntime) -> Result<(), Fail> {
-    let mut graph = Graph::new(rt.alloc(), 2)?;
+    let mut graph = new_graph(rt.alloc(), 2)?;
     assert!(rt; edge(&mut graph, 1, 0, 5)? == 0);
     assert!(rt; lists(&graph, 0, &[0]));
     assert!(rt; lists(&graph, 1, &[1]));
@@ -67,7 +67,7 @@ fn a_cut_arc_leaves_a_hole(rt: HostRuntime) -> Result<(), Fail> {
 
 #[test]
 fn an_undone_edge_gives_its_numbers_back(rt: HostRuntime) -> Result<(), Fail> {
-    let mut graph = Graph::new(rt.alloc(), 2)?;
+    let mut graph = new_graph(rt.alloc(), 2)?;
     assert!(rt; edge_and_back(&mut graph, 0, 1, &[0])?);
     assert!(rt; graph.made() == 0);
     assert!(rt; arc(&mut graph, 0, 1, 1)? == 0);

@@ -1,8 +1,18 @@
 //! Edits whose deltas are not kept, and edits that are undone at once.
 
 use crate::looks::{is_hole, lists};
-use sgb_graph::{ArcNo, Graph, Place, Refusal, Util, VertexNo};
+use sgb_graph::{ArcNo, Graph, Place, Refusal, Text, Util, VertexNo};
 use std::alloc::Global;
+
+/// A graph of so many vertices.
+pub fn new_graph(alloc: Global, n: u32) -> Result<Graph, Refusal> {
+    Graph::new(alloc, n)
+}
+
+/// The text of these bytes.
+pub fn text(alloc: Global, bytes: &[u8]) -> Result<Text, Refusal> {
+    Text::new(alloc, bytes)
+}
 
 /// A new arc's number.
 pub fn arc(graph: &mut Graph, from: u32, to: u32, len: i64) -> Result<u32, Refusal> {
@@ -30,7 +40,7 @@ pub fn set(graph: &mut Graph, place: Place, value: Util) -> Result<(), Refusal> 
 
 /// A graph of so many vertices, of which the first has an arc of length k to vertex k, for k from 1.
 pub fn star(alloc: Global, n: u32) -> Result<Graph, Refusal> {
-    let mut graph = Graph::new(alloc, n)?;
+    let mut graph = new_graph(alloc, n)?;
     for to in 1..n {
         arc(&mut graph, 0, to, i64::from(to))?;
     }

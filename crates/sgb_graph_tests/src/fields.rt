@@ -1,6 +1,6 @@
 //! Utility fields, labels, ids and letters.
 
-use crate::edits::{arc, cut, set};
+use crate::edits::{arc, cut, new_graph, set, text};
 use crate::looks::{has_counts, has_id, has_label, is_arc};
 use sgb_graph::{
     ArcField, ArcNo, Graph, GraphDelta, Place, Refusal, Text, Types, Util, VertexField, VertexNo,
@@ -12,14 +12,14 @@ const FIELD: Place = Place::Vertex(VertexNo(0), VertexField::U);
 
 // The first vertex has a loop.
 fn one_loop(alloc: Global) -> Result<Graph, Refusal> {
-    let mut graph = Graph::new(alloc, 1)?;
+    let mut graph = new_graph(alloc, 1)?;
     arc(&mut graph, 0, 0, 1)?;
     Ok(graph)
 }
 
 #[test]
 fn a_field_names_what_is_there(rt: HostRuntime) -> Result<(), Fail> {
-    let mut graph = Graph::new(rt.alloc(), 1)?;
+    let mut graph = new_graph(rt.alloc(), 1)?;
     assert!(rt; set(&mut graph, FIELD, Util::Arc(ArcNo(0))) == Err(Refusal::BadOperand));
     arc(&mut graph, 0, 0, 1)?;
     set(&mut graph, FIELD, Util::Arc(ArcNo(0)))?;
@@ -63,8 +63,8 @@ fn was_text(graph: &mut Graph, value: Util) -> Result<bool, Refusal> {
 fn values_are_kept(rt: HostRuntime) -> Result<(), Fail> {
     let mut graph = one_loop(rt.alloc())?;
     assert!(rt; was_zero(&mut graph, Util::Int(0))?);
-    assert!(rt; was_zero(&mut graph, Util::Text(Text::new(rt.alloc(), b"")?))?);
-    assert!(rt; was_zero(&mut graph, Util::Text(Text::new(rt.alloc(), b"y")?))?);
+    assert!(rt; was_zero(&mut graph, Util::Text(text(rt.alloc(), b"")?))?);
+    assert!(rt; was_zero(&mut graph, Util::Text(text(rt.alloc(), b"y")?))?);
     assert!(rt; was_text(&mut graph, Util::Zero)?);
     assert!(rt; was_zero(&mut graph, Util::Int(7))?);
     assert!(rt; is_seven(&graph));
@@ -98,13 +98,18 @@ fn id_and_back(graph: &mut Graph, id: Text) -> Result<usize, Refusal> {
     Ok(len)
 }
 
+// A text of so many letters.
+fn letters(alloc: Global, count: usize) -> Result<Text, Refusal> {
+    let bytes = vec![in alloc; b'a'; count]?;
+    text(alloc, &bytes)
+}
+
 #[test]
 fn ids_have_a_limit(rt: HostRuntime) -> Result<(), Fail> {
-    let mut graph = Graph::new(rt.alloc(), 1)?;
-    let long = vec![in rt.alloc(); b'a'; 161]?;
-    let refused = id_and_back(&mut graph, Text::new(rt.alloc(), &long)?);
+    let mut graph = new_graph(rt.alloc(), 1)?;
+    let refused = id_and_back(&mut graph, letters(rt.alloc(), 161)?);
     assert!(rt; refused == Err(Refusal::BadOperand));
-    assert!(rt; id_and_back(&mut graph, Text::new(rt.alloc(), &long[..160])?)? == 160);
+    assert!(rt; id_and_back(&mut graph, letters(rt.alloc(), 160)?)? == 160);
     assert!(rt; has_id(&graph, b"gb_new_graph(1)"));
     Ok(())
 }
@@ -116,10 +121,10 @@ fn set_label(graph: &mut Graph, vertex: u32, label: Text) -> Result<(), Refusal>
 
 #[test]
 fn labels_are_set(rt: HostRuntime) -> Result<(), Fail> {
-    let mut graph = Graph::new(rt.alloc(), 1)?;
-    set_label(&mut graph, 0, Text::new(rt.alloc(), b"a name")?)?;
+    let mut graph = new_graph(rt.alloc(), 1)?;
+    set_label(&mut graph, 0, text(rt.alloc(), b"a name")?)?;
     assert!(rt; has_label(&graph, 0, b"a name"));
-    let refused = set_label(&mut graph, 1, Text::new(rt.alloc(), b"x")?);
+    let refused = set_label(&mut graph, 1, text(rt.alloc(), b"x")?);
     assert!(rt; refused == Err(Refusal::BadOperand));
     Ok(())
 }
@@ -150,7 +155,7 @@ fn lengths_and_ids_are_swapped(rt: HostRuntime) -> Result<(), Fail> {
     let mut graph = one_loop(rt.alloc())?;
     assert!(rt; swap_len(&mut graph, 0, 8) == Some(1));
     assert!(rt; is_arc(&graph, 0, 0, 0, 8));
-    assert!(rt; swap_id(&mut graph, Text::new(rt.alloc(), b"two")?) == Some(15));
+    assert!(rt; swap_id(&mut graph, text(rt.alloc(), b"two")?) == Some(15));
     assert!(rt; has_id(&graph, b"two"));
     Ok(())
 }
@@ -180,21 +185,17 @@ fn is_honest_with(graph: &mut Graph, letter: u8, value: Util) -> Result<bool, Re
 #[test]
 fn letters_allow_values(rt: HostRuntime) -> Result<(), Fail> {
     let mut graph = one_loop(rt.alloc())?;
-    let vertex = VertexNo(0);
-    for (letter, value, honest) in [
-        (b'Z', Util::Zero, true),
-        (b'Z', Util::Int(1), false),
-        (b'I', Util::Int(2), true),
-        (b'I', Util::Vertex(vertex), false),
-        (b'V', Util::Vertex(vertex), true),
-        (b'V', Util::Int(1), true),
-        (b'V', Util::Int(2), false),
-        (b'A', Util::Arc(ArcNo(0)), true),
-        (b'A', Util::Vertex(vertex), false),
-        (b'S', Util::Text(Text::new(rt.alloc(), b"a")?), true),
-        (b'S', Util::Int(1), false),
-    ] {
-        assert!(rt; is_honest_with(&mut graph, letter, value)? == honest);
-    }
+    let word = Util::Text(text(rt.alloc(), b"a")?);
+    assert!(rt; is_honest_with(&mut graph, b'Z', Util::Zero)?);
+    assert!(rt; !is_honest_with(&mut graph, b'Z', Util::Int(1))?);
+    assert!(rt; is_honest_with(&mut graph, b'I', Util::Int(2))?);
+    assert!(rt; !is_honest_with(&mut graph, b'I', Util::Vertex(VertexNo(0)))?);
+    assert!(rt; is_honest_with(&mut graph, b'V', Util::Vertex(VertexNo(0)))?);
+    assert!(rt; is_honest_with(&mut graph, b'V', Util::Int(1))?);
+    assert!(rt; !is_honest_with(&mut graph, b'V', Util::Int(2))?);
+    assert!(rt; is_honest_with(&mut graph, b'A', Util::Arc(ArcNo(0)))?);
+    assert!(rt; !is_honest_with(&mut graph, b'A', Util::Vertex(VertexNo(0)))?);
+    assert!(rt; is_honest_with(&mut graph, b'S', word)?);
+    assert!(rt; !is_honest_with(&mut graph, b'S', Util::Int(1))?);
     Ok(())
 }

@@ -1,6 +1,6 @@
 //! The largest graphs.
 
-use crate::edits::{arc, arc_and_back, cut, cut_and_back, edge};
+use crate::edits::{arc, arc_and_back, cut, cut_and_back, edge, new_graph};
 use crate::looks::has_counts;
 use sgb_graph::{Graph, MOST_ARCS, MOST_VERTICES, Refusal, VertexNo};
 use std::alloc::Global;
@@ -8,16 +8,16 @@ use std::test::Fail;
 
 #[test]
 fn no_more_vertices_than_65535(rt: HostRuntime) -> Result<(), Fail> {
-    let large = Graph::new(rt.alloc(), 65_536).err();
+    let large = new_graph(rt.alloc(), 65_536).err();
     assert!(rt; large == Some(Refusal::TooLarge));
-    let largest = Graph::new(rt.alloc(), 65_535)?;
+    let largest = new_graph(rt.alloc(), 65_535)?;
     assert!(rt; largest.n() == 65_535);
     Ok(())
 }
 
 // A graph of 65,535 vertices that has given out so many numbers.
 fn with_arcs(alloc: Global, count: u32) -> Result<Graph, Refusal> {
-    let mut graph = Graph::new(alloc, MOST_VERTICES)?;
+    let mut graph = new_graph(alloc, MOST_VERTICES)?;
     for number in 0..count {
         arc(&mut graph, number % MOST_VERTICES, 7, 1)?;
     }

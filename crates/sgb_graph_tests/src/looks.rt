@@ -50,13 +50,14 @@ pub fn has_label(graph: &Graph, vertex: u32, label: &[u8]) -> bool {
     vertex < graph.n() && graph.label(VertexNo(vertex)) == label
 }
 
-/// The number that follows a live arc's in its list, where it lives.
-pub fn next_of(graph: &Graph, number: u32) -> Option<u32> {
-    if number >= graph.made() {
-        return None;
-    }
-    match graph.arc(ArcNo(number)) {
-        Some(_) => graph.next_of(ArcNo(number)).map(|next| next.0),
-        None => None,
-    }
+/// Whether an arc lives and is followed by this one in its list.
+pub fn is_followed_by(graph: &Graph, number: u32, next: Option<ArcNo>) -> bool {
+    number < graph.made()
+        && graph.arc(ArcNo(number)).is_some()
+        && graph.next_of(ArcNo(number)) == next
+}
+
+/// Whether each arc has its other half.
+pub fn is_paired(graph: &Graph) -> bool {
+    graph.is_paired()
 }

@@ -1,21 +1,22 @@
 //! Arcs with their other halves.
 
-use crate::edits::{arc, edge};
+use crate::edits::{arc, edge, new_graph};
+use crate::looks::is_paired;
 use sgb_graph::{ArcNo, Graph, Refusal, VertexNo};
 use std::test::Fail;
 
 #[test]
 fn edges_are_paired(rt: HostRuntime) -> Result<(), Fail> {
-    let mut graph = Graph::new(rt.alloc(), 2)?;
-    assert!(rt; graph.is_paired());
+    let mut graph = new_graph(rt.alloc(), 2)?;
+    assert!(rt; is_paired(&graph));
     edge(&mut graph, 1, 0, 1)?;
-    assert!(rt; graph.is_paired());
+    assert!(rt; is_paired(&graph));
     for _ in 0..2u32 {
         edge(&mut graph, 1, 1, 1)?;
-        assert!(rt; graph.is_paired());
+        assert!(rt; is_paired(&graph));
     }
     arc(&mut graph, 0, 1, 1)?;
-    assert!(rt; !graph.is_paired());
+    assert!(rt; !is_paired(&graph));
     Ok(())
 }
 
@@ -37,15 +38,15 @@ fn is_paired_with(graph: &mut Graph, from: u32, to: u32) -> Result<bool, Refusal
 
 #[test]
 fn a_half_alone_is_told(rt: HostRuntime) -> Result<(), Fail> {
-    let mut graph = Graph::new(rt.alloc(), 2)?;
+    let mut graph = new_graph(rt.alloc(), 2)?;
     edge(&mut graph, 1, 0, 1)?;
     edge(&mut graph, 1, 1, 1)?;
     for number in 0..4u32 {
         assert!(rt; !is_paired_without(&mut graph, number)?);
     }
-    assert!(rt; graph.is_paired());
+    assert!(rt; is_paired(&graph));
     assert!(rt; !is_paired_with(&mut graph, 0, 0)?);
     assert!(rt; !is_paired_with(&mut graph, 0, 1)?);
-    assert!(rt; graph.is_paired());
+    assert!(rt; is_paired(&graph));
     Ok(())
 }

@@ -1,5 +1,6 @@
 //! Texts, letters and refusals.
 
+use crate::edits::text;
 use sgb_graph::{ArcField, GraphField, Label, Refusal, Text, Types, Util, VertexField, VertexNo};
 use std::alloc::Global;
 use std::mem::size_of;
@@ -7,8 +8,7 @@ use std::test::Fail;
 
 // How long the text of these bytes is.
 fn text_len(alloc: Global, bytes: &[u8]) -> Result<usize, Refusal> {
-    let text = Text::new(alloc, bytes)?;
-    Ok(text.bytes().len())
+    Ok(text(alloc, bytes)?.bytes().len())
 }
 
 #[test]
@@ -39,7 +39,7 @@ fn letters_are_fourteen(rt: HostRuntime) {
 #[test]
 fn labels_have_the_bytes_of_their_texts(rt: HostRuntime) -> Result<(), Fail> {
     assert!(rt; Label::empty().bytes().is_empty());
-    let label = Label::new(Text::new(rt.alloc(), b"a name")?);
+    let label = Label::new(text(rt.alloc(), b"a name")?);
     assert!(rt; label.bytes() == b"a name".as_slice());
     Ok(())
 }
@@ -83,9 +83,9 @@ fn texts_and_values_are_small(rt: HostRuntime) {
 
 #[test]
 fn texts_are_compared_by_their_bytes(rt: HostRuntime) -> Result<(), Fail> {
-    assert!(rt; Text::new(rt.alloc(), b"a")? == Text::new(rt.alloc(), b"a")?);
-    assert!(rt; Text::new(rt.alloc(), b"a")? != Text::new(rt.alloc(), b"b")?);
-    assert!(rt; Label::new(Text::new(rt.alloc(), b"")?) == Label::empty());
+    assert!(rt; text(rt.alloc(), b"a")? == text(rt.alloc(), b"a")?);
+    assert!(rt; text(rt.alloc(), b"a")? != text(rt.alloc(), b"b")?);
+    assert!(rt; Label::new(text(rt.alloc(), b"")?) == Label::empty());
     assert!(rt; Util::Vertex(VertexNo(1)).is_allowed(b'V'));
     assert!(rt; !Util::Vertex(VertexNo(1)).is_allowed(b'A'));
     Ok(())
