@@ -70,4 +70,6 @@ fn passes(rule: CheckRule, number: i64, body: &[u8]) -> bool
 pub fn answers_are_exact()
     ensures graph { IsReadAsOne }
     ensures refusals { IsRefusedForRoom }
-{}
+{
+    sgb_graph::build_law();
+}

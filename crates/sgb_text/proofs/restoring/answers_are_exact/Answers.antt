@@ -1,9 +1,8 @@
-use Rattle.sgb_graph.proofs.Building.{builds_one}
 use Rattle.sgb_text.proofs.Exactness.{one_graph, refused_for_room}
 use Rattle.sgb_text.proofs.restoring.answers_are_exact.Goals as goal
 
 pub returns-clause-graph : goal.returns-clause-graph
-returns-clause-graph c = one_graph builds_one
+returns-clause-graph c = one_graph c.build_law.ensures.one
 
 pub returns-clause-refusals : goal.returns-clause-refusals
 returns-clause-refusals c = refused_for_room
