@@ -9,6 +9,7 @@ mod graph;
 mod items;
 mod parts;
 mod refusal;
+mod sizes;
 mod text;
 mod types;
 mod undoing;
@@ -24,6 +25,3 @@ pub use refusal::Refusal;
 pub use text::{Label, Text};
 pub use types::Types;
 pub use undoing::revert_law;
-
-#[cfg(test)]
-mod tests;
