@@ -6,3 +6,4 @@ pub mod Record
 pub mod Header
 pub mod Saved
 pub mod Check
+pub mod Private

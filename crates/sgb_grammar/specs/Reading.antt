@@ -1,5 +1,5 @@
 -- Readers: what the bytes begin with, and what follows it.
-use Rattle.std.specs.Prelude.{◌≡◌, ◌⊎◌, ℕ, ◌^◌, ◌-◌, min, ◌==◌, List, [], ◌∷◌, ◌++◌, Option, Some, None, option_and_then, Result, Ok, Err, if◌then◌else◌}
+use Rattle.std.specs.Prelude.{◌≡◌, ◌⊎◌, ℕ, ◌==◌, List, [], ◌∷◌, ◌++◌, Option, Some, None, option_and_then, Result, Ok, Err, if◌then◌else◌}
 use Rattle.std.specs.Option.{option_map}
 use Rattle.sgb_grammar.specs.declared.fault.Fault.{Fault}
 use Rattle.sgb_grammar.specs.declared.fault.Fault.TheVariants.{NoRoom, Syntax}
@@ -24,32 +24,13 @@ unfoldable pub each_at : {A B : Type 0} → (A → List ℕ → Option (B × Lis
 each_at item [] bs = Some ([], bs)
 each_at item (k ∷ ks) bs = option_and_then (λ p. behind (p.0 ∷ []) (each_at item ks p.1)) (item k bs)
 
--- ---- what the program's readers answer
+-- ---- what a reader answers
 
 -- that and what follows it, or a fault of spelling where nothing is read
 abbrev pub Spells : {A : Type 0} → Result (A × Bor (List ℕ)) Fault → Option (A × List ℕ) → Type 0
 Spells (Ok p) m = m ≡ Some (p.0, p.1.now)
 Spells (Err e) m = (e ≡ Syntax) × (m ≡ None)
 
--- the same of what has no value
-abbrev pub Passes : Result (Bor (List ℕ)) Fault → Option (List ℕ) → Type 0
-Passes (Ok rest) m = m ≡ Some rest.now
-Passes (Err e) m = (e ≡ Syntax) × (m ≡ None)
-
 -- no memory, or a fault of spelling where nothing is read
 abbrev pub Fails : {A : Type 0} → Fault → Option A → Type 0
 Fails e m = (e ≡ NoRoom) ⊎ ((e ≡ Syntax) × (m ≡ None))
-
-abbrev pub Reads : {A : Type 0} → Result (A × Bor (List ℕ)) Fault → Option (A × List ℕ) → Type 0
-Reads (Ok p) m = m ≡ Some (p.0, p.1.now)
-Reads (Err e) m = Fails e m
-
--- the same where the items are left behind a reference
-abbrev pub Fills : {A : Type 0} → Result (Bor (List ℕ)) Fault → List A → Option (List A × List ℕ) → Type 0
-Fills (Ok rest) xs m = m ≡ Some (xs, rest.now)
-Fills (Err e) xs m = Fails e m
-
--- that number, cut off at 2^64 - 1, and what follows it
-abbrev pub Capped : Option (ℕ × Bor (List ℕ)) → Option (ℕ × List ℕ) → Type 0
-Capped (Some p) m = (n : ℕ) × (m ≡ Some (n, p.1.now)) × (p.0 ≡ min n (2 ^ 64 - 1))
-Capped None m = m ≡ None

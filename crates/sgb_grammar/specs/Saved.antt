@@ -5,7 +5,6 @@ use Rattle.sgb_graph.specs.declared.parts.Parts.{Parts}
 use Rattle.sgb_graph.specs.declared.parts.VertexPart.{VertexPart}
 use Rattle.sgb_graph.specs.declared.parts.ArcPart.{ArcPart}
 use Rattle.sgb_grammar.specs.declared.fault.Fault.{Fault}
-use Rattle.sgb_grammar.specs.declared.fault.Fault.TheVariants.{Syntax}
 use Rattle.sgb_grammar.specs.declared.records.Own.{Own}
 use Rattle.sgb_grammar.specs.declared.saved.Records.{Records}
 use Rattle.sgb_grammar.specs.declared.saved.Saved.{Saved}
@@ -65,14 +64,10 @@ saved_in h bs = do
   number ← check_line_in records.1
   Some (record { parts = parts_of h records.0; number = number; body = take (length lines - length records.1) lines })
 
--- ---- what the program's readers answer
+-- ---- what the reader of a text answers
 
 abbrev pub shown : Saved → SavedOf
 shown s = record { parts = s.parts; number = s.number; body = s.body.now }
-
-abbrev pub Finds : Result ℤ Fault → Option ℤ → Type 0
-Finds (Ok z) m = m ≡ Some z
-Finds (Err e) m = (e ≡ Syntax) × (m ≡ None)
 
 abbrev pub Holds : Result Saved Fault → Option SavedOf → Type 0
 Holds (Ok s) m = m ≡ Some (shown s)

@@ -1,6 +1,7 @@
 //! The first byte or word of some bytes.
 ghost use Rattle.std.specs.Prelude.{◌≡◌, ◌∷◌, [], MatchOption};
-ghost use Rattle.sgb_grammar.specs.Reading.{after, Passes};
+ghost use Rattle.sgb_grammar.specs.Reading.{after};
+ghost use Rattle.sgb_grammar.specs.Private.Reading.{Passes};
 
 use crate::Fault;
 

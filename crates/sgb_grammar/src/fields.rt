@@ -1,6 +1,7 @@
 //! Tips, links and the fields of a record.
 ghost use Rattle.std.specs.Prelude.{◌≡◌, ◌<◌, ◌^◌, length, IfOk};
-ghost use Rattle.sgb_grammar.specs.Reading.{Spells, Passes, Reads, Fills};
+ghost use Rattle.sgb_grammar.specs.Reading.{Spells};
+ghost use Rattle.sgb_grammar.specs.Private.Reading.{Passes, Reads, Fills};
 ghost use Rattle.sgb_grammar.specs.Field.{comma_at, index_at, link_at, tip_at, vertex_value_at, arc_value_at, value_at, field_at, fields_at, after_break};
 
 use crate::Fault;

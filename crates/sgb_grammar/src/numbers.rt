@@ -3,7 +3,8 @@ ghost use Rattle.std.specs.Prelude.{◌≡◌, ◌<◌, ◌≤◌, ◌-◌, ◌^
 ghost use Rattle.std.specs.Int.{w64};
 ghost use Rattle.std.specs.Option.{option_and_then};
 ghost use Rattle.std.specs.Str.Parse.{AllDigits, digits_value};
-ghost use Rattle.sgb_grammar.specs.Reading.{Spells, Capped};
+ghost use Rattle.sgb_grammar.specs.Reading.{Spells};
+ghost use Rattle.sgb_grammar.specs.Private.Reading.{Capped};
 ghost use Rattle.sgb_grammar.specs.Number.{digits_in, digits_at, count_at, number_at, positive_of, negative_of};
 
 use crate::Fault;

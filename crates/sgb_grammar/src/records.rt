@@ -1,6 +1,6 @@
 //! The records of a saved text.
 ghost use Rattle.std.specs.Prelude.{◌≡◌, length};
-ghost use Rattle.sgb_grammar.specs.Reading.{Reads};
+ghost use Rattle.sgb_grammar.specs.Private.Reading.{Reads};
 ghost use Rattle.sgb_grammar.specs.Record.{own_at, vertex_at, arc_at, vertices_at, arcs_at};
 
 use crate::Fault;

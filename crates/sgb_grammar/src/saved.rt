@@ -2,8 +2,8 @@
 ghost use Rattle.std.specs.Prelude.{◌≡◌, length, IfOk, FitsSigned};
 ghost use Rattle.std.specs.Int.{w64};
 ghost use Rattle.sgb_graph.specs.Honest.{graph_letters};
-ghost use Rattle.sgb_grammar.specs.Reading.{Reads};
-ghost use Rattle.sgb_grammar.specs.Saved.{own_in, vertices_in, arcs_in, records_in, check_line_in, parts_of, saved_in, Finds, Holds};
+ghost use Rattle.sgb_grammar.specs.Private.Reading.{Reads, Finds};
+ghost use Rattle.sgb_grammar.specs.Saved.{own_in, vertices_in, arcs_in, records_in, check_line_in, parts_of, saved_in, Holds};
 
 use crate::bytes::after;
 use crate::header::ends_line;

@@ -2,8 +2,10 @@
 ghost use Rattle.std.specs.Prelude.{◌≡◌, ◌<◌, ◌≤◌, ◌⊎◌, length, false, IsTrue, IfOk, IfErr, Some, slice_index};
 ghost use Rattle.std.specs.List.{prefix_len, list_all};
 ghost use Rattle.sgb_graph.specs.Text.{is_text_byte};
-ghost use Rattle.sgb_grammar.specs.Reading.{Reads, Fails};
-ghost use Rattle.sgb_grammar.specs.String.{inside_at, text_at, within, Splits, Ends};
+ghost use Rattle.sgb_grammar.specs.Reading.{Fails};
+ghost use Rattle.sgb_grammar.specs.Private.Reading.{Reads};
+ghost use Rattle.sgb_grammar.specs.String.{inside_at, text_at, within};
+ghost use Rattle.sgb_grammar.specs.Private.Pieces.{Splits, Ends};
 
 use crate::Fault;
 use crate::bytes::{after, next};
