@@ -2,7 +2,7 @@
 use Rattle.std.proofs.Common.{◌≡◌, ℕ, zero, suc, ◌+◌, ◌-◌, ◌*◌, ◌^◌, ◌<◌, ◌≤◌, ◌≢◌, ◌⊎◌, ⊎_elim, inl, inr, List, length, get_or, set, refl, sym, ap, ap₂, ◌∙◌, subst, arith, length-set, get_or-set_other, get_or-set_same}
 use Rattle.std.proofs.lemmas.Bool.{cases_eq, cases_lt}
 use Rattle.sgb_flip.specs.Generator.{AreSmall}
-use Rattle.sgb_flip.specs.Run.{IsRun}
+use Rattle.sgb_flip.specs.Private.Run.{IsRun}
 use Rattle.sgb_flip.specs.Sequence.{difference, joined, term, terms_after}
 use Rattle.sgb_flip.proofs.Terms.{difference-joined, term-low, term-more, same-terms_after, terms_after-terms_after}
 

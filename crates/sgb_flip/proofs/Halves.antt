@@ -8,7 +8,7 @@ use Rattle.std.proofs.lemmas.List.FromFn.{get_or-map-range_with_len, length-map-
 use Rattle.std.proofs.lemmas.Nat.{and_mask}
 use Rattle.std.proofs.lemmas.Simd.{get_or-chunk, get_or-put_chunk_above, get_or-put_chunk_at, get_or-replicate, get_or-zip2, length-chunk, length-put_chunk, length-replicate, length-zip2, pick_l-range_with_len}
 use Rattle.sgb_flip.specs.Generator.{AreSmall}
-use Rattle.sgb_flip.specs.Halves.{AreHalves, whole}
+use Rattle.sgb_flip.specs.Private.Halves.{AreHalves, whole}
 use Rattle.sgb_flip.specs.Sequence.{joined, terms_after}
 use Rattle.sgb_flip.proofs.Batches.{batch_before}
 

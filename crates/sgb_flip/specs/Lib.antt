@@ -1,4 +1,3 @@
 pub mod Generator
-pub mod Halves
-pub mod Run
+pub mod Private
 pub mod Sequence

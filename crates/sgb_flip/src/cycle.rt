@@ -1,7 +1,7 @@
 ghost use Rattle.std.specs.Prelude.{◌≡◌, ◌+◌, ◌*◌, ◌≤◌, ◌⊎◌, length};
 ghost use Rattle.sgb_flip.specs.Generator.{AreSmall};
-ghost use Rattle.sgb_flip.specs.Halves.{AreHalves, whole};
-ghost use Rattle.sgb_flip.specs.Run.{IsRun};
+ghost use Rattle.sgb_flip.specs.Private.Halves.{AreHalves, whole};
+ghost use Rattle.sgb_flip.specs.Private.Run.{IsRun};
 ghost use Rattle.sgb_flip.specs.Sequence.{difference, terms_after};
 
 use std::simd::prelude::*;

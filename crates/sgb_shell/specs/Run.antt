@@ -16,8 +16,8 @@ pub record AppendsPast (old new : Option (List ℕ)) (first bs : List ℕ) : Typ
 
 -- What a run did that took the bytes of a script. `left` are the bytes that the reader had, `held` those
 -- of the writer, before and after; the two truth values tell whether a read and a write failed, and `reads`
--- how many reads were made. Where a write failed, nothing was read behind it: all that was due before the last read, of
--- at most 4,096 bytes, had been written.
+-- how many reads were made. Where a write failed, all that was due before the last bytes, at most 4,096, had been
+-- written: a run does not read on.
 abbrev pub Ends : List ℕ → List ℕ → Option (List ℕ) → Option (List ℕ) → Bool → ℕ → Option (List ℕ) → Option (List ℕ) → Bool → Result RunEnd RunFault → Type 0
 Ends script no_room left left' read_failed reads held held' write_failed (Ok end) =
     Consumes left left' script × IsAtEnd left' × (read_failed ≡ false) × (write_failed ≡ false)

@@ -173,6 +173,24 @@ fn steps_of_one_byte_change_nothing(rt: HostRuntime) {
     assert!(rt; reads_of_single_bytes(rt.alloc()) == 29);
 }
 
+// How many reads a run of the first script makes whose writer takes so many bytes, where each gives one byte.
+fn reads_before_a_failed_write(alloc: Global, room: usize) -> u64 {
+    let writer = Room {
+        kept: Vec::new(alloc),
+        room,
+        step: 1,
+    };
+    run(alloc, single_bytes(), writer).reader.reads()
+}
+
+// The first line has 13 bytes, and its answer 3; the second has 5.
+#[test]
+fn nothing_is_read_behind_a_failed_write(rt: HostRuntime) {
+    assert!(rt; reads_before_a_failed_write(rt.alloc(), 0) == 13);
+    assert!(rt; reads_before_a_failed_write(rt.alloc(), 2) == 13);
+    assert!(rt; reads_before_a_failed_write(rt.alloc(), 3) == 18);
+}
+
 // Whether a run of the script's first bytes, in steps, ends so and writes so many bytes of the transcript.
 fn ends_after(
     alloc: Global,

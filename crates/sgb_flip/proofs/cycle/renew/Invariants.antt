@@ -1,5 +1,5 @@
 use Rattle.sgb_flip.specs.Generator.{AreSmall}
-use Rattle.sgb_flip.specs.Run.{IsRun}
+use Rattle.sgb_flip.specs.Private.Run.{IsRun}
 use Rattle.sgb_flip.specs.Sequence.{difference}
 use Rattle.sgb_flip.proofs.cycle.renew.Given as goal
 

@@ -1,6 +1,6 @@
 use Rattle.std.proofs.Common.{◌*◌}
 use Rattle.sgb_flip.specs.Generator.{AreSmall}
-use Rattle.sgb_flip.specs.Run.{IsRun}
+use Rattle.sgb_flip.specs.Private.Run.{IsRun}
 use Rattle.sgb_flip.specs.Sequence.{difference}
 use Rattle.sgb_flip.proofs.cycle.renew_vectors.Given as goal
 

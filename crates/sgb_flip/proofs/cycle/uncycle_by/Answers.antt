@@ -1,7 +1,7 @@
 use Rattle.std.proofs.Common.{◌≡◌, ◌∙◌, List, ℕ, ap₂, sym, subst, ◌*◌, arith}
 use Rattle.std.specs.Simd.Lanes.{chunk}
 use Rattle.sgb_flip.specs.Generator.{AreSmall}
-use Rattle.sgb_flip.specs.Halves.{whole}
+use Rattle.sgb_flip.specs.Private.Halves.{whole}
 use Rattle.sgb_flip.specs.Sequence.{terms_after}
 use Rattle.sgb_flip.proofs.Batches.{batches_before}
 use Rattle.sgb_flip.proofs.Halves.{AreHalves-chunks, AreSmall-whole, length-whole, whole-chunks, whole-stored}

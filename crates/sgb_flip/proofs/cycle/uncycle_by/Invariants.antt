@@ -1,5 +1,5 @@
 use Rattle.std.proofs.Common.{◌≡◌, ◌*◌}
-use Rattle.sgb_flip.specs.Halves.{AreHalves, whole}
+use Rattle.sgb_flip.specs.Private.Halves.{AreHalves, whole}
 use Rattle.sgb_flip.specs.Sequence.{terms_after}
 use Rattle.sgb_flip.proofs.cycle.uncycle_by.Given as goal
 
