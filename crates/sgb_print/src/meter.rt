@@ -1,5 +1,5 @@
 //! A reader and a writer that remember whether a call failed. Contracts tell faults by that.
-ghost use Rattle.std.specs.Prelude.{◌≡◌, ◌+◌, ◌<◌, ◌^◌, false, length, IfOk, is_err, ◌||◌};
+ghost use Rattle.std.specs.Prelude.{◌≡◌, ◌+◌, ◌<◌, ◌^◌, false, length, MatchResult, IfOk, is_err, ◌||◌};
 ghost use Rattle.std.specs.Io.{ReadsAtMost, WritesAtMost};
 ghost use Rattle.std.specs.Io.KnownBytes.{ReadConsumes, WriteAppends, Keeps};
 
@@ -10,11 +10,12 @@ use std::marker::Model;
 #[derive(Clone, Copy, Debug, PartialEq, Eq)]
 pub struct Failed;
 
-/// A reader, how often it was asked, and whether it ever failed.
+/// A reader, how often it was asked, how many bytes the last read gave, and whether it ever failed.
 #[derive(Debug, Drop)]
 pub struct MeteredReader<R> {
     inner: R,
     reads: u64,
+    last: usize,
     failed: bool,
 }
 
@@ -30,7 +31,7 @@ impl<R> Model for MeteredReader<R> {
 
     ghost Value = { ReaderUse R };
 
-    ghost view = { λ m. record { inner = m.inner; reads = m.reads; failed = m.failed } };
+    ghost view = { λ m. record { inner = m.inner; reads = m.reads; last = m.last; failed = m.failed } };
 }
 
 impl<W> Model for MeteredWriter<W> {
@@ -46,11 +47,13 @@ impl<R: Read> MeteredReader<R> {
     pub fn new(inner: R) -> Self
         ensures inner { result.inner ≡ inner }
         ensures reads { result.reads ≡ 0 }
+        ensures last { result.last ≡ 0 }
         ensures failed { result.failed ≡ false }
     {
         MeteredReader {
             inner,
             reads: 0,
+            last: 0,
             failed: false,
         }
     }
@@ -60,6 +63,13 @@ impl<R: Read> MeteredReader<R> {
         ensures { result ≡ self.now.reads }
     {
         self.reads
+    }
+
+    /// How many bytes the last read gave.
+    pub fn last(&self) -> usize
+        ensures { result ≡ self.now.last }
+    {
+        self.last
     }
 
     /// The reader itself.
@@ -74,13 +84,18 @@ impl<R: Read> MeteredReader<R> {
     pub fn read(&mut self, buffer: &mut [u8]) -> Result<usize, Failed>
         requires { self.old.reads < 2 ^ 63 }
         ensures reads { self.new.reads ≡ self.old.reads + 1 }
+        ensures last { MatchResult result (λ count. self.new.last ≡ count) (λ _. self.new.last ≡ 0) }
         ensures failed { self.new.failed ≡ (self.old.failed || is_err result) }
         ensures bound { ReadsAtMost result buffer.new }
         ensures bytes { ReadConsumes (R.remaining self.old.inner) (R.remaining self.new.inner) result buffer.new }
     {
         self.reads += 1;
+        self.last = 0;
         match self.inner.read(buffer) {
-            Ok(count) => Ok(count),
+            Ok(count) => {
+                self.last = count;
+                Ok(count)
+            }
             Err(_) => {
                 self.failed = true;
                 Err(Failed)

@@ -222,17 +222,17 @@ fn pieces_are_put(rt: HostRuntime) -> Result<(), Fail> {
     Ok(())
 }
 
-// How many bytes two reads give, of at most four each, and how many reads are counted.
-fn two_reads(bytes: &[u8]) -> Result<(usize, usize, u64), Failed> {
+// How many bytes two reads give, of at most four each, how many the last gave, and how many reads are counted.
+fn two_reads(bytes: &[u8]) -> Result<(usize, usize, usize, u64), Failed> {
     let mut reader = MeteredReader::new(bytes);
     let mut buffer = [0u8; 4];
     let first = reader.read(&mut buffer)?;
     let second = reader.read(&mut buffer)?;
-    Ok((first, second, reader.reads()))
+    Ok((first, second, reader.last(), reader.reads()))
 }
 
 #[test]
 fn reads_are_counted(rt: HostRuntime) {
-    assert!(rt; two_reads(b"seven b") == Ok((4, 3, 2)));
-    assert!(rt; two_reads(b"") == Ok((0, 0, 2)));
+    assert!(rt; two_reads(b"seven b") == Ok((4, 3, 3, 2)));
+    assert!(rt; two_reads(b"") == Ok((0, 0, 0, 2)));
 }

@@ -18,7 +18,7 @@ pub record Going (room room' : ℕ) (Goes : Option (List ℕ) → List ℕ → T
 
 -- some bytes of the script are taken, and so many more may be
 pub record Running (left left' : Option (List ℕ)) (read_failed : Bool) (reads : ℕ) (held held' : Option (List ℕ)) (write_failed : Bool)
-    (journal : Kept) (kept : List ℕ) (is_long : Bool) (count refused places room chunk : ℕ) : Type 0 where
+    (journal : Kept) (kept : List ℕ) (is_long : Bool) (count refused places room : ℕ) : Type 0 where
   pub script : List ℕ
   pub taken : Consumes left left' script
   pub rest : length script + room ≡ 16777216
@@ -27,7 +27,6 @@ pub record Running (left left' : Option (List ℕ)) (read_failed : Bool) (reads 
   pub writer : write_failed ≡ false
   pub progress : Progress held held' script journal kept is_long count refused
   pub large : 8192 ≤ places
-  pub space : chunk ≡ 4096
 
 -- what was written stays where a reader or a writer is only asked
 pub progress_kept : (held now now' : Option (List ℕ)) (script : List ℕ) (j : Kept) (kept : List ℕ) (il : Bool) (count refused : ℕ)
@@ -46,18 +45,18 @@ progress_kept held now now' script j kept il count refused same p = record {
 }
 
 -- a read, or the flush before it, failed
-pub failed_read : {X : Type 0} (left mid left' : Option (List ℕ)) (rf rf' : Bool) (reads reads' : ℕ) (held now held' : Option (List ℕ)) (wf wf' : Bool)
-    (j : Kept) (kept : List ℕ) (il : Bool) (count refused places room chunk most : ℕ) (bytes : List ℕ) (fault : RunFault)
-    → Running left mid rf reads held now wf j kept il count refused places room chunk
-    → ReadsOn mid left' rf' reads reads' now held' wf' most bytes (Err fault)
-    → TakesScript {X = X} left left' rf' reads' held held' wf' j kept il count refused (Err fault)
-failed_read left mid left' rf rf' reads reads' held now held' wf wf' j kept il count refused places room chunk most bytes Read run r = record {
+pub failed_read : {X : Type 0} (left mid left' : Option (List ℕ)) (rf rf' : Bool) (reads reads' last : ℕ) (held now held' : Option (List ℕ)) (wf wf' : Bool)
+    (j : Kept) (kept : List ℕ) (il : Bool) (count refused places room most : ℕ) (bytes : List ℕ) (fault : RunFault)
+    → Running left mid rf reads held now wf j kept il count refused places room
+    → ReadsOn mid left' rf' reads reads' last now held' wf' most bytes (Err fault)
+    → TakesScript {X = X} left left' rf' reads' last held held' wf' j kept il count refused (Err fault)
+failed_read left mid left' rf rf' reads reads' last held now held' wf wf' j kept il count refused places room most bytes Read run r = record {
   script = run.script;
   few = let rest = run.rest in omega arith;
   seldom = let few = run.seldom in let more = r.2 in omega arith;
   ends = (Consumes-kept left mid left' _ run.taken r.0, r.1, r.4, progress_kept held now held' _ _ _ _ _ _ r.3 run.progress);
 }
-failed_read left mid left' rf rf' reads reads' held now held' wf wf' j kept il count refused places room chunk most bytes Write run r = record {
+failed_read left mid left' rf rf' reads reads' last held now held' wf wf' j kept il count refused places room most bytes Write run r = record {
   script = run.script;
   few = let rest = run.rest in omega arith;
   seldom = let few = run.seldom in let same = r.2 in omega arith;
@@ -68,8 +67,8 @@ failed_read left mid left' rf rf' reads reads' held now held' wf wf' j kept il c
     (run.script, [], sym (append-nil run.script), omega arith, stopped-reached held held' (whole_lines run.script) j count refused (progress_kept held now held' _ _ _ _ _ _ r.3 run.progress).reached),
   );
 }
-failed_read left mid left' rf rf' reads reads' held now held' wf wf' j kept il count refused places room chunk most bytes TooLong run r = absurd r
-failed_read left mid left' rf rf' reads reads' held now held' wf wf' j kept il count refused places room chunk most bytes NoRoom run r = absurd r
+failed_read left mid left' rf rf' reads reads' last held now held' wf wf' j kept il count refused places room most bytes TooLong run r = absurd r
+failed_read left mid left' rf rf' reads reads' last held now held' wf wf' j kept il count refused places room most bytes NoRoom run r = absurd r
 
 pub still_few : (script bytes : List ℕ) (room n : ℕ) → length script + room ≡ 16777216 → length bytes ≡ n → n ≤ room → length (script ++ bytes) < 2 ^ 32
 still_few script bytes room n rest size within = omega (arith, length-append script bytes)

@@ -30,7 +30,7 @@ pub struct Ended<R, W> {
 
 /// Runs the script that the reader gives, and writes its transcript: [`run_metered`] with meters of its own.
 pub fn run<R: Read, W: Write>(alloc: Global, reader: R, writer: W) -> Ended<R, W>
-    ensures runs { Runs (R.remaining reader) (R.remaining result.reader.inner) result.reader.failed result.reader.reads
+    ensures runs { Runs (R.remaining reader) (R.remaining result.reader.inner) result.reader.failed result.reader.reads result.reader.last
         (W.contents writer) (W.contents result.writer.inner) result.writer.failed result.end }
 {
     let mut reader = MeteredReader::new(reader);
@@ -57,7 +57,7 @@ pub fn run_metered<R: Read, W: Write>(
     requires unread { reader.old.reads ≡ 0 }
     requires reader { reader.old.failed ≡ false }
     requires writer { writer.old.failed ≡ false }
-    ensures runs { Runs (R.remaining reader.old.inner) (R.remaining reader.new.inner) reader.new.failed reader.new.reads
+    ensures runs { Runs (R.remaining reader.old.inner) (R.remaining reader.new.inner) reader.new.failed reader.new.reads reader.new.last
         (W.contents writer.old.inner) (W.contents writer.new.inner) writer.new.failed result }
 {
     let Ok(mut shell) = Shell::new(alloc) else {
@@ -85,7 +85,7 @@ fn take_script<R: Read, W: Write>(
     requires room { 8192 ≤ vec_capacity shell.old.line }
     requires begun { Progress (W.contents writer.old.inner) (W.contents writer.old.inner) []
         shell.old.journal shell.old.line.items shell.old.is_long shell.old.lines shell.old.refused }
-    ensures { TakesScript (R.remaining reader.old.inner) (R.remaining reader.new.inner) reader.new.failed reader.new.reads
+    ensures { TakesScript (R.remaining reader.old.inner) (R.remaining reader.new.inner) reader.new.failed reader.new.reads reader.new.last
         (W.contents writer.old.inner) (W.contents writer.new.inner) writer.new.failed
         shell.new.journal shell.new.line.items shell.new.is_long shell.new.lines shell.new.refused result }
 {
@@ -121,7 +121,7 @@ fn read_on<R: Read, W: Write>(
     requires reads { reader.old.reads < 2 ^ 63 }
     requires reader { reader.old.failed ≡ false }
     requires writer { writer.old.failed ≡ false }
-    ensures { ReadsOn (R.remaining reader.old.inner) (R.remaining reader.new.inner) reader.new.failed reader.old.reads reader.new.reads
+    ensures { ReadsOn (R.remaining reader.old.inner) (R.remaining reader.new.inner) reader.new.failed reader.old.reads reader.new.reads reader.new.last
         (W.contents writer.old.inner) (W.contents writer.new.inner) writer.new.failed most chunk.new result }
 {
     if writer.flush().is_err() {
@@ -145,7 +145,7 @@ fn read_some<R: Read>(
     ensures reads { reader.new.reads ≡ reader.old.reads + 1 }
     ensures failed { reader.new.failed ≡ (reader.old.failed || is_err result) }
     ensures bytes { MatchResult result
-        (λ count. (count ≤ most) × (count ≤ length chunk.new)
+        (λ count. (reader.new.last ≡ count) × (count ≤ most) × (count ≤ length chunk.new)
         × Consumes (R.remaining reader.old.inner) (R.remaining reader.new.inner) (take count chunk.new)
         × (count ≡ 0 → IsAtEnd (R.remaining reader.new.inner)))
         (λ _. Keeps (R.remaining reader.old.inner) (R.remaining reader.new.inner)) }

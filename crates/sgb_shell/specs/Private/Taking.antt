@@ -7,38 +7,39 @@ use Rattle.sgb_shell.specs.Private.Performing.{Kept}
 use Rattle.sgb_shell.specs.Private.Reaching.{Progress, Stopped}
 use Rattle.sgb_shell.specs.Lines.{whole_lines}
 
--- What one read did, behind a flush. `held` are the bytes of the writer, `count` the reads made, each before and after.
-abbrev pub ReadsOn : Option (List ℕ) → Option (List ℕ) → Bool → ℕ → ℕ → Option (List ℕ) → Option (List ℕ) → Bool → ℕ → List ℕ → Result ℕ RunFault → Type 0
-ReadsOn left left' read_failed reads reads' held held' write_failed most bytes (Ok n) =
+-- What one read did, behind a flush. `held` are the bytes of the writer, `reads` the reads made, each before and after,
+-- and `last` the bytes of the last read.
+abbrev pub ReadsOn : Option (List ℕ) → Option (List ℕ) → Bool → ℕ → ℕ → ℕ → Option (List ℕ) → Option (List ℕ) → Bool → ℕ → List ℕ → Result ℕ RunFault → Type 0
+ReadsOn left left' read_failed reads reads' last held held' write_failed most bytes (Ok n) =
     (n ≤ most) × (n ≤ length bytes) × Consumes left left' (take n bytes) × (n ≡ 0 → IsAtEnd left')
-    × (read_failed ≡ false) × (reads' ≡ reads + 1) × Keeps held held' × (write_failed ≡ false)
-ReadsOn left left' read_failed reads reads' held held' write_failed most bytes (Err Read) =
+    × (read_failed ≡ false) × (reads' ≡ reads + 1) × Keeps held held' × (write_failed ≡ false) × (last ≡ n)
+ReadsOn left left' read_failed reads reads' last held held' write_failed most bytes (Err Read) =
     Keeps left left' × (read_failed ≡ true) × (reads' ≡ reads + 1) × Keeps held held' × (write_failed ≡ false)
-ReadsOn left left' read_failed reads reads' held held' write_failed most bytes (Err Write) =
+ReadsOn left left' read_failed reads reads' last held held' write_failed most bytes (Err Write) =
     Keeps left left' × (read_failed ≡ false) × (reads' ≡ reads) × Keeps held held' × (write_failed ≡ true)
-ReadsOn left left' read_failed reads reads' held held' write_failed most bytes (Err TooLong) = ⊥
-ReadsOn left left' read_failed reads reads' held held' write_failed most bytes (Err NoRoom) = ⊥
+ReadsOn left left' read_failed reads reads' last held held' write_failed most bytes (Err TooLong) = ⊥
+ReadsOn left left' read_failed reads reads' last held held' write_failed most bytes (Err NoRoom) = ⊥
 
 -- how that ended before the last line, which no newline ends, is answered
-abbrev pub ScriptEnds : {X : Type 0} → List ℕ → Option (List ℕ) → Option (List ℕ) → Bool → Option (List ℕ) → Option (List ℕ) → Bool
+abbrev pub ScriptEnds : {X : Type 0} → List ℕ → Option (List ℕ) → Option (List ℕ) → Bool → ℕ → Option (List ℕ) → Option (List ℕ) → Bool
     → Kept → List ℕ → Bool → ℕ → ℕ → Result X RunFault → Type 0
-ScriptEnds script left left' read_failed held held' write_failed journal kept is_long count refused (Ok x) =
+ScriptEnds script left left' read_failed last held held' write_failed journal kept is_long count refused (Ok x) =
     Consumes left left' script × IsAtEnd left' × (read_failed ≡ false) × (write_failed ≡ false)
     × Progress held held' script journal kept is_long count refused
-ScriptEnds script left left' read_failed held held' write_failed journal kept is_long count refused (Err Read) =
+ScriptEnds script left left' read_failed last held held' write_failed journal kept is_long count refused (Err Read) =
     Consumes left left' script × (read_failed ≡ true) × (write_failed ≡ false)
     × Progress held held' script journal kept is_long count refused
-ScriptEnds script left left' read_failed held held' write_failed journal kept is_long count refused (Err TooLong) =
+ScriptEnds script left left' read_failed last held held' write_failed journal kept is_long count refused (Err TooLong) =
     (length script ≡ 16777216) × ((more : ℕ) × Consumes left left' (script ++ more ∷ [])) × (read_failed ≡ false) × (write_failed ≡ false)
     × Progress held held' script journal kept is_long count refused
-ScriptEnds script left left' read_failed held held' write_failed journal kept is_long count refused (Err Write) =
+ScriptEnds script left left' read_failed last held held' write_failed journal kept is_long count refused (Err Write) =
     Consumes left left' script × (read_failed ≡ false) × (write_failed ≡ true)
-    × ((before last : List ℕ) × (script ≡ before ++ last) × (length last ≤ 4096) × Stopped held held' (whole_lines before) (whole_lines script))
-ScriptEnds script left left' read_failed held held' write_failed journal kept is_long count refused (Err NoRoom) = ⊥
+    × ((before recent : List ℕ) × (script ≡ before ++ recent) × (length recent ≤ last) × Stopped held held' (whole_lines before) (whole_lines script))
+ScriptEnds script left left' read_failed last held held' write_failed journal kept is_long count refused (Err NoRoom) = ⊥
 
-pub record TakesScript {X : Type 0} (left left' : Option (List ℕ)) (read_failed : Bool) (reads : ℕ) (held held' : Option (List ℕ)) (write_failed : Bool)
+pub record TakesScript {X : Type 0} (left left' : Option (List ℕ)) (read_failed : Bool) (reads last : ℕ) (held held' : Option (List ℕ)) (write_failed : Bool)
     (journal : Kept) (kept : List ℕ) (is_long : Bool) (count refused : ℕ) (result : Result X RunFault) : Type 0 where
   pub script : List ℕ
   pub few : length script ≤ 16777216
   pub seldom : reads ≤ length script + 1
-  pub ends : ScriptEnds script left left' read_failed held held' write_failed journal kept is_long count refused result
+  pub ends : ScriptEnds script left left' read_failed last held held' write_failed journal kept is_long count refused result

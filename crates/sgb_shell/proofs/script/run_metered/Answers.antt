@@ -8,14 +8,14 @@ take_script-requires-clause-begun g c = c.in-Ok.ensures.begun _
 
 pub returns-in_err-take_script : goal.returns-in_err-take_script
 returns-in_err-take_script g c = let p = err_from_is_err_and c.from_residual.result c.from_residual.ensures.1 in
-    record { runs = rw (p.1, p.2) (script_failed _ _ _ _ _ _ _ _ _ _ _ _ _ c.in_err-take_script.ensures) }
+    record { runs = rw (p.1, p.2) (script_failed _ _ _ _ _ _ _ _ _ _ _ _ _ _ c.in_err-take_script.ensures) }
 
 pub returns-in-Ok-end : goal.returns-in-Ok-end
 returns-in-Ok-end g c =
     let t = c.in_ok-take_script.ensures in
-    record { runs = script_ended _ _ _ _ _ _ _ _ _ _ _ _ _ _ _ _ _ _ t (c.in-Ok-end.ensures.ends _ t.script (omega (arith, t.few)) t.ends.4) }
+    record { runs = script_ended _ _ _ _ _ _ _ _ _ _ _ _ _ _ _ _ _ _ _ t (c.in-Ok-end.ensures.ends _ t.script (omega (arith, t.few)) t.ends.4) }
 
 pub returns : goal.returns
 returns g c =
     let t = c.in_ok-take_script.ensures in
-    record { runs = last_line_failed _ _ _ _ _ _ _ _ _ _ _ _ _ _ _ t (c.in-Err.ensures.ends _ t.script (omega (arith, t.few)) t.ends.4) }
+    record { runs = last_line_failed _ _ _ _ _ _ _ _ _ _ _ _ _ _ _ _ t (c.in-Err.ensures.ends _ t.script (omega (arith, t.few)) t.ends.4) }

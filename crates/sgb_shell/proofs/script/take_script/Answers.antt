@@ -1,4 +1,4 @@
-use Rattle.std.proofs.Common.{◌≡◌, ◌≤◌, ◌∙◌, ◌+◌, ◌++◌, [], ◌∷◌, List, ℕ, length, take, subst, sym, ap, refl, arith, length-append}
+use Rattle.std.proofs.Common.{◌≡◌, ◌∙◌, ◌+◌, ◌++◌, [], ◌∷◌, List, ℕ, length, take, subst, sym, ap, refl, arith, length-append}
 use Rattle.std.proofs.KnownBytes.{Consumes-trans}
 use Rattle.std.proofs.lemmas.List.{length-take-le}
 use Rattle.std.proofs.lemmas.Result.{err_from_is_err_and}
@@ -18,7 +18,6 @@ returns-then-is_err g c =
     let bytes : List ℕ = c.split_at.result.0.now in
     let size : length bytes ≡ n = ap length c.split_at.ensures.front ∙ length-take-le n c.read_on.new.chunk read.1 in
     let whole : length (run.script ++ bytes) ≡ length run.script + n = length-append run.script bytes ∙ ap (λ k. length run.script + k) size in
-    let short : length bytes ≤ 4096 = let long = c.if-count-eq0.array_long in let was = run.space in let within = read.1 in omega arith in
     let taken = takes_err _ _ _ _ run.script _ _ _ _ _ _ c.take.result (sym c.is_err.ensures.value ∙ c.if-is_err.true)
     (c.take.ensures.takes _ run.script (still_few run.script bytes _ n run.rest size read.0) (progress_kept _ _ _ _ _ _ _ _ _ read.6 run.progress)) in record {
       script = run.script ++ bytes;
@@ -28,7 +27,7 @@ returns-then-is_err g c =
         Consumes-trans _ _ _ run.script bytes run.taken (subst (Consumes _ _) (sym c.split_at.ensures.front) read.2),
         read.4,
         taken.1,
-        (run.script, bytes, refl, short, taken.0),
+        (run.script, bytes, refl, (let last = read.8 in omega (arith, size, last)), taken.0),
       );
     }
 
@@ -50,7 +49,6 @@ loop-room-preserved g c =
       writer = taken.1 ∙ read.7;
       progress = taken.0;
       large = let large = run.large in let same = c.take.ensures.room in omega arith;
-      space = let long = c.if-count-eq0.array_long in let was = run.space in omega arith;
     }
 
 pub returns-then-more-gt0 : goal.returns-then-more-gt0
