@@ -1,0 +1,9 @@
+pub mod Back
+pub mod Choosing
+pub mod Counting
+pub mod Drawn
+pub mod Exchanging
+pub mod Filled
+pub mod Fronts
+pub mod Judging
+pub mod Placing

@@ -1,0 +1,3 @@
+-- What serves private functions only.
+pub mod Place
+pub mod Prepared

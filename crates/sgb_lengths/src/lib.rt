@@ -1,0 +1,16 @@
+//! Random lengths of the arcs of a graph, and their undoing.
+#![tactic(auto)]
+
+mod delta;
+mod draw;
+mod drawing;
+mod exchange;
+mod id;
+mod lengths;
+mod place;
+mod prepared;
+mod spec;
+
+pub use delta::LengthsDelta;
+pub use lengths::{random_lengths, revert_lengths};
+pub use spec::LengthsSpec;
