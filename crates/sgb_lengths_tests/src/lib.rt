@@ -1,0 +1,7 @@
+//! Tests of random lengths: which numbers they are, and what undoing them leaves.
+#![tactic(auto)]
+
+#[cfg(test)]
+mod graphs;
+#[cfg(test)]
+mod tests;
