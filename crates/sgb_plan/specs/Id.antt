@@ -1,5 +1,5 @@
 -- Ids: a word, and behind it in parentheses the parts, separated by commas.
-use Rattle.std.specs.Prelude.{◌+◌, ◌-◌, ◌/◌, ℕ, List, [], ◌∷◌, ◌++◌, length, take, codes, false, nat_le, if◌then◌else◌}
+use Rattle.std.specs.Prelude.{◌+◌, ◌-◌, ◌/◌, ℕ, List, [], ◌∷◌, ◌++◌, length, take, codes, Bool, false, nat_le, if◌then◌else◌}
 use Rattle.std.specs.List.{flat_map, join_with_byte, sum_by}
 use Rattle.std.specs.Fmt.{decimal, signed_decimal, digits}
 use Rattle.sgb_plan.specs.declared.part.Seed.{Seed}
@@ -16,10 +16,14 @@ seed_text seeds.Current = codes "-"
 abbrev pub hexadecimal : ℕ → List ℕ
 hexadecimal n = codes "0x" ++ digits 16 false n
 
+-- 1 for yes and 0 for no
+abbrev pub flag_text : Bool → List ℕ
+flag_text b = if b then codes "1" else codes "0"
+
 abbrev pub part_text : Part → List ℕ
 part_text (Number z) = signed_decimal z
 part_text (Count n) = decimal n
-part_text (Flag b) = if b then codes "1" else codes "0"
+part_text (Flag b) = flag_text b
 part_text (Bits n) = hexadecimal n
 part_text (Drawn s) = seed_text s
 part_text (Word t) = t.now

@@ -1,5 +1,5 @@
 -- Graphs as they are planned, and what comes of a plan.
-use Rattle.std.specs.Prelude.{◌≡◌, ◌⊎◌, ◌<◌, ℕ, List, ◌++◌, length, map, Bool, ◌||◌, nat_lt, Result, Ok, Err, if◌then◌else◌}
+use Rattle.std.specs.Prelude.{◌≡◌, ◌⊎◌, ◌<◌, ℕ, List, ◌++◌, length, map, replicate, Option, Some, None, Bool, ◌||◌, nat_lt, Result, Ok, Err, if◌then◌else◌}
 use Rattle.sgb_graph.specs.declared.builder.Builder.{Builder}
 use Rattle.sgb_graph.specs.declared.field.Util.{Util}
 use Rattle.sgb_graph.specs.declared.refusal.Refusal.{Refusal}
@@ -32,6 +32,15 @@ graph_of_plan p = with_all p.directed (bare_graph p.id p.types (map vertex_of p.
 -- it has more than 65,535 vertices, or gives out more than 1,000,000 numbers
 abbrev pub is_too_large : Plan → Bool
 is_too_large p = nat_lt 65535 (length p.vertices) || nat_lt 1000000 (made_of (graph_of_plan p))
+
+-- the letters of a graph whose fields are not used: all Z
+abbrev pub no_letters : List ℕ
+no_letters = replicate 14 90
+
+-- the plan, where nothing refuses it before it is made
+abbrev pub plan_unless : Option Refusal → Plan → Result Plan Refusal
+plan_unless None p = Ok p
+plan_unless (Some r) p = Err r
 
 -- what comes of a plan, or of the refusal of one: its graph, or the first refusal
 unfoldable pub outcome_of : Result Plan Refusal → Result GraphOf Refusal

@@ -1,5 +1,5 @@
 //! Ranges of lengths, and lengths that are drawn from them.
-ghost use Rattle.std.specs.Prelude.{◌≡◌, ◌≤◌, ◌≤ℤ◌, ◌<◌, ◌^◌, IfOk, IfErr, Some};
+ghost use Rattle.std.specs.Prelude.{◌≡◌, ◌≤◌, ◌≤ℤ◌, ◌<◌, ◌^◌, IfOk, IfErr, OnOk, None, Some};
 ghost use Rattle.sgb_flip.specs.Generator.{IsGenerator, after};
 ghost use Rattle.sgb_plan.specs.Length.{refusal_of_range, drawn_length, width};
 
@@ -28,6 +28,7 @@ impl LengthRange {
     pub fn new(min: i64, max: i64) -> Result<LengthRange, Refusal>
         ensures min { IfOk result (λ range. range.min ≡ min) }
         ensures max { IfOk result (λ range. range.max ≡ max) }
+        ensures ok { OnOk result (refusal_of_range min max ≡ None) }
         ensures err { IfErr result (λ e. refusal_of_range min max ≡ Some e) }
     {
         if min > max {
