@@ -2,8 +2,8 @@
 use Rattle.std.specs.Prelude.{◌+◌, ℕ, List, [], ◌∷◌, ◌++◌, max}
 
 pub data Tree : Type 0 where
-  pub Leaf : Tree
-  pub Node : Tree → Tree → Tree
+  Leaf : Tree
+  Node : Tree → Tree → Tree
 
 -- `x`, or `.` followed by two trees
 abbrev pub text : Tree → List ℕ

@@ -1,5 +1,5 @@
 -- Binary trees as words: a tree is `x`, or `.` followed by two trees.
-use Rattle.std.specs.Prelude.{◌+◌, ◌*◌, ◌==◌, ℕ, zero, suc, List, [], ◌∷◌, ◌++◌, map, max, nat_le, Option, None, Some, Bool, false, if◌then◌else◌}
+use Rattle.std.specs.Prelude.{◌+◌, ◌*◌, ◌==◌, ℕ, zero, suc, List, [], ◌∷◌, ◌++◌, map, max, nat_le, Option, None, Some, Bool, true, false, if◌then◌else◌}
 use Rattle.std.specs.List.{filter}
 use Rattle.std.specs.Option.{option_map, option_and_then}
 
@@ -12,7 +12,7 @@ words (suc m) = map (λ w. 46 ∷ w) (words m) ++ map (λ w. 120 ∷ w) (words m
 abbrev pub joined : List ℕ → Option (List ℕ)
 joined [] = None
 joined (a ∷ []) = None
-joined (a ∷ (b ∷ hs)) = Some (1 + max a b ∷ hs)
+joined (a ∷ (b ∷ hs)) = Some ((1 + max a b) ∷ hs)
 
 -- the heights of the trees that the word is a row of, or None where it is no row of trees
 unfoldable pub heights : List ℕ → Option (List ℕ)

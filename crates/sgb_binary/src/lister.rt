@@ -50,17 +50,17 @@ pub(crate) fn list_trees(alloc: Global, n: u32, most: u32) -> Result<Names, Refu
 impl Lister {
     // Lists the rows with so many dots, for which the budgets have room.
     #[cycle(list)]
-    fn list(&mut self, dots: u32, rooms: u32) -> Result<(), Refusal>
+    fn list(&mut self, dots: u32, total: u32) -> Result<(), Refusal>
         requires few { letters_left dots (budgets_of self.old) ≤ 201 }
-        requires rooms { rooms ≡ rooms (budgets_of self.old) }
-        requires enough { dots ≤ rooms }
+        requires total { total ≡ rooms (budgets_of self.old) }
+        requires enough { dots ≤ total }
         requires count { self.old.count ≤ 65535 }
         ensures { Lists self.old self.new (rows (letters_left dots (budgets_of self.old)) (budgets_of self.old)) result }
     {
         let Some(budget) = self.budgets.pop() else {
             return self.keep();
         };
-        let others = rooms - room(budget);
+        let others = total - room(budget);
         self.list_dotted(dots, others, budget)?;
         self.list_leaf(dots, others)?;
         self.budgets.push(budget)?;

@@ -11,7 +11,7 @@ unfoldable pub fits : List ℕ → List ℕ → Bool
 fits [] [] = true
 fits [] (c ∷ w) = false
 fits (b ∷ bs) [] = false
-fits (b ∷ bs) (c ∷ w) = if c == 46 then nat_lt 0 b && fits (b - 1 ∷ b - 1 ∷ bs) w else fits bs w
+fits (b ∷ bs) (c ∷ w) = if c == 46 then nat_lt 0 b && fits ((b - 1) ∷ ((b - 1) ∷ bs)) w else fits bs w
 
 -- the rows of trees with so many letters and these budgets
 unfoldable pub rows : ℕ → List ℕ → List (List ℕ)
@@ -19,7 +19,7 @@ rows m bs = filter (fits bs) (words m)
 
 -- those of one letter more that begin with a dot or with `x`, where b is the budget of the first tree
 unfoldable pub dotted_rows : ℕ → ℕ → List ℕ → List (List ℕ)
-dotted_rows m b bs = if nat_lt 0 b then map (λ w. 46 ∷ w) (rows m (b - 1 ∷ b - 1 ∷ bs)) else []
+dotted_rows m b bs = if nat_lt 0 b then map (λ w. 46 ∷ w) (rows m ((b - 1) ∷ ((b - 1) ∷ bs))) else []
 
 abbrev pub leaf_rows : ℕ → List ℕ → List (List ℕ)
 leaf_rows m bs = map (λ w. 120 ∷ w) (rows m bs)
