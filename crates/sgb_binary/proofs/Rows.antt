@@ -175,6 +175,17 @@ room_more (suc b) h =
           inl (rw most refl)
     ]
 
+pub room_double : (b : ℕ) → 0 < b → room b ≤ 2 * room (b - 1) + 1
+unfolding room
+room_double zero h = absurd (omega arith)
+room_double (suc b) h =
+    let same : suc b - 1 ≡ b = omega arith in
+    let next : min (suc b) 7 ≤ suc (min b 7) = omega arith in
+    let more : 2 ^ min (suc b) 7 ≤ 2 ^ suc (min b 7) = pow_mono next in
+    let double : 2 ^ suc (min b 7) ≡ 2 * 2 ^ min b 7 = omega arith in
+    let some : 0 < 2 ^ min b 7 = pow_pos (min b 7) in
+    rw same (omega (arith, more, double, some))
+
 pub rooms-cons : (b : ℕ) (bs : List ℕ) → rooms (b ∷ bs) ≡ room b + rooms bs
 unfolding rooms
 rooms-cons b bs = sum_by-cons room b bs
@@ -183,20 +194,14 @@ pub rooms-nil : rooms [] ≡ 0
 unfolding rooms
 rooms-nil = refl
 
+pub power_few : (b : ℕ) → 2 ^ min b 7 ≤ 128
+power_few b =
+    let less : min b 7 ≤ 7 = omega arith in
+    pow_mono less
+
 pub room_few : (b : ℕ) → room b ≤ 127
 unfolding room
-room_few b =
-    elim (cases_Bool (nat_lt b 7)) [
-      | inl low ↦
-          let below : b < 7 = ltb-true b 7 low in
-          let less : min b 7 ≤ 7 = omega arith in
-          let more : 2 ^ min b 7 ≤ 2 ^ 7 = pow_mono less in
-          omega (arith, more)
-      | inr high ↦
-          let above : 7 ≤ b = ltb-false b 7 high in
-          let most : min b 7 ≡ 7 = omega arith in
-          rw most (omega arith)
-    ]
+room_few b = omega (arith, power_few b)
 
 pub rooms_few : (bs : List ℕ) → rooms bs ≤ 127 * length bs
 rooms_few [] = omega (arith, rooms-nil)
