@@ -1,3 +1,4 @@
 pub mod Listings
 pub mod Rows
 pub mod Shapes
+pub mod Spans

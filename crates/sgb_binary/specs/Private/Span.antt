@@ -5,4 +5,4 @@ use Rattle.std.specs.Prelude.{◌+◌, ◌==◌, ℕ, zero, suc, List, [], ◌�
 unfoldable pub span_from : ℕ → ℕ → List ℕ → Option ℕ
 span_from i zero w = Some i
 span_from i (suc k) [] = None
-span_from i (suc k) (c ∷ w) = span_from (i + 1) (if c == 46 then k + 2 else k) w
+span_from i (suc k) (c ∷ w) = span_from (i + 1) (if c == 46 then suc (suc k) else k) w
