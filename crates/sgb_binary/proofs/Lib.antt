@@ -2,3 +2,4 @@ pub mod Listings
 pub mod Rows
 pub mod Shapes
 pub mod Spans
+pub mod Turning
