@@ -3,3 +3,4 @@ pub mod Rows
 pub mod Shapes
 pub mod Spans
 pub mod Turning
+pub mod Indexing

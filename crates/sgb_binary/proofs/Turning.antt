@@ -1,13 +1,14 @@
 -- Lemmas on a rotation that is made in place and taken back, and on the number of a word.
-use Rattle.std.proofs.Common.{◌≡◌, ◌<◌, ◌≤◌, ◌+◌, ◌-◌, ◌==◌, ◌&&◌, ℕ, zero, suc, List, [], ◌∷◌, ◌++◌, length, map, take, drop, codes, Option, None, Some, Bool, true, false, if◌then◌else◌, inl, inr, refl, sym, ap, ap₂, subst, ◌∙◌, arith, append_assoc}
+use Rattle.std.proofs.Common.{◌≡◌, ◌<◌, ◌≤◌, ◌+◌, ◌-◌, ◌==◌, ◌&&◌, ℕ, zero, suc, pos, List, [], ◌∷◌, ◌++◌, length, map, take, drop, codes, Option, None, Some, Bool, true, false, if◌then◌else◌, inl, inr, refl, sym, ap, ap₂, subst, ◌∙◌, arith, append_assoc}
 use Rattle.std.specs.Prelude.{position}
 use Rattle.std.specs.List.{flat_map, filter, range_with_len, starts_with, position_or_len}
 use Rattle.std.specs.Option.{option_to_list}
 use Rattle.std.specs.Cmp.Lexicographic.{pointwise}
 use Rattle.std.proofs.lemmas.Bool.{cases_Bool, eqb-true}
 use Rattle.std.proofs.lemmas.List.{append-nil, length-append, length-map, length-take-le, length-drop, take-append-drop, take_at, drop_at, drop-drop}
+use Rattle.sgb_graph.specs.Builder.{insertion}
 use Rattle.sgb_plan.proofs.Distincts.{position_or_len-map}
-use Rattle.sgb_binary.specs.Rotation.{tree_fronts, turned, turned_at, number_in, targets}
+use Rattle.sgb_binary.specs.Rotation.{tree_fronts, turned, turned_at, number_in, targets, rotations_at}
 use borrow.Rule.Slice.PartMut.{put_mid, mid_of}
 
 -- ---- two dots
@@ -84,3 +85,10 @@ targets_one ws w i k is one = rw (is, one) (append-nil (number_in ws (turned w i
 
 pub position-map : {X Y : Type 0} (p : Y → Bool) (f : X → Y) (xs : List X) → position p (map f xs) ≡ position (λ x. p (f x)) xs
 position-map p f xs = rw (position_or_len-map p f xs, length-map xs f) refl
+
+-- ---- the insertions at a place
+pub rotation_one : (ws : List (List ℕ)) (v : ℕ) (u w : List ℕ) (i k : ℕ) → u ≡ w → k ∷ [] ≡ targets ws u i → rotations_at ws v w i ≡ insertion v k (pos 1) ∷ []
+rotation_one ws v u w i k same one = ap (map (λ j. insertion v j (pos 1))) (sym (ap (λ x. targets ws x i) same) ∙ sym one)
+
+pub rotation_none : (ws : List (List ℕ)) (v : ℕ) (u w : List ℕ) (i : ℕ) → u ≡ w → [] ≡ targets ws u i → rotations_at ws v w i ≡ []
+rotation_none ws v u w i same none = ap (map (λ j. insertion v j (pos 1))) (sym (ap (λ x. targets ws x i) same) ∙ sym none)

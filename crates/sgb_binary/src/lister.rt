@@ -29,6 +29,7 @@ pub(crate) fn list_trees(alloc: Global, n: u32, most: u32) -> Result<Names, Refu
     requires few { n ≤ 100 }
     ensures letters { IfOk result (λ names. names.letters.items ≡ concat (trees n most)) }
     ensures count { IfOk result (λ names. names.count ≡ length (trees n most)) }
+    ensures few { IfOk result (λ names. names.count ≤ 65535) }
     ensures err { IfErr result
         (λ e. (e ≡ Refusal.NoRoom) ⊎ ((e ≡ Refusal.TooLarge) × (65535 < length (trees n most)))) }
 {

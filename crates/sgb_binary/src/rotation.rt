@@ -15,7 +15,8 @@ pub(crate) fn insert_rotations(
     alloc: Global,
     index: &IndexSet<&[u8]>,
 ) -> Result<(), Refusal>
-    requires { n_of builder.old.graph ≡ length index.now.keys }
+    requires vertices { n_of builder.old.graph ≡ length index.now.keys }
+    requires few { length index.now.keys ≤ 65535 }
     ensures { Inserts builder.old builder.new (rotations (map (λ name. name.now) index.now.keys)) result }
 {
     let mut word = Vec::new(alloc);
@@ -35,6 +36,7 @@ fn insert_from(
     word: &mut [u8],
 ) -> Result<(), Refusal>
     requires vertices { n_of builder.old.graph ≡ length index.now.keys }
+    requires few { length index.now.keys ≤ 65535 }
     requires vertex { v < length index.now.keys }
     ensures { Inserts builder.old builder.new (rotations_of (map (λ name. name.now) index.now.keys) v word.old) result }
 {

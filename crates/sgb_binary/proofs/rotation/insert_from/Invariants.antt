@@ -1,9 +1,11 @@
-use Rattle.std.proofs.Common.{◌≡◌, ◌<◌, ◌≤◌, ◌+◌, length, map, take, drop, IfSome, ℕ, ◌-◌, ◌*◌, ℤ, pos, ◌+ℤ◌, ◌-ℤ◌, ◌*ℤ◌, ◌≤ℤ◌, ◌<ℤ◌, FitsSigned, to_z, of_z}
-use Rattle.std.specs.Option.{option_to_list}
-use Rattle.sgb_graph.specs.Builder.{Inserts}
-use Rattle.sgb_graph.specs.Graph.{n_of}
-use Rattle.sgb_binary.specs.Rotation.{tree_fronts, targets, rotations, rotations_of}
+use Rattle.std.proofs.Common.{◌≡◌, length}
+use Rattle.sgb_graph.proofs.Inserting.{LeftFrom}
+use Rattle.sgb_binary.specs.Rotation.{rotations_at, rotations_of}
+use Rattle.sgb_binary.proofs.Indexing.{names_of}
 use Rattle.sgb_binary.proofs.rotation.insert_from.Given as goal
 
 abbrev pub invariant-loop-place : goal.invariant-loop-place
-invariant-loop-place l = ?
+invariant-loop-place l = record {
+  left : LeftFrom l.initial.builder (rotations_of (names_of l.index.keys) l.v l.initial.word) l.builder (rotations_at (names_of l.index.keys) l.v l.initial.word) l.place (length l.initial.word);
+  word : l.word ≡ l.initial.word;
+}
