@@ -35,6 +35,9 @@ rotations_at ws v w i = map (λ k. insertion v k (pos 1)) (targets ws w i)
 abbrev pub rotations_of : List (List ℕ) → ℕ → List ℕ → List Insertion
 rotations_of ws v w = flat_map (rotations_at ws v w) (range_with_len 0 (length w))
 
+abbrev pub rotations_from : List (List ℕ) → ℕ → List Insertion
+rotations_from ws v = rotations_of ws v (slice_index_or ws v [])
+
 -- from each of the words in order
 abbrev pub rotations : List (List ℕ) → List Insertion
-rotations ws = flat_map (λ v. rotations_of ws v (slice_index_or ws v [])) (range_with_len 0 (length ws))
+rotations ws = flat_map (rotations_from ws) (range_with_len 0 (length ws))

@@ -39,9 +39,7 @@ pub(crate) fn list_trees(alloc: Global, n: u32, most: u32) -> Result<Names, Refu
         names: Vec::new(alloc),
         count: 0,
     };
-    if n <= room(most) {
-        lister.list(n, room(most))?;
-    }
+    lister.list_all(n, most)?;
     Ok(Names {
         letters: lister.names,
         count: lister.count,
@@ -49,6 +47,20 @@ pub(crate) fn list_trees(alloc: Global, n: u32, most: u32) -> Result<Names, Refu
 }
 
 impl Lister {
+    // Lists the trees, from the start.
+    fn list_all(&mut self, n: u32, most: u32) -> Result<(), Refusal>
+        requires few { n ≤ 100 }
+        requires count { self.old.count ≤ 65535 }
+        requires budget { self.old.budgets.items ≡ most ∷ [] }
+        ensures { Lists self.old self.new (trees n most) result }
+    {
+        let total = room(most);
+        if n > total {
+            return Ok(());
+        }
+        self.list(n, total)
+    }
+
     // Lists the rows with so many dots, for which the budgets have room.
     #[cycle(list)]
     fn list(&mut self, dots: u32, total: u32) -> Result<(), Refusal>
