@@ -1,15 +1,18 @@
 -- Lemmas on the graph that is made of the trees.
-use Rattle.std.proofs.Common.{◌≡◌, ◌≤◌, ◌+◌, ◌*◌, ◌==◌, ℕ, zero, suc, List, [], ◌∷◌, length, get_or, map, Bool, true, false, All, IsTrue, Result, Ok, Err, inl, inr, refl, sym, ap, ap₂, subst, ◌∙◌, arith}
+use Rattle.std.proofs.Common.{◌≡◌, ◌<◌, ◌≤◌, ◌⊎◌, ◌+◌, ◌*◌, ◌==◌, ℕ, zero, suc, List, [], ◌∷◌, length, get_or, map, Bool, true, false, All, IsTrue, Result, Ok, Err, inl, inr, refl, sym, ap, ap₂, subst, ◌∙◌, arith}
 use Rattle.std.specs.List.{concat, list_all}
+use Rattle.std.proofs.lemmas.List.{length-map}
 use Rattle.std.proofs.lemmas.List.Elements.{All-nil, All-cons, All-append, All-map, All-filter}
 use Rattle.sgb_graph.specs.declared.builder.Builder.{Builder}
+use Rattle.sgb_graph.specs.declared.refusal.Refusal.{Refusal}
+use Rattle.sgb_graph.specs.declared.refusal.Refusal.TheVariants.{NoRoom, TooLarge}
 use Rattle.sgb_graph.specs.Graph.{n_of}
 use Rattle.sgb_graph.specs.New.{bare_graph}
 use Rattle.sgb_graph.specs.Text.{IsText, is_text_byte}
 use Rattle.sgb_plan.specs.Distinct.{Distinct}
-use Rattle.sgb_plan.specs.Plan.{Plan}
-use Rattle.sgb_plan.proofs.Planning.{begun}
-use Rattle.sgb_binary.specs.Binary.{binary_plan}
+use Rattle.sgb_plan.specs.Plan.{Plan, IsMade, with_named}
+use Rattle.sgb_plan.proofs.Planning.{begun, many_vertices, n-with_named}
+use Rattle.sgb_binary.specs.Binary.{binary_plan, tree_vertex}
 use Rattle.sgb_binary.specs.Tree.{words, is_low_tree, trees}
 use Rattle.sgb_binary.specs.Private.Listing.{pieces}
 use Rattle.sgb_binary.proofs.Indexing.{pieces_concat, concat_length}
@@ -50,3 +53,19 @@ pieces_apart n most count letters is many =
 pub begins : (n most : ℕ) (directed : Bool) (id types : List ℕ) (b : Builder) → b ≡ record { graph = bare_graph id types []; directed = directed }
     → id ≡ (binary_plan n most directed).id → types ≡ (binary_plan n most directed).types → b ≡ begun (binary_plan n most directed)
 begins n most directed id types b is named letters = is ∙ ap₂ (λ i t. record { graph = bare_graph i t []; directed = directed }) named letters
+
+-- ---- what is answered
+pub refused_trees : (n most : ℕ) (directed : Bool) {e : Refusal} → (e ≡ NoRoom) ⊎ ((e ≡ TooLarge) × (65535 < length (trees n most))) → IsMade (Ok (binary_plan n most directed)) (Err e)
+refused_trees n most directed (inl none) = inl none
+refused_trees n most directed (inr large) =
+    many_vertices (binary_plan n most directed) large.0 (omega (arith, large.1, length-map (trees n most) tree_vertex))
+
+-- the builder with its vertices, from the names in the index
+pub named : (p : Plan) (names : List (List ℕ)) (a b : Builder) → map tree_vertex names ≡ p.vertices → b ≡ with_named a (map tree_vertex names) → a ≡ begun p → b ≡ with_named (begun p) p.vertices
+named p names a b are made begun_so = made ∙ (ap (with_named a) are ∙ ap (λ c. with_named c p.vertices) begun_so)
+
+pub many_named : (p : Plan) (names : List (List ℕ)) (a b : Builder) → b ≡ with_named a (map tree_vertex names) → a ≡ begun p → n_of b.graph ≡ length names
+many_named p names a b made begun_so =
+    let none : n_of a.graph ≡ 0 = ap (λ (c : Builder). n_of c.graph) begun_so in
+    let all : n_of b.graph ≡ n_of (with_named a (map tree_vertex names)).graph = ap (λ (c : Builder). n_of c.graph) made in
+    omega (arith, none, all, n-with_named a (map tree_vertex names), length-map names tree_vertex)
