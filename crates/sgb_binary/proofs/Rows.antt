@@ -1,9 +1,8 @@
 -- Lemmas on rows of trees: heights that are read from the right, and budgets that are kept from the left.
 use Rattle.std.proofs.Common.{◌≡◌, ◌<◌, ◌≤◌, ◌+◌, ◌-◌, ◌*◌, ◌^◌, ◌==◌, ◌&&◌, ℕ, zero, suc, List, [], ◌∷◌, ◌++◌, length, map, max, min, get_or, nat_le, nat_lt, Option, None, Some, Bool, true, false, All, if◌then◌else◌, ◌⊎◌, inl, inr, refl, sym, ap, ap₂, ◌∙◌, arith, pow_mono}
-use Rattle.std.specs.List.{filter, sum_by}
+use Rattle.std.specs.List.{filter}
 use Rattle.std.specs.Option.{option_map, option_and_then}
-use Rattle.std.proofs.lemmas.Bool.{cases_Bool, lt-ltb, le-leb, le-ltb, ltb-true, ltb-false, leb-true, leb-false}
-use Rattle.std.proofs.lemmas.List.{length-map}
+use Rattle.std.proofs.lemmas.Bool.{cases_Bool, lt-ltb, le-leb, ltb-true, ltb-false, leb-true, leb-false}
 use Rattle.std.proofs.lemmas.List.Elements.{filter-append, filter_agree, All-nil, All-head, All-tail, All-append, All-map, All-cons}
 use Rattle.std.proofs.lemmas.List.Sums.{sum_by-cons}
 use Rattle.std.proofs.lemmas.Nat.{pow_pos}

@@ -1,11 +1,9 @@
 -- Lemmas on a rotation that is made in place and taken back, and on the number of a word.
-use Rattle.std.proofs.Common.{◌≡◌, ◌<◌, ◌≤◌, ◌+◌, ◌-◌, ◌==◌, ◌&&◌, ℕ, zero, suc, pos, List, [], ◌∷◌, ◌++◌, length, map, take, drop, codes, Option, None, Some, Bool, true, false, if◌then◌else◌, inl, inr, refl, sym, ap, ap₂, subst, ◌∙◌, arith, append_assoc}
+use Rattle.std.proofs.Common.{◌≡◌, ◌≤◌, ◌+◌, ◌-◌, ◌==◌, ℕ, suc, pos, List, [], ◌∷◌, ◌++◌, length, map, take, drop, codes, Bool, true, false, inl, inr, refl, sym, ap, ap₂, ◌∙◌, arith, append_assoc}
 use Rattle.std.specs.Prelude.{position}
-use Rattle.std.specs.List.{flat_map, filter, range_with_len, starts_with, position_or_len}
-use Rattle.std.specs.Option.{option_to_list}
-use Rattle.std.specs.Cmp.Lexicographic.{pointwise}
+use Rattle.std.specs.List.{starts_with}
 use Rattle.std.proofs.lemmas.Bool.{cases_Bool, eqb-true}
-use Rattle.std.proofs.lemmas.List.{append-nil, length-append, length-map, length-take-le, length-drop, take-append-drop, take_at, drop_at, drop-drop}
+use Rattle.std.proofs.lemmas.List.{append-nil, length-append, length-map, length-take-le, take-append-drop, take_at, drop_at, drop-drop}
 use Rattle.sgb_graph.specs.Builder.{insertion}
 use Rattle.sgb_plan.proofs.Distincts.{position_or_len-map}
 use Rattle.sgb_binary.specs.Rotation.{tree_fronts, turned, turned_at, number_in, targets, rotations_at}

@@ -1,5 +1,5 @@
 -- The graph of binary trees and their rotations.
-use Rattle.std.specs.Prelude.{◌+◌, ◌==◌, ◌&&◌, ◌||◌, ℕ, pos, unsigned_abs, int_le, nat_lt, List, [], ◌∷◌, map, replicate, codes, decimal, Bool, Result, Ok, Err, if◌then◌else◌}
+use Rattle.std.specs.Prelude.{◌==◌, ◌&&◌, ◌||◌, ℕ, pos, unsigned_abs, int_le, nat_lt, List, [], ◌∷◌, map, replicate, codes, decimal, Bool, Result, Ok, Err, if◌then◌else◌}
 use Rattle.sgb_graph.specs.declared.refusal.Refusal.{Refusal}
 use Rattle.sgb_graph.specs.declared.refusal.Refusal.TheVariants.{BadSpecs}
 use Rattle.sgb_graph.specs.New.{six_zeros}

@@ -1,11 +1,9 @@
-use Rattle.std.proofs.Common.{◌≡◌, ◌<◌, ◌∷◌, [], List, ℕ, Bor, length, get_or, map, subst, ap, sym, ◌∙◌, arith}
+use Rattle.std.proofs.Common.{◌≡◌, ◌<◌, [], List, ℕ, Bor, length, get_or, subst, sym, ◌∙◌, arith}
 use Rattle.std.proofs.lemmas.List.{get_or-map, length-map}
 use Rattle.std.proofs.lemmas.Result.{err_from_is_err_and}
 use Rattle.sgb_graph.specs.New.{six_zeros}
 use Rattle.sgb_graph.specs.Text.{IsText}
-use Rattle.sgb_plan.specs.Plan.{with_named}
-use Rattle.sgb_plan.proofs.Planning.{RefusesNames, pushed, push_refused, names_of_some, names_of_refused, names_of_end}
-use Rattle.sgb_binary.specs.Binary.{tree_vertex}
+use Rattle.sgb_plan.proofs.Planning.{pushed, push_refused, names_of_some, names_of_refused, names_of_end}
 use Rattle.sgb_binary.proofs.Indexing.{names_of}
 use Rattle.sgb_binary.proofs.generator.name_vertices.Goals as goal
 

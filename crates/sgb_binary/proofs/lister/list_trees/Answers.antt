@@ -1,4 +1,4 @@
-use Rattle.std.proofs.Common.{◌≡◌, ◌++◌, [], List, ℕ, map, ap, ap₂, ◌∙◌}
+use Rattle.std.proofs.Common.{◌++◌, List, ℕ, map, ap, ap₂, ◌∙◌}
 use Rattle.std.specs.List.{concat}
 use Rattle.std.proofs.lemmas.List.{map-id}
 use Rattle.sgb_binary.specs.Tree.{trees}

@@ -1,6 +1,5 @@
-use Rattle.std.proofs.Common.{◌≡◌, ◌≤◌, ◌^◌, ap, min, arith}
+use Rattle.std.proofs.Common.{◌≡◌, ◌^◌, ap, min, arith}
 use Rattle.sgb_binary.specs.Private.Listing.{room}
-use Rattle.sgb_binary.proofs.Listings.{popped}
 use Rattle.sgb_binary.proofs.Rows.{power_few}
 use Rattle.sgb_binary.proofs.lister.room.Goals as goal
 

@@ -1,11 +1,11 @@
-use Rattle.std.proofs.Common.{◌≡◌, ◌≤◌, ◌<◌, ◌+◌, ◌-◌, ◌==◌, ◌++◌, ◌∷◌, [], ℕ, List, length, map, take, drop, codes, true, false, Bor, suc, refl, ap, sym, ◌∙◌, arith}
+use Rattle.std.proofs.Common.{◌≡◌, ◌≤◌, ◌+◌, ◌-◌, ◌==◌, ◌∷◌, [], ℕ, List, length, map, drop, codes, true, false, Bor, suc, ap, sym, ◌∙◌, arith}
 use Rattle.std.specs.Prelude.{position}
 use Rattle.std.specs.Option.{option_to_list}
 use Rattle.std.specs.Cmp.Lexicographic.{pointwise}
 use borrow.Rule.Slice.PartMut.{put_mid}
 use Rattle.std.specs.List.{starts_with}
 use Rattle.std.proofs.lemmas.List.{take_rest}
-use Rattle.sgb_binary.specs.Rotation.{tree_fronts, targets, turned}
+use Rattle.sgb_binary.specs.Rotation.{tree_fronts, turned}
 use Rattle.sgb_binary.proofs.Turning.{behind_dot, turned_part, turned_is, turned_back, targets_none, targets_no_tree, targets_one, position-map}
 use Rattle.sgb_binary.proofs.rotation.find_turned.Goals as goal
 

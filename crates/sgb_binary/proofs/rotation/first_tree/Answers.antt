@@ -1,4 +1,4 @@
-use Rattle.std.proofs.Common.{◌≡◌, ◌≤◌, ◌<◌, ◌+◌, ◌-◌, drop, ap, sym, ◌∙◌, arith}
+use Rattle.std.proofs.Common.{◌≡◌, ◌≤◌, ◌+◌, drop, ap, sym, ◌∙◌, arith}
 use Rattle.std.specs.Option.{option_to_list}
 use Rattle.sgb_binary.specs.Private.Span.{span_from}
 use Rattle.sgb_binary.proofs.Spans.{tree_fronts_are, span_dot, span_leaf, span_past, span_found}

@@ -1,7 +1,7 @@
-use Rattle.std.proofs.Common.{◌≡◌, ◌≤◌, ◌<◌, ◌+◌, ◌*◌, ◌∷◌, [], List, ℕ, length, subst, ap, sym, ◌∙◌, arith}
+use Rattle.std.proofs.Common.{◌≡◌, ◌<◌, ◌+◌, ◌*◌, ◌∷◌, [], List, ℕ, length, subst, ap, sym, ◌∙◌, arith}
 use Rattle.std.specs.Prelude.{reverse}
 use Rattle.sgb_binary.specs.Tree.{trees}
-use Rattle.sgb_binary.specs.Private.Listing.{rows, room, rooms, budgets_of, letters_left, Lists}
+use Rattle.sgb_binary.specs.Private.Listing.{rows, room, rooms, letters_left, Lists}
 use Rattle.sgb_binary.proofs.Rows.{trees_are, rows_none, rooms-cons, rooms-nil}
 use Rattle.sgb_binary.proofs.Listings.{listed_none}
 use Rattle.sgb_binary.proofs.lister.Lister.list_all.Goals as goal
