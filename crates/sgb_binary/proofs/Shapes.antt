@@ -4,7 +4,12 @@ use Rattle.std.specs.List.{filter}
 use Rattle.std.specs.Option.{option_map, option_and_then}
 use Rattle.std.proofs.lemmas.Bool.{cases_Bool, eq-eqb, ne_eqb, le-leb, leb-true}
 use Rattle.std.proofs.lemmas.List.{append-nil, length-append, length-map, get_or-map}
-use Rattle.std.proofs.lemmas.List.Elements.{All-nil, All-cons, All-append, All-map, All-filter, All-contains, filter_passes, Contains-append_left, Contains-append_right}
+use Rattle.std.specs.List.{AllPairs}
+use Rattle.std.specs.Cmp.Lexicographic.{slice_cmp}
+use Rattle.std.specs.Ordering.{nat_cmp}
+use Rattle.std.specs.declared.cmp.Ordering.TheVariants.{Less}
+use Rattle.std.proofs.lemmas.List.Kept.{AllPairs-cons, AllPairs-filter}
+use Rattle.std.proofs.lemmas.List.Elements.{All-head, All-tail, All-nil, All-cons, All-append, All-map, All-filter, All-contains, filter_passes, Contains-append_left, Contains-append_right}
 use Rattle.sgb_plan.specs.Distinct.{Distinct}
 use Rattle.sgb_plan.proofs.Distincts.{Distinct-nil, Distinct-cons, Distinct-append, Distinct-map, Distinct-filter}
 use Rattle.sgb_binary.specs.Shape.{Tree, text, dots, height}
@@ -43,7 +48,7 @@ words_letters (suc m) =
     (All-map (All IsLetter) (λ w. 46 ∷ w) (words m) (λ k d h. All-cons IsLetter 46 (get_or (words m) k d) (inl refl) (words_letters m k d h)))
     (All-map (All IsLetter) (λ w. 120 ∷ w) (words m) (λ k d h. All-cons IsLetter 120 (get_or (words m) k d) (inr refl) (words_letters m k d h)))
 
-abbrev IsWord : List ℕ → Type 0
+abbrev pub IsWord : List ℕ → Type 0
 IsWord [] = Unit {0}
 IsWord (c ∷ w) = IsLetter c × IsWord w
 
@@ -81,6 +86,44 @@ words_distinct (suc m) =
 pub trees_distinct : (n most : ℕ) → Distinct (trees n most)
 unfolding trees
 trees_distinct n most = Distinct-filter (is_low_tree most) (words (2 * n + 1)) (words_distinct (2 * n + 1))
+
+-- ---- the order of the bytes
+abbrev pub IsBefore : List ℕ → List ℕ → Type 0
+IsBefore v w = slice_cmp nat_cmp v w ≡ Less
+
+pairs_tail : {X : Type 0} (R : X → X → Type 0) (x : X) (xs : List X) → AllPairs R (x ∷ xs) → AllPairs R xs
+pairs_tail R x xs all i j d less below = all (suc i) (suc j) d (omega arith) (omega arith)
+
+pairs_head : {X : Type 0} (R : X → X → Type 0) (x : X) (xs : List X) → AllPairs R (x ∷ xs) → All (R x) xs
+pairs_head R x xs all k d below = all zero (suc k) d (omega arith) (omega arith)
+
+pairs_append : {X : Type 0} (R : X → X → Type 0) (xs ys : List X) → AllPairs R xs → AllPairs R ys → All (λ x. All (R x) ys) xs → AllPairs R (xs ++ ys)
+pairs_append R [] ys front back across = back
+pairs_append R (x ∷ xs) ys front back across =
+    AllPairs-cons R x (xs ++ ys)
+    (All-append (R x) xs ys (pairs_head R x xs front) (All-head (λ a. All (R a) ys) x xs across))
+    (pairs_append R xs ys (pairs_tail R x xs front) back (All-tail (λ a. All (R a) ys) x xs across))
+
+pairs_map : {X Y : Type 0} (R : Y → Y → Type 0) (f : X → Y) (xs : List X) → AllPairs (λ a b. R (f a) (f b)) xs → AllPairs R (map f xs)
+pairs_map R f [] all = λ i j d less below. absurd (omega (arith, below))
+pairs_map R f (x ∷ xs) all =
+    AllPairs-cons R (f x) (map f xs)
+    (All-map (R (f x)) f xs (pairs_head (λ a b. R (f a) (f b)) x xs all))
+    (pairs_map R f xs (pairs_tail (λ a b. R (f a) (f b)) x xs all))
+
+words_ordered : (m : ℕ) → AllPairs IsBefore (words m)
+unfolding words
+words_ordered zero = λ i j d less below. absurd (omega (arith, less, below))
+words_ordered (suc m) =
+    pairs_append IsBefore (map (λ w. 46 ∷ w) (words m)) (map (λ w. 120 ∷ w) (words m))
+    (pairs_map IsBefore (λ w. 46 ∷ w) (words m) (words_ordered m))
+    (pairs_map IsBefore (λ w. 120 ∷ w) (words m) (words_ordered m))
+    (All-map (λ x. All (IsBefore x) (map (λ w. 120 ∷ w) (words m))) (λ w. 46 ∷ w) (words m)
+    (λ k d h. All-map (IsBefore (46 ∷ get_or (words m) k d)) (λ w. 120 ∷ w) (words m) (λ j e low. refl)))
+
+pub trees_ordered : (n most : ℕ) → AllPairs IsBefore (trees n most)
+unfolding trees
+trees_ordered n most = AllPairs-filter IsBefore (is_low_tree most) (words (2 * n + 1)) (words_ordered (2 * n + 1))
 
 -- ---- the word of a tree
 word_append : (v w : List ℕ) → IsWord v → IsWord w → IsWord (v ++ w)
@@ -120,14 +163,14 @@ trees_all t n most same low =
     (subst (λ m. Contains (words m) (text t)) long (words_all (text t) (text_word t)))
 
 -- ---- the trees of a word
-texts : List Tree → List ℕ
+unfoldable pub texts : List Tree → List ℕ
 texts [] = []
 texts (t ∷ ts) = text t ++ texts ts
 
-record Row (w hs : List ℕ) : Type 0 where
-  shapes : List Tree
-  spelled : texts shapes ≡ w
-  high : map height shapes ≡ hs
+pub record Row (w hs : List ℕ) : Type 0 where
+  pub shapes : List Tree
+  pub spelled : texts shapes ≡ w
+  pub high : map height shapes ≡ hs
 
 row_leaf : (c : ℕ) (w : List ℕ) (o : Option (List ℕ)) (hs : List ℕ) → c ≡ 120 → ((gs : List ℕ) → o ≡ Some gs → Row w gs) → option_map (λ gs. 0 ∷ gs) o ≡ Some hs → Row (c ∷ w) hs
 unfolding texts
@@ -164,7 +207,7 @@ row_dot c w (Some (a ∷ (b ∷ gs))) hs dot rest is =
     let same : (1 + max a b) ∷ gs ≡ hs = let e : Some ((1 + max a b) ∷ gs) ≡ Some hs = is in cc in
     subst (Row (c ∷ w)) same (row_join c w a b gs dot row.shapes row.spelled row.high)
 
-row_of : (w hs : List ℕ) → IsWord w → heights w ≡ Some hs → Row w hs
+pub row_of : (w hs : List ℕ) → IsWord w → heights w ≡ Some hs → Row w hs
 unfolding heights texts
 row_of [] hs is made = record { shapes = []; spelled = refl; high = let e : Some [] ≡ Some hs = made in cc }
 row_of (c ∷ w) hs (inl dot, is) made =
@@ -190,20 +233,26 @@ one_shape w h [] spelled high = absurd cc
 one_shape w h (t ∷ []) spelled high = (t, sym (append-nil (text t)) ∙ spelled, let e : height t ∷ [] ≡ h ∷ [] = high in cc)
 one_shape w h (t ∷ (u ∷ us)) spelled high = absurd (let e : height t ∷ (height u ∷ map height us) ≡ h ∷ [] = high in cc)
 
-pub trees_only : (n most : ℕ) (w : List ℕ) → Contains (trees n most) w → (t : Tree) × (text t ≡ w) × (dots t ≡ n) × (height t ≤ most)
-unfolding trees is_low_tree
-trees_only n most w at =
-    let ws : List (List ℕ) = words (2 * n + 1) in
-    let low : is_low_tree most w ≡ true = All-contains (λ v. is_low_tree most v ≡ true) (trees n most) w (filter_passes (is_low_tree most) ws) at in
-    let long : length w ≡ 2 * n + 1 = All-contains (λ v. length v ≡ 2 * n + 1) (trees n most) w (All-filter (is_low_tree most) (λ v. length v ≡ 2 * n + 1) ws (words_length (2 * n + 1))) at in
-    let letters : All IsLetter w = All-contains (All IsLetter) (trees n most) w (All-filter (is_low_tree most) (All IsLetter) ws (words_letters (2 * n + 1))) at in
-    let one = one_of w most (heights w) refl low in
-    let row : Row w (one.0 ∷ []) = row_of w (one.0 ∷ []) (word_from w letters) one.1 in
-    let shape = one_shape w one.0 row.shapes row.spelled row.high in
-    let same : length (text shape.0) ≡ length w = ap length shape.1 in
-    (shape.0, shape.1, omega (arith, long, same, text_length shape.0), omega (arith, one.2, shape.2))
-
 -- what a tree of the list is made of
 pub trees_length : (n most : ℕ) → All (λ w. length w ≡ 2 * n + 1) (trees n most)
 unfolding trees
 trees_length n most = All-filter (is_low_tree most) (λ v. length v ≡ 2 * n + 1) (words (2 * n + 1)) (words_length (2 * n + 1))
+
+-- a word of the list
+pub tree_word : (n most : ℕ) (w : List ℕ) → Contains (trees n most) w → (h : ℕ) × (heights w ≡ Some (h ∷ [])) × (h ≤ most) × IsWord w
+unfolding trees is_low_tree
+tree_word n most w at =
+    let ws : List (List ℕ) = words (2 * n + 1) in
+    let low : is_low_tree most w ≡ true = All-contains (λ v. is_low_tree most v ≡ true) (trees n most) w (filter_passes (is_low_tree most) ws) at in
+    let letters : All IsLetter w = All-contains (All IsLetter) (trees n most) w (All-filter (is_low_tree most) (All IsLetter) ws (words_letters (2 * n + 1))) at in
+    let one = one_of w most (heights w) refl low in
+    (one.0, one.1, one.2, word_from w letters)
+
+pub trees_only : (n most : ℕ) (w : List ℕ) → Contains (trees n most) w → (t : Tree) × (text t ≡ w) × (dots t ≡ n) × (height t ≤ most)
+trees_only n most w at =
+    let long : length w ≡ 2 * n + 1 = All-contains (λ v. length v ≡ 2 * n + 1) (trees n most) w (trees_length n most) at in
+    let one = tree_word n most w at in
+    let row : Row w (one.0 ∷ []) = row_of w (one.0 ∷ []) one.3 one.1 in
+    let shape = one_shape w one.0 row.shapes row.spelled row.high in
+    let same : length (text shape.0) ≡ length w = ap length shape.1 in
+    (shape.0, shape.1, omega (arith, long, same, text_length shape.0), omega (arith, one.2, shape.2))

@@ -10,7 +10,7 @@ use Rattle.sgb_binary.specs.Rotation.{tree_fronts, turned, turned_at, number_in,
 use borrow.Rule.Slice.PartMut.{put_mid, mid_of}
 
 -- ---- two dots
-two_dots : (xs : List ℕ) → starts_with ◌==◌ xs (codes "..") ≡ true → xs ≡ 46 ∷ (46 ∷ drop 2 xs)
+pub two_dots : (xs : List ℕ) → starts_with ◌==◌ xs (codes "..") ≡ true → xs ≡ 46 ∷ (46 ∷ drop 2 xs)
 two_dots [] is = absurd (let no : false ≡ true = is in cc)
 two_dots (x ∷ []) is =
     elim (cases_Bool (46 == x)) [

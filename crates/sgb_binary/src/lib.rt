@@ -8,6 +8,6 @@ mod lister;
 mod rotation;
 mod spec;
 
-pub use facts::binary_law;
+pub use facts::{binary_law, rotation_law};
 pub use generator::binary;
 pub use spec::BinarySpec;

@@ -4,7 +4,7 @@ ghost use Rattle.std.specs.List.{concat};
 ghost use Rattle.sgb_binary.specs.Tree.{trees};
 ghost use Rattle.sgb_binary.specs.Private.Listing.{rows, dotted_rows, room, rooms, budgets_of, letters_left, Lists, leaf_rows};
 
-use sgb_graph::Refusal;
+use sgb_graph::{MOST_VERTICES, Refusal};
 use std::alloc::Global;
 
 /// The words of trees, one behind another.
@@ -62,7 +62,7 @@ impl Lister {
     }
 
     // Lists the rows with so many dots, for which the budgets have room.
-    #[cycle(list)]
+    #[cycle(rows)]
     fn list(&mut self, dots: u32, total: u32) -> Result<(), Refusal>
         requires few { letters_left dots (budgets_of self.old) ≤ 201 }
         requires total { total ≡ rooms (budgets_of self.old) }
@@ -81,7 +81,7 @@ impl Lister {
     }
 
     // Lists those that begin with a dot, where the first tree has this budget and the others have room for so many dots.
-    #[cycle(list)]
+    #[cycle(rows)]
     fn list_dotted(&mut self, dots: u32, others: u32, budget: u32) -> Result<(), Refusal>
         requires few { letters_left dots (budgets_of self.old) ≤ 200 }
         requires others { others ≡ rooms (budgets_of self.old) }
@@ -108,7 +108,7 @@ impl Lister {
     }
 
     // Lists those that begin with `x`, where the other trees have room for so many dots.
-    #[cycle(list)]
+    #[cycle(rows)]
     fn list_leaf(&mut self, dots: u32, others: u32) -> Result<(), Refusal>
         requires few { letters_left dots (budgets_of self.old) ≤ 200 }
         requires others { others ≡ rooms (budgets_of self.old) }
@@ -131,7 +131,7 @@ impl Lister {
         requires count { self.old.count ≤ 65535 }
         ensures { Lists self.old self.new ([] ∷ []) result }
     {
-        if self.count == 65_535 {
+        if self.count == MOST_VERTICES {
             return Err(Refusal::TooLarge);
         }
         self.names.extend_from_slice(&self.word)?;

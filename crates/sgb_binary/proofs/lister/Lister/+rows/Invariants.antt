@@ -1,5 +1,5 @@
 use Rattle.std.proofs.Common.{◌+◌, ◌*◌, length}
-use Rattle.sgb_binary.proofs.lister.Lister.+list.Given as goal
+use Rattle.sgb_binary.proofs.lister.Lister.+rows.Given as goal
 
 -- the letters that are still to come, twice, and the caller last
 abbrev pub decreases-list : goal.decreases-list
