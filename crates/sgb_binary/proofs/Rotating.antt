@@ -1,5 +1,5 @@
 -- Lemmas on rotations, by the trees that they are of.
-use Rattle.std.proofs.Common.{◌≡◌, ◌≢◌, ◌<◌, ◌≤◌, ◌+◌, ◌*◌, ◌==◌, ℕ, zero, suc, List, [], ◌∷◌, ◌++◌, length, map, max, take, drop, codes, Option, None, Some, Bool, true, false, Contains, inl, inr, refl, sym, ap, ap₂, subst, ◌∙◌, arith, append_assoc}
+use Rattle.std.proofs.Common.{◌≡◌, ◌+◌, ◌==◌, ℕ, zero, suc, List, [], ◌∷◌, ◌++◌, length, map, max, take, drop, codes, Option, None, Some, true, Contains, inl, inr, refl, sym, ap, ap₂, subst, ◌∙◌, arith, append_assoc}
 use Rattle.std.specs.List.{starts_with}
 use Rattle.std.specs.Option.{option_map, option_and_then, option_to_list}
 use Rattle.std.proofs.lemmas.Bool.{cases_Bool}
@@ -9,7 +9,7 @@ use Rattle.sgb_binary.specs.Shape.Tree.{Leaf, Node}
 use Rattle.sgb_binary.specs.Tree.{joined, heights, trees}
 use Rattle.sgb_binary.specs.Rotation.{tree_fronts, turned, turned_at}
 use Rattle.sgb_binary.specs.Private.Span.{span_from}
-use Rattle.sgb_binary.proofs.Shapes.{IsWord, Row, texts, row_of, tree_word}
+use Rattle.sgb_binary.proofs.Shapes.{IsWord, texts, row_of, tree_word}
 use Rattle.sgb_binary.proofs.Spans.{tree_fronts_are}
 use Rattle.sgb_binary.proofs.Turning.{two_dots}
 
