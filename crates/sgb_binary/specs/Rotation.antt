@@ -10,7 +10,7 @@ use Rattle.sgb_binary.specs.Tree.{is_tree}
 unfoldable pub tree_fronts : List ℕ → List ℕ
 tree_fronts w = filter (λ k. is_tree (take k w)) (range_with_len 0 (length w + 1))
 
--- the word, where the dot before its letter i + 1 goes behind the k letters that follow it
+-- the word, where the dot at place i + 1 goes behind the k letters that follow it
 abbrev pub turned : List ℕ → ℕ → ℕ → List ℕ
 turned w i k = take (i + 1) w ++ (take k (drop (i + 2) w) ++ (46 ∷ drop k (drop (i + 2) w)))
 

@@ -4,6 +4,8 @@
 #[cfg(test)]
 mod large;
 #[cfg(test)]
+mod laws;
+#[cfg(test)]
 mod looks;
 #[cfg(test)]
 mod refused;
