@@ -200,6 +200,10 @@ class Said:
         refused = re.findall(r'`Rattle\.%s\.proofs\.%s\.(?:\w+\.)?([^.`]+)`' % (crate, re.escape('.'.join(own))), told)
         folder = re.escape('/'.join(own))
         errors = [it for it in self.lines if re.match(r'(?:\./)?proofs/%s/\w+\.antt:\d+:\d+: error' % folder, it)]
+        # Functions that call each other have one folder, where each answer begins with its function's name.
+        beside, last = (re.escape(it) for it in ('/'.join([*own[:-1], '+']), own[-1]))
+        errors += [it for it in self.lines if re.match(r'(?:\./)?proofs/%s%s/\w+\.antt:\d+:\d+: error' % (beside, last), it)
+                   or re.match(r'(?:\./)?proofs/%s\w+/\w+\.antt:\d+:\d+: error: `%s-' % (beside, last), it)]
         refused += re.findall(r'error: `([^`]*)`', '\n'.join(errors))
         is_own = told.startswith('not proved') and (refused or errors)
         is_real = not errors or any(not VANISHED.search(it) for it in errors)

@@ -1,0 +1,48 @@
+use Rattle.std.proofs.Common.{◌≡◌, ◌<◌, [], List, ℕ, Bor, length, get_or, subst, sym, ◌∙◌, arith}
+use Rattle.std.proofs.lemmas.List.{get_or-map, length-map}
+use Rattle.std.proofs.lemmas.Result.{err_from_is_err_and}
+use Rattle.sgb_graph.specs.New.{six_zeros}
+use Rattle.sgb_graph.specs.Text.{IsText}
+use Rattle.sgb_plan.proofs.Planning.{pushed, push_refused, names_of_some, names_of_refused, names_of_end}
+use Rattle.sgb_binary.proofs.Indexing.{names_of}
+use Rattle.sgb_binary.proofs.generator.name_vertices.Goals as goal
+
+-- the name of one of the references
+name_at : (trees : List (Bor (List ℕ))) (i : ℕ) (r : Bor (List ℕ)) (d : List ℕ) → i < length trees → (get_or trees i r).now ≡ get_or (names_of trees) i d
+name_at trees i r d h = sym (get_or-map (λ (tree : Bor (List ℕ)). tree.now) trees i r d h)
+
+below : (trees : List (Bor (List ℕ))) (i : ℕ) → i < length trees → i < length (names_of trees)
+below trees i h = omega (arith, length-map trees (λ (tree : Bor (List ℕ)). tree.now))
+
+pub text_of-requires : goal.text_of-requires
+text_of-requires c =
+    let trees : List (Bor (List ℕ)) = c.args.trees.now in
+    let i : ℕ = c.loop-tree.tree-index in
+    let h : i < length trees = c.loop-tree-test.true in
+    subst IsText (sym (name_at trees i _ [] h)) (c.requires i [] (below trees i h))
+
+pub returns-in_err-push_vertex : goal.returns-in_err-push_vertex
+returns-in_err-push_vertex c =
+    let p = err_from_is_err_and c.from_residual-in_err-push_vertex.result c.from_residual-in_err-push_vertex.ensures.1 in
+    let trees : List (Bor (List ℕ)) = c.args.trees.now in
+    let i : ℕ = c.loop-tree.tree-index in
+    let h : i < length trees = c.loop-tree-test.true in
+    let x : List ℕ = c.new.result in
+    let is : x ≡ get_or (names_of trees) i x = c.new.ensures.value ∙ (c.in_ok-text_of.ensures.value ∙ name_at trees i _ x h) in
+    rw (p.1, p.2)
+    (names_of_refused x (below trees i h) is c.loop-tree.invariant (push_refused c.loop-tree.builder x six_zeros c.in_err-push_vertex.ensures.err))
+
+pub loop-tree-preserved : goal.loop-tree-preserved
+loop-tree-preserved c =
+    let trees : List (Bor (List ℕ)) = c.args.trees.now in
+    let i : ℕ = c.loop-tree.tree-index in
+    let h : i < length trees = c.loop-tree-test.true in
+    let x : List ℕ = c.new.result in
+    let is : x ≡ get_or (names_of trees) i x = c.new.ensures.value ∙ (c.in_ok-text_of.ensures.value ∙ name_at trees i _ x h) in
+    names_of_some x (below trees i h) is c.loop-tree.invariant
+    (c.in_ok-push_vertex.ensures.ok ∙ pushed c.loop-tree.builder x six_zeros)
+
+pub returns : goal.returns
+returns c =
+    let trees : List (Bor (List ℕ)) = c.args.trees.now in
+    names_of_end (omega (arith, length-map trees (λ (tree : Bor (List ℕ)). tree.now))) c.loop-tree.invariant

@@ -1,0 +1,13 @@
+//! Graphs of binary trees and their rotations.
+#![tactic(auto)]
+
+mod facts;
+mod generator;
+mod index;
+mod lister;
+mod rotation;
+mod spec;
+
+pub use facts::{binary_law, rotation_law};
+pub use generator::binary;
+pub use spec::BinarySpec;
