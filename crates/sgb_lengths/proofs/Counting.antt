@@ -69,3 +69,6 @@ few_draw directed g sound =
     few_numbers (made_of g) (drawing directed g)
     (λ k. omega (arith, occurs_drawing directed g k, sound.listed k, one_at_most (has_arc g k)))
     (λ k past. omega (arith, occurs_drawing directed g k, sound.listed k, none_past (arc_at g k) (no_arc_past g k past)))
+
+pub draws_once : (directed : Bool) (g : GraphOf) (k : ℕ) → IsGraph g → occurrences k (drawing directed g) ≤ 1
+draws_once directed g k sound = omega (arith, occurs_drawing directed g k, sound.listed k, one_at_most (has_arc g k))

@@ -7,3 +7,4 @@ pub mod Filled
 pub mod Fronts
 pub mod Judging
 pub mod Placing
+pub mod Sources

@@ -6,11 +6,13 @@ mod draw;
 mod drawing;
 mod exchange;
 mod id;
+mod laws;
 mod lengths;
 mod place;
 mod prepared;
 mod spec;
 
 pub use delta::LengthsDelta;
+pub use laws::lengths_law;
 pub use lengths::{random_lengths, revert_lengths};
 pub use spec::LengthsSpec;
