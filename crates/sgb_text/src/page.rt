@@ -1,5 +1,5 @@
 //! A text that is being written, item by item, in lines of at most 79 bytes.
-ghost use Rattle.std.specs.Prelude.{◌≡◌, ◌+◌, ◌≤◌, ◌<◌, ◌++◌, [], length, OnOk, IfOk};
+ghost use Rattle.std.specs.Prelude.{◌≡◌, ◌+◌, ◌≤◌, ◌<◌, ◌++◌, ◌∷◌, [], length, OnOk, IfOk, if◌then◌else◌};
 ghost use Rattle.sgb_text.specs.Layout.{cut, last_width, is_past};
 ghost use Rattle.sgb_text.specs.Private.Page.{with_line, with_bytes, with_cut, with_item};
 
@@ -80,9 +80,7 @@ impl Page {
         ensures { OnOk result (self.new ≡ with_item self.old (mark.now ++ (bytes.now ++ end.now))) }
     {
         let width = mark.len() + bytes.len() + end.len();
-        if self.is_past(width) {
-            self.line(b"\n")?;
-        }
+        self.make_room(width)?;
         if width > WIDTH {
             self.put_long(mark, bytes, end)
         } else {
@@ -90,12 +88,15 @@ impl Page {
         }
     }
 
-    // The line has no room for so many bytes more.
-    fn is_past(&self, width: usize) -> bool
+    // A new line, where this one has no room for so many bytes more.
+    fn make_room(&mut self, width: usize) -> Result<(), AllocError>
         requires { width ≤ 5000 }
-        ensures { result ≡ is_past self.now.column width }
+        ensures { OnOk result (self.new ≡ (if is_past self.old.column width then with_line self.old (10 ∷ []) else self.old)) }
     {
-        self.column != 0 && self.column + width > WIDTH
+        if self.column != 0 && self.column + width > WIDTH {
+            return self.line(b"\n");
+        }
+        Ok(())
     }
 
     // An item for which the line has room.
