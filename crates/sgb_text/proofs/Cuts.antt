@@ -203,8 +203,8 @@ item_page old mid new item before after =
             let f : new ≡ with_bytes mid item = rw short at after in
             let fits = ltb-false 79 n short in
             rw past (f ∙ ap (λ p. with_bytes p item) m ∙ same_page (with_bytes (with_line old (10 ∷ [])) item) (record { text = old.text ++ 10 ∷ cut n item; column = 0 + last_width n n })
-              (append_assoc old.text (10 ∷ []) item ∙ ap (λ t. old.text ++ 10 ∷ t) (sym (cut_short n item fits)))
-              (ap (λ k. 0 + k) (sym (last_short n n fits))))
+            (append_assoc old.text (10 ∷ []) item ∙ ap (λ t. old.text ++ 10 ∷ t) (sym (cut_short n item fits)))
+            (ap (λ k. 0 + k) (sym (last_short n n fits))))
       ]
       | inr room ↦ elim (cases_Bool (nat_lt 79 n)) [
         | inl long ↦
@@ -217,8 +217,8 @@ item_page old mid new item before after =
             let f : new ≡ with_bytes mid item = rw short at after in
             let fits = ltb-false 79 n short in
             rw room (f ∙ ap (λ p. with_bytes p item) m ∙ same_page (with_bytes old item) _
-              (ap (λ t. old.text ++ t) (sym (cut_short n item fits)))
-              (ap (λ k. old.column + k) (sym (last_short n n fits))))
+            (ap (λ t. old.text ++ t) (sym (cut_short n item fits)))
+            (ap (λ k. old.column + k) (sym (last_short n n fits))))
       ]
     ]
 

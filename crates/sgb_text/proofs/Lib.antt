@@ -1,2 +1,5 @@
+mod Cleaning
 mod Cuts
 mod Exactness
+mod Fields
+mod Listing

@@ -1,8 +1,8 @@
 //! The records of a saved text, as they are written.
-ghost use Rattle.std.specs.Prelude.{◌≡◌, ◌<◌, ◌≤◌, ◌*◌, ◌++◌, ◌∷◌, [], length, sum_by, OnOk, IfOk, IsSome};
+ghost use Rattle.std.specs.Prelude.{◌≡◌, ◌<◌, ◌≤◌, ◌*◌, ◌++◌, ◌∷◌, [], length, sum_by, OnOk, IfOk, if◌then◌else◌};
 ghost use Rattle.std.specs.List.{flat_map, range_with_len};
 ghost use Rattle.sgb_graph.specs.Graph.{n_of, made_of, vertex_at, arc_at};
-ghost use Rattle.sgb_graph.specs.Honest.{vertex_letters, arc_letters, graph_letters};
+ghost use Rattle.sgb_graph.specs.Honest.{is_allowed, vertex_letters, arc_letters, graph_letters};
 ghost use Rattle.std.specs.Fmt.{signed_decimal};
 ghost use Rattle.sgb_text.specs.Clean.{cleaned, clean_fields, clean_vertex, clean_of, dirt_in, dirt_in_entry};
 ghost use Rattle.sgb_text.specs.Save.{link_text, tip_text, field_items, own_items, vertex_record, arc_record};
@@ -134,12 +134,17 @@ fn put_fields(page: &mut Page, letters: &[u8], values: &[Util]) -> Result<u64, A
     'fields: for (i, letter) in letters.iter().enumerate() {
         let (_, behind) = letters.split_at(i + 1);
         put_field(page, *letter, &values[i], is_any_written(behind))?;
-        if !values[i].is_allowed(*letter) {
-            cleaned += 1;
-        }
+        cleaned += dirt_in(*letter, &values[i]);
     }
     page.line(b"\n")?;
     Ok(cleaned)
+}
+
+// How many values are written as Zero: this one, where its letter does not allow it.
+fn dirt_in(letter: u8, value: &Util) -> u64
+    ensures { result ≡ (if is_allowed letter value.now then 0 else 1) }
+{
+    if value.is_allowed(letter) { 0 } else { 1 }
 }
 
 fn put_field(page: &mut Page, letter: u8, value: &Util, more: bool) -> Result<(), AllocError>
