@@ -1,5 +1,5 @@
 -- What cleaning leaves as it is.
-use Rattle.std.proofs.Common.{◌≡◌, ℕ, zero, suc, ◌+◌, ◌<◌, ◌≤◌, Bool, true, false, cond, not, ◌==◌, List, [], ◌∷◌, map, length, get_or, zip, count_by, sum_by, is_some, Option, Some, None, refl, sym, ap, ◌∙◌, arith, slice_index_or, take, drop}
+use Rattle.std.proofs.Common.{◌≡◌, ℕ, zero, suc, ◌+◌, ◌<◌, ◌≤◌, Bool, true, false, cond, not, ◌==◌, List, [], ◌∷◌, ◌++◌, codes, append_assoc, map, length, get_or, zip, count_by, sum_by, is_some, Option, Some, None, refl, sym, ap, ◌∙◌, arith, slice_index_or, take, drop}
 use Rattle.std.specs.Option.{option_map}
 use Rattle.std.specs.List.{prefix_len, list_any, position_or_len}
 use Rattle.std.proofs.lemmas.List.{length-map}
@@ -12,7 +12,8 @@ use Rattle.sgb_graph.specs.Edit.{owner_of}
 use Rattle.sgb_text.specs.Clean.{clean_of, clean_vertex, clean_arc, clean_fields, dirt_in}
 use Rattle.std.specs.Fmt.{decimal}
 use Rattle.sgb_graph.specs.Honest.{graph_letters}
-use Rattle.sgb_text.specs.Save.{following, next_link, quoted, field_items, own_items}
+use Rattle.sgb_text.specs.Save.{following, next_link, quoted, field_items, own_items, header_of}
+use Rattle.sgb_text.specs.Private.Page.{PageOf, with_line}
 
 pub get_or_map : {A B : Type 0} (f : A → B) (xs : List A) (i : ℕ) (d : A) → get_or (map f xs) i (f d) ≡ f (get_or xs i d)
 get_or_map f [] zero d = refl
@@ -86,3 +87,23 @@ unfolding clean_of
 own_clean g =
     ap (λ n. quoted g.id ∷ decimal n ∷ decimal (m_of g) ∷ field_items (graph_letters g.types) (clean_fields (graph_letters g.types) g.fields)) (sym (n_clean g))
     ∙ ap (λ m. quoted g.id ∷ decimal (n_of (clean_of g)) ∷ decimal m ∷ field_items (graph_letters g.types) (clean_fields (graph_letters g.types) g.fields)) (sym (m_clean g))
+
+-- ---- the first line
+pub header_pieces : (a t n m : List ℕ) → ((a ++ t) ++ (codes "," ++ (n ++ (codes "V," ++ (m ++ (codes "A)" ++ 10 ∷ [])))))) ≡ (a ++ (t ++ (codes "," ++ (n ++ (codes "V," ++ (m ++ codes "A)")))))) ++ 10 ∷ []
+header_pieces a t n m = simp append_assoc
+
+pub types_clean : (g : GraphOf) → (clean_of g).types ≡ g.types
+unfolding clean_of
+types_clean g = refl
+
+pub header_clean : (g : GraphOf) (p q r s : PageOf) (types : List ℕ) (n made : ℕ) → q ≡ with_line p (codes "* GraphBase graph (util_types ") → r ≡ with_line q types
+    → s ≡ with_line r (codes "," ++ (decimal n ++ (codes "V," ++ (decimal made ++ (codes "A)" ++ 10 ∷ [])))))
+    → types ≡ g.types → n ≡ n_of g → made ≡ made_of g
+    → s ≡ with_line p (header_of (clean_of g) ++ 10 ∷ [])
+header_clean g p q r s types n made first second third a b c =
+    third
+    ∙ ap (λ x. with_line x (codes "," ++ (decimal n ++ (codes "V," ++ (decimal made ++ (codes "A)" ++ 10 ∷ [])))))) (second ∙ ap (λ x. with_line x types) first)
+    ∙ ap (λ t. record { text = t; column = 0 }) (simp append_assoc)
+    ∙ ap (λ t. with_line p ((codes "* GraphBase graph (util_types " ++ (t ++ (codes "," ++ (decimal n ++ (codes "V," ++ (decimal made ++ codes "A)")))))) ++ 10 ∷ [])) (a ∙ sym (types_clean g))
+    ∙ ap (λ k. with_line p ((codes "* GraphBase graph (util_types " ++ ((clean_of g).types ++ (codes "," ++ (decimal k ++ (codes "V," ++ (decimal made ++ codes "A)")))))) ++ 10 ∷ [])) (b ∙ sym (n_clean g))
+    ∙ ap (λ k. with_line p ((codes "* GraphBase graph (util_types " ++ ((clean_of g).types ++ (codes "," ++ (decimal (n_of (clean_of g)) ++ (codes "V," ++ (decimal k ++ codes "A)")))))) ++ 10 ∷ [])) (c ∙ sym (made_clean g))

@@ -1,5 +1,7 @@
 mod Cleaning
 mod Cuts
+mod Entries
 mod Exactness
 mod Fields
+mod Links
 mod Listing
