@@ -1,3 +1,4 @@
+mod Bodies
 mod Cleaning
 mod Cuts
 mod Entries
