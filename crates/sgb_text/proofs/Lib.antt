@@ -1,8 +1,11 @@
 mod Bodies
 mod Cleaning
 mod Cuts
+mod Digits
 mod Entries
 mod Exactness
 mod Fields
 mod Links
 mod Listing
+mod Quotes
+mod Reading
