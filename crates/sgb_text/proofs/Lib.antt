@@ -4,6 +4,7 @@ mod Cuts
 mod Digits
 mod Entries
 mod Exactness
+mod FieldReading
 mod Fields
 mod Links
 mod Listing
