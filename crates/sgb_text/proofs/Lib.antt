@@ -10,3 +10,4 @@ mod Links
 mod Listing
 mod Quotes
 mod Reading
+mod RecordReading
