@@ -1,4 +1,5 @@
 mod Bodies
+mod Builds
 mod Cleaning
 mod Cuts
 mod Digits
@@ -11,3 +12,4 @@ mod Listing
 mod Quotes
 mod Reading
 mod RecordReading
+mod Sound

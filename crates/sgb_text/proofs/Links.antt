@@ -76,3 +76,9 @@ next_along g v k before after sound whole =
     ap (λ w. following k (arcs_of g w)) (owner_is g k v sound listed)
     ∙ ap (following k) whole
     ∙ follows_there k before after (omega (arith, parts, here, once))
+
+pub occurs_along : (g : GraphOf) (v k : ℕ) (before after : List ℕ) → arcs_of g v ≡ before ++ (k ∷ after) → 0 < occurrences k (arcs_of g v)
+occurs_along g v k before after whole =
+    let parts : occurrences k (arcs_of g v) ≡ occurrences k before + occurrences k (k ∷ after) =
+    ap (occurrences k) whole ∙ sum_by-append (λ j. cond (j == k) 1 0) before (k ∷ after) in
+    omega (arith, parts, occurs_yes k k after refl)
