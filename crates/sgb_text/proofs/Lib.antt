@@ -13,3 +13,4 @@ mod Quotes
 mod Reading
 mod RecordReading
 mod Sound
+mod Whole

@@ -79,7 +79,7 @@ module _ (g : GraphOf) (sound : IsGraph g) (honest : is_honest g ≡ true) where
       good_fields (n_of g) g.entries sound.few_vertices sound.few_arcs (graph_letters g.types) g.fields
       (omega (arith, sound.six, sound.types.fourteen, length-drop 8 g.types)) (all_drop 8 g.types sound.types.letters) first_parts.0 sound.values
 
-  vertex_sound : (v : ℕ) → v < n_of g → IsVertex (n_of g) g.entries (vertex_at g v)
+  pub vertex_sound : (v : ℕ) → v < n_of g → IsVertex (n_of g) g.entries (vertex_at g v)
   vertex_sound v h = All-get_or (IsVertex (n_of g) g.entries) g.vertices v no_vertex h sound.vertices
 
   pub vertex_fields : (v : ℕ) → v < n_of g → Fields (vertex_letters g.types) (vertex_at g v).fields
@@ -138,3 +138,20 @@ first_good g v sound = link_good (first_of (arcs_of g v)) (λ j e. occurs_small 
 
 pub next_good : (g : GraphOf) (k : ℕ) → IsGraph g → IsGoodLink (next_link g k)
 next_good g k sound = link_good (next_link g k) (λ j e. occurs_small g (owner_of g k) j.0 sound (follows_occurs k (arcs_of g (owner_of g k)) j e))
+
+-- ---- holes
+two_zeros : (ls : List ℕ) → length ls ≡ 2 → list_all is_letter ls ≡ true → Fields ls (Zero ∷ Zero ∷ [])
+two_zeros [] two letters = absurd (omega arith)
+two_zeros (_ ∷ []) two letters = absurd (omega arith)
+two_zeros (l ∷ k ∷ []) two letters = record { same = refl; letters = letters; allowed = refl; good = zeros_good }
+  where
+    zeros_good : All IsGood (Zero ∷ Zero ∷ [])
+    zeros_good zero d h = tt
+    zeros_good (suc zero) d h = tt
+    zeros_good (suc (suc i)) d h = absurd (omega arith)
+two_zeros (_ ∷ _ ∷ _ ∷ _) two letters = absurd (omega arith)
+
+pub hole_fields : (g : GraphOf) → IsGraph g → Fields (arc_letters g.types) (Zero ∷ Zero ∷ [])
+hole_fields g sound =
+    two_zeros (arc_letters g.types) (omega (arith, sound.types.fourteen, length-take 2 (drop 6 g.types), length-drop 6 g.types))
+    (all_take 2 (drop 6 g.types) (all_drop 6 g.types sound.types.letters))

@@ -1,4 +1,4 @@
-use Rattle.sgb_text.proofs.Builds.{builds}
+use Rattle.sgb_text.proofs.Whole.{accepted}
 use Rattle.sgb_text.proofs.saving.texts_read_back.Goals as goal
 
 pub returns-clause-read : goal.returns-clause-read
