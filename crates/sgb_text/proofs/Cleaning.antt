@@ -21,7 +21,7 @@ get_or_map f [] (suc i) d = refl
 get_or_map f (x ∷ xs) zero d = refl
 get_or_map f (x ∷ xs) (suc i) d = get_or_map f xs i d
 
-some_map : {A B : Type 0} (f : A → B) (o : Option A) → is_some (option_map f o) ≡ is_some o
+pub some_map : {A B : Type 0} (f : A → B) (o : Option A) → is_some (option_map f o) ≡ is_some o
 some_map f None = refl
 some_map f (Some x) = refl
 

@@ -65,7 +65,7 @@ at_most_one : (b : Bool) → (if b then 0 else 1) ≤ 1
 at_most_one true = omega arith
 at_most_one false = omega arith
 
-dirt_first : (l : ℕ) (u : Util) (ls : List ℕ) (us : List Util) → dirt_in (l ∷ ls) (u ∷ us) ≡ (if is_allowed l u then 0 else 1) + dirt_in ls us
+pub dirt_first : (l : ℕ) (u : Util) (ls : List ℕ) (us : List Util) → dirt_in (l ∷ ls) (u ∷ us) ≡ (if is_allowed l u then 0 else 1) + dirt_in ls us
 dirt_first l u ls us =
     sum_by-cons (λ (p : Util × ℕ). cond (not (is_allowed p.1 p.0)) 1 0) (u, l) (zip us ls)
     ∙ ap (λ k. k + dirt_in ls us) (turned (is_allowed l u))

@@ -1,5 +1,6 @@
 mod Bodies
 mod Builds
+mod CleanSound
 mod Cleaning
 mod Cuts
 mod Digits

@@ -23,9 +23,9 @@ use Rattle.sgb_grammar.specs.Check.{check_of, weighed, covered}
 use Rattle.sgb_grammar.specs.Saved.{SavedOf, own_in, vertices_in, arcs_in, records_in, check_line_in, saved_in}
 use Rattle.sgb_text.specs.declared.restoring.CheckRule.{CheckRule}
 use Rattle.sgb_text.specs.declared.restoring.CheckRule.TheVariants.{Match, Any}
-use Rattle.sgb_text.specs.Restore.{Reads, Accepted, is_within_limits, passes}
+use Rattle.sgb_text.specs.Restore.{Reads, Accepted, is_within_limits, passes, IsReadAsOne, IsRefusedForRoom}
 use Rattle.sgb_text.specs.Layout.{laid}
-use Rattle.sgb_text.specs.Save.{own_items, vertex_record, arc_record, next_link, entry_items, hole, header_of, body_of, check_line, text_of}
+use Rattle.sgb_text.specs.Save.{own_items, vertex_record, arc_record, next_link, entry_items, hole, header_of, body_of, check_line, text_of, IsReadBack}
 use Rattle.sgb_text.proofs.Digits.{count_spelled, number_spelled}
 use Rattle.sgb_text.proofs.Reading.{then_read}
 use Rattle.sgb_text.proofs.FieldReading.{raws, IsGood}
@@ -191,3 +191,13 @@ module _ (g : GraphOf) (sound : IsGraph g) (honest : is_honest g ≡ true) where
     };
     passed = passed rule;
   }
+
+-- the law, of sound and honest graphs
+pub reads_back : IsReadAsOne → IsRefusedForRoom → (g : GraphOf) (rule : CheckRule) → IsGraph g → is_honest g ≡ true → IsReadBack rule g
+reads_back one room g rule sound honest =
+    let it = accepted g sound honest rule in
+    record {
+      accepted = it;
+      one = λ h other. one rule rule (text_of g) h g other it;
+      room = λ e refused. room rule (text_of g) g e it refused;
+    }

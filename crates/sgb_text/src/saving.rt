@@ -8,6 +8,7 @@ ghost use Rattle.sgb_text.specs.Clean.{clean_of, dirt_of};
 ghost use Rattle.sgb_text.specs.Save.{header_of, body_of, check_line, text_of, IsReadBack};
 ghost use Rattle.sgb_text.specs.Private.Page.{with_line};
 
+use crate::answers_are_exact;
 use crate::page::Page;
 use crate::records::{put_arcs, put_own, put_vertices};
 use itoa::Buffer;
@@ -92,17 +93,19 @@ fn put_check(page: &mut Page, number: u64) -> Result<(), AllocError>
     page.line(b"\n")
 }
 
-/// The law of cleaning: what a graph becomes by it is sound and honest, and an honest graph stays as it is.
+/// The law of cleaning: what a sound graph becomes by it is sound and honest, and an honest graph stays as it is.
 pub fn cleaning_law()
     ensures sound { (g : GraphOf) → IsGraph g → IsGraph (clean_of g) }
     ensures honest { (g : GraphOf) → is_honest (clean_of g) ≡ true }
     ensures same { (g : GraphOf) → IsGraph g → is_honest g ≡ true → clean_of g ≡ g }
-    ensures none { (g : GraphOf) → IsGraph g → is_honest g ≡ true → dirt_of g ≡ 0 }
+    ensures none { (g : GraphOf) → is_honest g ≡ true → dirt_of g ≡ 0 }
 {}
 
 /// The law of saving: what is saved of a sound graph is read back as the cleaned graph, and as nothing else, under both
-/// rules, and is refused for want of memory alone.
+/// rules, and is refused for want of memory alone. The text of an honest graph is read back as that very graph.
 pub fn texts_read_back()
-    ensures read { (g : GraphOf) (rule : CheckRule) → IsGraph g → IsReadBack rule (clean_of g) }
+    ensures cleaned { (g : GraphOf) (rule : CheckRule) → IsGraph g → IsReadBack rule (clean_of g) }
     ensures honest { (g : GraphOf) (rule : CheckRule) → IsGraph g → is_honest g ≡ true → IsReadBack rule g }
-{}
+{
+    answers_are_exact();
+}
