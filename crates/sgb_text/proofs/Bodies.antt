@@ -1,5 +1,5 @@
 -- The whole text, as it is written.
-use Rattle.std.proofs.Common.{◌≡◌, ℕ, ◌+◌, List, [], ◌∷◌, ◌++◌, codes, take, drop, length, decimal, refl, sym, ap, ◌∙◌, arith, append_assoc, flat_map, sum_by}
+use Rattle.std.proofs.Common.{◌≡◌, ℕ, ◌+◌, List, [], ◌∷◌, ◌++◌, codes, drop, length, sym, ap, ◌∙◌, append_assoc, flat_map, sum_by}
 use Rattle.std.specs.List.{range_with_len}
 use Rattle.std.proofs.Math.Seq.{drop-append_seam}
 use Rattle.sgb_graph.specs.Graph.{GraphOf, made_of}

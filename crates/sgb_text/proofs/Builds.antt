@@ -1,26 +1,23 @@
 -- The parts that are read of a graph's text build the graph.
-use Rattle.std.proofs.Common.{◌≡◌, ℕ, zero, suc, ◌+◌, ◌<◌, ◌≤◌, ◌==◌, true, false, List, [], ◌∷◌, ◌++◌, map, take, length, get_or, slice_index_or, Option, Some, None, IsSome, IfSome, is_some, refl, sym, ap, ◌∙◌, inl, inr, arith, subst, append_assoc, flat_map}
+use Rattle.std.proofs.Common.{◌≡◌, ℕ, ◌<◌, true, List, [], ◌∷◌, ◌++◌, map, Option, Some, None, IfSome, is_some, refl, sym, ap, ◌∙◌, arith, subst, append_assoc}
 use Rattle.std.specs.List.{range_with_len}
-use Rattle.std.proofs.lemmas.Bool.{cases_lt}
-use Rattle.std.proofs.lemmas.List.{length-map, take_all, get_or_past}
-use Rattle.std.proofs.lemmas.List.FromFn.{get_or-map-range_with_len, length-range_with_len, length-map-range_with_len}
+use Rattle.std.proofs.lemmas.List.{length-map}
+use Rattle.std.proofs.lemmas.List.FromFn.{get_or-map-range_with_len, length-map-range_with_len}
 use Rattle.sgb_graph.specs.declared.field.ArcNo.{ArcNo}
 use Rattle.sgb_graph.specs.declared.parts.VertexPart.{VertexPart}
 use Rattle.sgb_graph.specs.declared.parts.ArcPart.{ArcPart}
 use Rattle.sgb_graph.specs.Chain.{Leads}
 use Rattle.sgb_graph.specs.Edit.{stored}
-use Rattle.sgb_graph.specs.Graph.{GraphOf, VertexOf, ArcOf, IsGraph, n_of, made_of, no_vertex, vertex_at, arcs_of, arc_at, has_arc, occurrences}
+use Rattle.sgb_graph.specs.Graph.{GraphOf, ArcOf, IsGraph, n_of, made_of, no_vertex, vertex_at, arcs_of, arc_at}
 use Rattle.sgb_graph.specs.Honest.{vertex_letters, arc_letters, graph_letters, is_honest}
-use Rattle.sgb_graph.specs.Parts.{BuildsOf, IsVertexOf, IsArcOf, any_vertex_part, any_arc_part, vertex_part, arc_part, next_part}
+use Rattle.sgb_graph.specs.Parts.{BuildsOf, IsVertexOf, IsArcOf, any_arc_part, vertex_part, arc_part, next_part}
 use Rattle.sgb_graph.specs.Read.{first_of}
-use Rattle.sgb_graph.proofs.Counts.{occurs_yes}
 use Rattle.sgb_graph.proofs.Graphs.{listed_live, made_of_live}
-use Rattle.std.proofs.lemmas.List.Sums.{sum_by-append}
 use Rattle.sgb_text.specs.Save.{next_link, hole}
 use Rattle.sgb_text.proofs.Cleaning.{get_or_map}
 use Rattle.sgb_text.proofs.Links.{next_along, occurs_along}
 use Rattle.sgb_text.proofs.FieldReading.{raws, stored_raws}
-use Rattle.sgb_text.proofs.RecordReading.{Fields, vertex_part_of, arc_part_of}
+use Rattle.sgb_text.proofs.RecordReading.{vertex_part_of, arc_part_of}
 use Rattle.sgb_text.proofs.Sound.{own_fields, vertex_fields, arc_fields}
 
 -- the part that is read of an arc number
@@ -72,9 +69,11 @@ module _ (g : GraphOf) (sound : IsGraph g) (honest : is_honest g ≡ true) where
   leads v before (k ∷ ks) whole =
       let listed = occurs_along g v k before ks whole in
       let live = live_some (arc_at g k) (listed_live g k v sound listed).live in
-      let next : next_part (arc_parts g) k ≡ first_of ks = ap (λ (p : ArcPart). p.next) (live_part k live.0 live.1) ∙ next_along g v k before ks sound whole in
-      (refl, subst (λ (l : Option ArcNo). Leads (next_part (arc_parts g)) l ks None) (sym next)
-        (leads v (before ++ k ∷ []) ks (whole ∙ sym (append_assoc before (k ∷ []) ks))))
+      let next : next_part (arc_parts g) k ≡ first_of ks = ap (λ (p : ArcPart). p.next) (live_part k live.0 live.1) ∙ next_along g v k before ks sound whole in (
+        refl,
+        subst (λ (l : Option ArcNo). Leads (next_part (arc_parts g)) l ks None) (sym next)
+            (leads v (before ++ k ∷ []) ks (whole ∙ sym (append_assoc before (k ∷ []) ks))),
+      )
 
   vertex_is : (v : ℕ) → v < n_of g → IsVertexOf (arc_parts g) (vertex_part (vertex_parts g) v) (vertex_at g v)
   vertex_is v h =

@@ -1,5 +1,5 @@
 -- What a graph becomes by cleaning is sound and honest, and an honest graph stays as it is.
-use Rattle.std.proofs.Common.{◌≡◌, ℕ, zero, suc, ◌+◌, ◌<◌, ◌≤◌, ◌&&◌, Bool, true, false, cond, not, List, [], ◌∷◌, map, take, drop, zip, length, get_or, slice_index_or, count_by, sum_by, Option, Some, None, IsSome, IfSome, is_some, refl, sym, ap, ◌∙◌, inl, inr, arith, subst, All, length-take, length-drop, if◌then◌else◌}
+use Rattle.std.proofs.Common.{◌≡◌, ℕ, zero, suc, ◌+◌, ◌<◌, ◌&&◌, true, List, [], ◌∷◌, map, drop, length, slice_index_or, sum_by, Option, Some, None, IsSome, IfSome, is_some, refl, sym, ap, ◌∙◌, inl, inr, arith, subst, All, length-take, length-drop, if◌then◌else◌}
 use Rattle.std.specs.Option.{option_map}
 use Rattle.std.specs.List.{list_all}
 use Rattle.std.proofs.lemmas.Bool.{cases_Bool, and_parts}
@@ -9,10 +9,10 @@ use Rattle.sgb_graph.specs.declared.field.Tip.{Tip}
 use Rattle.sgb_graph.specs.declared.field.Tip.TheVariants as tips
 use Rattle.sgb_graph.specs.declared.field.Util.{Util}
 use Rattle.sgb_graph.specs.declared.field.Util.TheVariants.{Zero, Int, Vertex, Arc, Text}
-use Rattle.sgb_graph.specs.Graph.{GraphOf, VertexOf, ArcOf, IsGraph, IsVertex, IsArc, IsValue, IsTip, n_of, made_of, arc_at, has_arc, occurrences, listings}
+use Rattle.sgb_graph.specs.Graph.{GraphOf, VertexOf, ArcOf, IsGraph, IsVertex, IsArc, IsValue, IsTip, n_of, arc_at, has_arc, occurrences, listings}
 use Rattle.sgb_graph.specs.Honest.{vertex_letters, arc_letters, graph_letters, is_allowed, are_allowed, is_honest, is_honest_vertex, is_honest_entry}
 use Rattle.sgb_text.specs.Clean.{cleaned, clean_fields, clean_vertex, clean_arc, clean_of, dirt_in, dirt_in_entry, dirt_of}
-use Rattle.sgb_text.proofs.Cleaning.{get_or_map, some_map, n_clean, made_clean, arc_clean}
+use Rattle.sgb_text.proofs.Cleaning.{some_map, n_clean, made_clean, arc_clean}
 use Rattle.sgb_text.proofs.Fields.{dirt_first}
 
 all_nil : {X : Type 0} (P : X → Type 0) → All P []
@@ -203,7 +203,7 @@ module _ (g : GraphOf) (honest : is_honest g ≡ true) where
   unfolding clean_of
   honest_stays h =
       ap (λ us. record g { fields = us; vertices = map (clean_vertex g.types) g.vertices; entries = map (option_map (clean_arc g.types)) g.entries })
-          (clean_same (graph_letters g.types) g.fields (omega (arith, h.six, h.types.fourteen, length-drop 8 g.types)) first_parts.0)
+      (clean_same (graph_letters g.types) g.fields (omega (arith, h.six, h.types.fourteen, length-drop 8 g.types)) first_parts.0)
       ∙ ap (λ vs. record g { vertices = vs; entries = map (option_map (clean_arc g.types)) g.entries }) (vertices_same (n_of g) g.entries g.types g.vertices h.types.fourteen h.vertices first_parts.1)
       ∙ ap (λ es. record g { entries = es }) (entries_same (n_of g) g.entries g.types g.entries h.types.fourteen h.arcs parts.1)
 

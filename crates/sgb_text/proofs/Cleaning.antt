@@ -1,13 +1,11 @@
 -- What cleaning leaves as it is.
-use Rattle.std.proofs.Common.{◌≡◌, ℕ, zero, suc, ◌+◌, ◌<◌, ◌≤◌, Bool, true, false, cond, not, ◌==◌, List, [], ◌∷◌, ◌++◌, codes, append_assoc, map, length, get_or, zip, count_by, sum_by, is_some, Option, Some, None, refl, sym, ap, ◌∙◌, arith, slice_index_or, take, drop}
+use Rattle.std.proofs.Common.{◌≡◌, ℕ, zero, suc, ◌+◌, cond, not, ◌==◌, List, [], ◌∷◌, ◌++◌, codes, append_assoc, map, length, get_or, count_by, is_some, Option, Some, None, refl, sym, ap, ◌∙◌, arith}
 use Rattle.std.specs.Option.{option_map}
-use Rattle.std.specs.List.{prefix_len, list_any, position_or_len}
+use Rattle.std.specs.List.{list_any, position_or_len}
 use Rattle.std.proofs.lemmas.List.{length-map}
 use Rattle.std.proofs.lemmas.List.Sums.{sum_by-cons}
-use Rattle.sgb_graph.specs.declared.field.Util.{Util}
 use Rattle.sgb_graph.specs.declared.field.Util.TheVariants.{Zero}
-use Rattle.sgb_graph.specs.declared.field.ArcNo.{ArcNo}
-use Rattle.sgb_graph.specs.Graph.{GraphOf, VertexOf, ArcOf, n_of, m_of, made_of, vertex_at, no_vertex, arcs_of, arc_at}
+use Rattle.sgb_graph.specs.Graph.{GraphOf, VertexOf, n_of, m_of, made_of, vertex_at, no_vertex, arcs_of, arc_at}
 use Rattle.sgb_graph.specs.Edit.{owner_of}
 use Rattle.sgb_text.specs.Clean.{clean_of, clean_vertex, clean_arc, clean_fields, dirt_in}
 use Rattle.std.specs.Fmt.{decimal}

@@ -1,5 +1,5 @@
 -- What is spelled of a number is read as the number.
-use Rattle.std.proofs.Common.{◌≡◌, ◌≢◌, ℕ, ℤ, zero, suc, ◌+◌, ◌-◌, ◌^◌, ◌<◌, ◌≤◌, ◌==◌, min, true, nat_lt, nat_le, List, [], ◌∷◌, ◌++◌, take, drop, length, codes, Option, Some, None, pos, negsuc, neg_ℤ, refl, sym, ap, ◌∙◌, arith, w64, FitsSigned, option_and_then}
+use Rattle.std.proofs.Common.{◌≡◌, ℕ, ℤ, suc, ◌+◌, ◌-◌, ◌^◌, ◌<◌, ◌≤◌, min, true, List, [], ◌∷◌, ◌++◌, take, drop, length, codes, Some, None, pos, negsuc, refl, sym, ap, ◌∙◌, arith, w64, FitsSigned, option_and_then}
 use Rattle.std.specs.Option.{option_map}
 use Rattle.std.specs.Char.{is_ascii_digit}
 use Rattle.std.specs.Fmt.{decimal, signed_decimal}

@@ -1,5 +1,5 @@
 -- The records of arcs, as they are written.
-use Rattle.std.proofs.Common.{◌≡◌, ℕ, ℤ, ◌+◌, ◌<◌, ◌≤◌, true, List, [], ◌∷◌, length, Option, Some, None, IsSome, IfSome, is_some, Result, Ok, Err, IfOk, MatchOption, pos, refl, sym, ap, ◌∙◌, arith, subst, w64, to_z, of_z, FitsSigned, length-take, get_or}
+use Rattle.std.proofs.Common.{◌≡◌, ℕ, ℤ, ◌<◌, List, [], ◌∷◌, length, Option, Some, None, IfSome, Result, Ok, Err, IfOk, MatchOption, pos, refl, sym, ap, ◌∙◌, arith, subst, w64, to_z, of_z, FitsSigned, length-take, get_or}
 use Rattle.std.specs.Option.{option_map}
 use Rattle.std.specs.Fmt.{signed_decimal}
 use Rattle.std.proofs.lemmas.Int.{to_z-of_z}
@@ -10,12 +10,12 @@ use Rattle.sgb_graph.specs.declared.field.Tip.TheVariants as tips
 use Rattle.sgb_graph.specs.declared.field.Util.{Util}
 use Rattle.sgb_graph.specs.declared.field.Util.TheVariants.{Zero}
 use Rattle.sgb_graph.specs.declared.graph.read.ArcView.{ArcView}
-use Rattle.sgb_graph.specs.Graph.{GraphOf, ArcOf, VertexOf, no_vertex, vertex_at, IsVertex, IsGraph, IsArc, n_of, made_of, arc_at, has_arc}
+use Rattle.sgb_graph.specs.Graph.{GraphOf, ArcOf, VertexOf, no_vertex, vertex_at, IsVertex, IsGraph, IsArc, n_of, made_of, arc_at}
 use Rattle.sgb_graph.specs.Honest.{arc_letters, vertex_letters}
 use Rattle.sgb_graph.specs.Edit.{owner_of, entry_at, arc_or, no_arc}
-use Rattle.sgb_graph.specs.Read.{arc_view, entry_view, ShowsEntry, first_of}
+use Rattle.sgb_graph.specs.Read.{arc_view, entry_view, first_of}
 use Rattle.sgb_text.specs.Layout.{laid}
-use Rattle.sgb_text.specs.Clean.{clean_of, clean_vertex, clean_arc, clean_fields, dirt_in, dirt_in_entry}
+use Rattle.sgb_text.specs.Clean.{clean_of, clean_vertex, clean_arc, dirt_in, dirt_in_entry}
 use Rattle.sgb_text.specs.Save.{tip_text, link_text, arc_items, entry_items, hole, next_link, arc_record, field_items}
 use Rattle.sgb_text.specs.Private.Page.{PageOf, with_line, with_record}
 use Rattle.sgb_text.proofs.Fields.{clean_items, get_or_any}

@@ -1,5 +1,5 @@
 -- What is laid of a record's fields is read as the fields.
-use Rattle.std.proofs.Common.{◌≡◌, ◌≢◌, ◌⊎◌, ℕ, ℤ, pos, zero, suc, ◌+◌, ◌^◌, ◌<◌, ◌≤◌, ◌==◌, ◌&&◌, Bool, true, false, List, [], ◌∷◌, ◌++◌, map, zip, length, codes, Option, Some, None, refl, sym, ap, ◌∙◌, inl, inr, arith, subst, FitsSigned, w64, All, true≢false, int_eq, option_and_then, if◌then◌else◌}
+use Rattle.std.proofs.Common.{◌≡◌, ◌≢◌, ◌⊎◌, ℕ, ℤ, pos, suc, ◌^◌, ◌<◌, ◌≤◌, ◌==◌, Bool, true, false, List, [], ◌∷◌, ◌++◌, map, zip, length, codes, Option, Some, None, refl, sym, ap, ◌∙◌, inl, inr, arith, subst, FitsSigned, w64, All, true≢false, int_eq, option_and_then, if◌then◌else◌}
 use Rattle.std.specs.List.{list_all}
 use Rattle.std.specs.Fmt.{decimal, signed_decimal, digits}
 use Rattle.std.proofs.lemmas.Bool.{cases_Bool, eqb-true, and_parts, ne_eqb}
@@ -11,17 +11,17 @@ use Rattle.sgb_graph.specs.declared.field.Tip.{Tip}
 use Rattle.sgb_graph.specs.declared.field.Tip.TheVariants as tips
 use Rattle.sgb_graph.specs.declared.field.Util.{Util}
 use Rattle.sgb_graph.specs.declared.field.Util.TheVariants.{Zero, Int, Vertex, Arc, Text}
-use Rattle.sgb_graph.specs.Text.{IsText, is_text_byte}
+use Rattle.sgb_graph.specs.Text.{IsText}
 use Rattle.sgb_graph.specs.Types.{is_letter}
 use Rattle.sgb_graph.specs.Honest.{is_allowed, are_allowed}
 use Rattle.sgb_graph.specs.Edit.{stored}
 use Rattle.sgb_grammar.specs.Reading.{◌>>=◌, behind, each_at}
-use Rattle.sgb_grammar.specs.Number.{digits_in, number_at}
+use Rattle.sgb_grammar.specs.Number.{number_at}
 use Rattle.sgb_grammar.specs.String.{text_at}
 use Rattle.sgb_grammar.specs.Field.{index_at, link_at, tip_at, vertex_value_at, arc_value_at, value_at, field_at, fields_at, comma_at, some_arc, some_tip, some_integer, some_vertex, some_arc_value, some_text}
 use Rattle.sgb_text.specs.Layout.{column_behind}
 use Rattle.sgb_text.specs.Save.{quoted, link_text, tip_text, value_text, field_item, field_items}
-use Rattle.sgb_text.proofs.Digits.{index_spelled, number_spelled, decimal_short}
+use Rattle.sgb_text.proofs.Digits.{index_spelled, decimal_short}
 use Rattle.sgb_text.proofs.Reading.{item_of, from_item, behind_item, IsRead, then_read, read_as, short_item, number_item, text_item, comma_item, Starts, starts_quoted, starts_number}
 
 -- a value whose text fits: what it names has a place in 32 bits
@@ -295,21 +295,22 @@ fields_read (l ∷ ls) (u ∷ us) column rest same letters allowed good =
       | inl none ↦
           ap (λ items. fields_at (l ∷ ls) (behind_item column (items ++ field_items ls us) rest)) (no_item l u none)
           ∙ each_next l ls (behind_item column (field_items ls us) rest) (raw l u) (behind_item column (field_items ls us) rest) (raws ls us) (10 ∷ rest)
-            (field_none l (behind_item column (field_items ls us) rest) none ∙ ap (λ x. Some (x, behind_item column (field_items ls us) rest)) (raw_none l u none fits.0))
-            (fields_read ls us column rest (omega arith) letter.1 fits.1 others)
+          (field_none l (behind_item column (field_items ls us) rest) none ∙ ap (λ x. Some (x, behind_item column (field_items ls us) rest)) (raw_none l u none fits.0))
+          (fields_read ls us column rest (omega arith) letter.1 fits.1 others)
       | inr some ↦
           let w = value_text l u in
           let ws = field_items ls us in
           let next = column_behind column (length (item_of w ws)) in
           ap (λ items. fields_at (l ∷ ls) (behind_item column (items ++ field_items ls us) rest)) (one_item l u some)
           ∙ each_next l ls (behind_item column (w ∷ ws) rest) (raw l u) (behind_item next ws rest) (raws ls us) (10 ∷ rest)
-            (field_some l (behind_item column (w ∷ ws) rest) some
-            ∙ then_read (comma_at (behind_item column (w ∷ ws) rest)) (from_item next w ws rest) (value_at l) _ (comma_item column w ws rest (value_starts l u here))
-              (value_item l u letter.0 some fits.0 here ws next rest))
-            (fields_read ls us next rest (omega arith) letter.1 fits.1 others)
+          (field_some l (behind_item column (w ∷ ws) rest) some
+          ∙ then_read (comma_at (behind_item column (w ∷ ws) rest)) (from_item next w ws rest) (value_at l) _ (comma_item column w ws rest (value_starts l u here))
+          (value_item l u letter.0 some fits.0 here ws next rest))
+          (fields_read ls us next rest (omega arith) letter.1 fits.1 others)
     ]
   where
     no_item : (l : ℕ) (u : Util) → (l == 90) ≡ true → field_item l u ≡ []
     no_item l u none = rw none refl
+
     one_item : (l : ℕ) (u : Util) → (l == 90) ≡ false → field_item l u ≡ value_text l u ∷ []
     one_item l u some = rw some refl

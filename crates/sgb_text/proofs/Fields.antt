@@ -1,11 +1,10 @@
 -- The fields of a record as they are written, one by one.
-use Rattle.std.proofs.Common.{◌≡◌, ℕ, zero, suc, ◌+◌, ◌-◌, ◌<◌, ◌≤◌, Bool, true, false, not, ◌==◌, ◌||◌, cond, List, [], ◌∷◌, ◌++◌, take, drop, drop-cons, add-one, length, get_or, zip, count_by, refl, sym, ap, ◌∙◌, inl, inr, arith, append_assoc, length-drop, add_assoc, if◌then◌else◌}
+use Rattle.std.proofs.Common.{◌≡◌, ℕ, zero, suc, ◌+◌, ◌<◌, ◌≤◌, Bool, true, false, not, ◌==◌, cond, List, [], ◌∷◌, ◌++◌, drop, drop-cons, add-one, length, get_or, zip, refl, sym, ap, ◌∙◌, inl, inr, arith, append_assoc, length-drop, add_assoc, if◌then◌else◌}
 use Rattle.std.specs.List.{list_any}
 use Rattle.std.proofs.Math.ListN.{drop_of_length-le}
 use Rattle.std.proofs.lemmas.Bool.{cases_Bool}
 use Rattle.std.proofs.lemmas.List.Sums.{sum_by-cons}
 use Rattle.sgb_graph.specs.declared.field.Util.{Util}
-use Rattle.sgb_graph.specs.declared.field.Util.TheVariants.{Zero}
 use Rattle.sgb_graph.specs.Honest.{is_allowed}
 use Rattle.sgb_text.specs.Layout.{laid, is_followed, comma_if, placed_at, column_behind}
 use Rattle.sgb_text.specs.Clean.{cleaned, clean_fields, dirt_in}

@@ -1,5 +1,5 @@
 -- What is laid of items is read as the items, wherever lines end.
-use Rattle.std.proofs.Common.{◌≡◌, ℕ, ℤ, zero, suc, ◌+◌, ◌-◌, ◌^◌, ◌<◌, ◌≤◌, ◌==◌, Bool, true, false, nat_lt, List, [], ◌∷◌, ◌++◌, take, drop, length, codes, Option, Some, None, pos, negsuc, refl, sym, ap, ◌∙◌, inl, inr, arith, append_assoc, length-append, FitsSigned, w64, option_and_then, if◌then◌else◌}
+use Rattle.std.proofs.Common.{◌≡◌, ℕ, ℤ, zero, suc, ◌^◌, ◌<◌, ◌≤◌, ◌==◌, Bool, true, false, nat_lt, List, [], ◌∷◌, ◌++◌, take, drop, length, Option, Some, pos, negsuc, refl, sym, ap, ◌∙◌, inl, inr, arith, append_assoc, length-append, FitsSigned, w64, if◌then◌else◌}
 use Rattle.std.specs.List.{list_all}
 use Rattle.std.specs.Fmt.{decimal, signed_decimal}
 use Rattle.std.specs.Str.Parse.{AllDigits}
@@ -123,7 +123,7 @@ comma_item column w ws rest s =
     comma_first (laid column (w ∷ ws) ++ rest)
     ∙ ap (λ bs. Some (after_break bs)) (laid_first column w ws rest)
     ∙ ap Some (no_break (is_past column (length item)) (from_item next w ws rest)
-      (starts_more (cut (length item) item) (laid next ws ++ rest) (starts_cut item (starts_item w (is_followed ws) s))))
+    (starts_more (cut (length item) item) (laid next ws ++ rest) (starts_cut item (starts_item w (is_followed ws) s))))
 
 -- the first item of a record
 pub first_item : (w : List ℕ) (ws : List (List ℕ)) (rest : List ℕ) → laid 0 (w ∷ ws) ++ rest ≡ from_item (column_behind 0 (length (item_of w ws))) w ws rest

@@ -1,5 +1,5 @@
 -- What is laid of a record is read as the record.
-use Rattle.std.proofs.Common.{◌≡◌, ℕ, ℤ, pos, zero, suc, ◌+◌, ◌^◌, ◌<◌, ◌≤◌, ◌&&◌, Bool, true, false, List, [], ◌∷◌, ◌++◌, map, replicate, length, codes, Option, Some, None, refl, sym, ap, ◌∙◌, arith, append_assoc, FitsSigned, w64, All, option_and_then, flat_map}
+use Rattle.std.proofs.Common.{◌≡◌, ℕ, pos, ◌^◌, ◌<◌, true, List, [], ◌∷◌, ◌++◌, map, replicate, length, Option, Some, refl, ap, ◌∙◌, arith, append_assoc, FitsSigned, w64, All, option_and_then, flat_map}
 use Rattle.std.specs.List.{list_all}
 use Rattle.std.specs.Fmt.{decimal, signed_decimal}
 use Rattle.std.proofs.lemmas.List.Elements.{All-tail}
@@ -7,7 +7,7 @@ use Rattle.sgb_graph.specs.declared.field.ArcNo.{ArcNo}
 use Rattle.sgb_graph.specs.declared.field.Util.{Util}
 use Rattle.sgb_graph.specs.declared.parts.VertexPart.{VertexPart}
 use Rattle.sgb_graph.specs.declared.parts.ArcPart.{ArcPart}
-use Rattle.sgb_graph.specs.Text.{IsText, is_text_byte}
+use Rattle.sgb_graph.specs.Text.{IsText}
 use Rattle.sgb_graph.specs.Types.{is_letter}
 use Rattle.sgb_graph.specs.Graph.{GraphOf, VertexOf, ArcOf, IsId, n_of, m_of}
 use Rattle.sgb_graph.specs.Honest.{vertex_letters, arc_letters, graph_letters, are_allowed}
@@ -18,8 +18,8 @@ use Rattle.sgb_grammar.specs.String.{text_at}
 use Rattle.sgb_grammar.specs.Field.{comma_at, link_at, tip_at, fields_at}
 use Rattle.sgb_grammar.specs.Record.{newline_at, own_at, vertex_at as vertex_in_text, arc_at as arc_in_text}
 use Rattle.sgb_text.specs.Layout.{column_behind, laid}
-use Rattle.sgb_text.specs.Save.{quoted, link_text, tip_text, field_items, own_items, vertex_items, arc_items, vertex_record}
-use Rattle.sgb_text.proofs.Reading.{item_of, from_item, behind_item, then_read, text_item, count_item, number_item, comma_item, first_item, starts_count, starts_number, starts_quoted}
+use Rattle.sgb_text.specs.Save.{quoted, link_text, tip_text, field_items, own_items, arc_items, vertex_record}
+use Rattle.sgb_text.proofs.Reading.{item_of, from_item, behind_item, then_read, text_item, count_item, number_item, comma_item, first_item, starts_count, starts_number}
 use Rattle.sgb_text.proofs.FieldReading.{IsGood, IsGoodLink, IsGoodTip, raws, fields_read, link_item, tip_item, link_starts}
 
 -- fields that are read as they stand

@@ -1,7 +1,7 @@
 -- What a sound, honest graph has for its records to be read.
-use Rattle.std.proofs.Common.{true≢false, ◌≡◌, ℕ, ℤ, pos, zero, suc, ◌+◌, ◌^◌, ◌<◌, ◌≤◌, ◌==◌, ◌&&◌, Bool, true, false, List, [], ◌∷◌, ◌++◌, map, take, drop, zip, length, get_or, slice_index_or, Option, Some, None, IsSome, IfSome, is_some, refl, sym, ap, ◌∙◌, inl, inr, arith, subst, FitsSigned, w64, All, cond, count_by, length-take, length-drop}
-use Rattle.std.specs.List.{list_all, range_with_len}
-use Rattle.std.proofs.lemmas.Bool.{cases_Bool, cases_lt, and_parts, eqb-true, eqb-false}
+use Rattle.std.proofs.Common.{true≢false, ◌≡◌, ℕ, zero, suc, ◌^◌, ◌<◌, ◌≤◌, ◌==◌, ◌&&◌, Bool, true, List, [], ◌∷◌, take, drop, length, get_or, slice_index_or, Option, Some, None, IsSome, IfSome, is_some, refl, sym, ap, ◌∙◌, inl, inr, arith, subst, All, length-take, length-drop}
+use Rattle.std.specs.List.{list_all}
+use Rattle.std.proofs.lemmas.Bool.{cases_Bool, cases_lt, and_parts}
 use Rattle.std.proofs.lemmas.List.{get_or_past}
 use Rattle.std.proofs.lemmas.List.Elements.{All-get_or}
 use Rattle.sgb_graph.specs.declared.field.ArcNo.{ArcNo}
@@ -9,15 +9,14 @@ use Rattle.sgb_graph.specs.declared.field.Tip.{Tip}
 use Rattle.sgb_graph.specs.declared.field.Tip.TheVariants as tips
 use Rattle.sgb_graph.specs.declared.field.Util.{Util}
 use Rattle.sgb_graph.specs.declared.field.Util.TheVariants.{Zero, Int, Vertex, Arc, Text}
-use Rattle.sgb_graph.specs.Types.{is_letter, IsTypes}
-use Rattle.sgb_graph.specs.Graph.{GraphOf, VertexOf, ArcOf, IsGraph, IsVertex, IsArc, IsValue, IsTip, n_of, made_of, no_vertex, vertex_at, arcs_of, arc_at, occurrences}
+use Rattle.sgb_graph.specs.Types.{is_letter}
+use Rattle.sgb_graph.specs.Graph.{GraphOf, ArcOf, IsGraph, IsVertex, IsArc, IsValue, IsTip, n_of, made_of, no_vertex, vertex_at, arcs_of, arc_at, occurrences}
 use Rattle.sgb_graph.specs.Honest.{vertex_letters, arc_letters, graph_letters, are_allowed, is_honest, is_honest_vertex, is_honest_entry}
 use Rattle.sgb_graph.specs.Edit.{owner_of}
 use Rattle.sgb_graph.specs.Read.{first_of}
 use Rattle.sgb_graph.proofs.Counts.{occurs_yes, occurs_more}
-use Rattle.sgb_graph.proofs.Graphs.{listed_live, made_of_live}
+use Rattle.sgb_graph.proofs.Graphs.{listed_live}
 use Rattle.sgb_text.specs.Save.{following, next_link}
-use Rattle.sgb_text.proofs.Fields.{get_or_any}
 use Rattle.sgb_text.proofs.FieldReading.{IsGood, IsGoodLink, IsGoodTip}
 use Rattle.sgb_text.proofs.RecordReading.{Fields}
 

@@ -1,5 +1,5 @@
 -- A graph's text is read as the graph.
-use Rattle.std.proofs.Common.{◌≡◌, ℕ, ℤ, pos, zero, suc, ◌+◌, ◌-◌, ◌^◌, ◌<◌, ◌≤◌, ◌==◌, ◌&&◌, Bool, true, false, nat_le, List, [], ◌∷◌, ◌++◌, map, take, drop, replicate, length, get_or, codes, Option, Some, None, is_some, refl, sym, ap, ◌∙◌, arith, subst, append_assoc, length-append, FitsSigned, w64, flat_map, mod-lt, All, if◌then◌else◌}
+use Rattle.std.proofs.Common.{◌≡◌, ℕ, pos, ◌-◌, ◌^◌, ◌<◌, ◌≤◌, ◌==◌, ◌&&◌, true, List, [], ◌∷◌, ◌++◌, take, drop, length, get_or, codes, Option, Some, None, is_some, refl, sym, ap, ◌∙◌, arith, subst, append_assoc, length-append, flat_map, mod-lt, if◌then◌else◌}
 use Rattle.std.specs.List.{list_all, range_with_len}
 use Rattle.std.specs.Fmt.{decimal}
 use Rattle.std.proofs.lemmas.Bool.{eq-eqb, le-leb}
@@ -7,29 +7,26 @@ use Rattle.std.proofs.lemmas.List.{length-map, take_all}
 use Rattle.std.proofs.lemmas.List.Sums.{count_by-le-length}
 use Rattle.std.proofs.lemmas.List.FromFn.{length-range_with_len}
 use Rattle.std.proofs.Math.Seq.{take-append_seam, drop-append_seam}
-use Rattle.sgb_graph.specs.declared.parts.VertexPart.{VertexPart}
-use Rattle.sgb_graph.specs.declared.parts.ArcPart.{ArcPart}
 use Rattle.sgb_graph.specs.declared.parts.Parts.{Parts}
 use Rattle.sgb_graph.specs.Types.{IsTypes, is_letter}
-use Rattle.sgb_graph.specs.Graph.{GraphOf, VertexOf, ArcOf, IsGraph, IsVertex, n_of, m_of, made_of, no_vertex, vertex_at, arc_at}
+use Rattle.sgb_graph.specs.Graph.{GraphOf, ArcOf, IsGraph, n_of, m_of, made_of, no_vertex, vertex_at, arc_at}
 use Rattle.sgb_graph.specs.Honest.{vertex_letters, arc_letters, graph_letters, is_honest}
-use Rattle.sgb_graph.specs.Parts.{Builds, BuildsOf}
 use Rattle.sgb_grammar.specs.declared.header.Header.{Header}
 use Rattle.sgb_grammar.specs.Reading.{after}
 use Rattle.sgb_grammar.specs.Number.{count_at, number_at}
-use Rattle.sgb_grammar.specs.Record.{newline_at, own_at, vertex_at as vertex_in_text, arc_at as arc_in_text, vertices_at, arcs_at}
+use Rattle.sgb_grammar.specs.Record.{newline_at, own_at, vertex_at as vertex_in_text, arc_at as arc_in_text, arcs_at}
 use Rattle.sgb_grammar.specs.Header.{header_at, letters_at, counts_at}
 use Rattle.sgb_grammar.specs.Check.{check_of, weighed, covered}
 use Rattle.sgb_grammar.specs.Saved.{SavedOf, own_in, vertices_in, arcs_in, records_in, check_line_in, saved_in}
 use Rattle.sgb_text.specs.declared.restoring.CheckRule.{CheckRule}
 use Rattle.sgb_text.specs.declared.restoring.CheckRule.TheVariants.{Match, Any}
-use Rattle.sgb_text.specs.Restore.{Reads, Accepted, is_within_limits, passes, IsReadAsOne, IsRefusedForRoom}
+use Rattle.sgb_text.specs.Restore.{Accepted, passes, IsReadAsOne, IsRefusedForRoom}
 use Rattle.sgb_text.specs.Layout.{laid}
 use Rattle.sgb_text.specs.Save.{own_items, vertex_record, arc_record, next_link, entry_items, hole, header_of, body_of, check_line, text_of, IsReadBack}
 use Rattle.sgb_text.proofs.Digits.{count_spelled, number_spelled}
 use Rattle.sgb_text.proofs.Reading.{then_read}
-use Rattle.sgb_text.proofs.FieldReading.{raws, IsGood}
-use Rattle.sgb_text.proofs.RecordReading.{Fields, vertex_part_of, arc_part_of, vertex_read, arc_read, own_read, each_read, IsRecord}
+use Rattle.sgb_text.proofs.FieldReading.{raws}
+use Rattle.sgb_text.proofs.RecordReading.{Fields, vertex_part_of, vertex_read, arc_read, own_read, each_read, IsRecord}
 use Rattle.sgb_text.proofs.Sound.{own_fields, vertex_fields, vertex_sound, arc_fields, arc_sound, arc_tip, first_good, next_good, hole_fields}
 use Rattle.sgb_text.proofs.Builds.{entry_part, number_part, arc_parts, vertex_parts, builds}
 use Rattle.sgb_text.proofs.Fields.{get_or_any}

@@ -1,5 +1,5 @@
 -- The one text of a graph.
-use Rattle.std.specs.Prelude.{◌≡◌, ℕ, ℤ, pos, ◌==◌, List, [], ◌∷◌, ◌++◌, zip, codes, Option, Some, None, if◌then◌else◌}
+use Rattle.std.specs.Prelude.{◌≡◌, ℕ, pos, ◌==◌, List, [], ◌∷◌, ◌++◌, zip, codes, Option, Some, None, if◌then◌else◌}
 use Rattle.std.specs.List.{flat_map, range_with_len}
 use Rattle.std.specs.Fmt.{decimal, signed_decimal}
 use Rattle.sgb_graph.specs.declared.field.ArcNo.{ArcNo}
@@ -7,7 +7,7 @@ use Rattle.sgb_graph.specs.declared.field.Tip.{Tip}
 use Rattle.sgb_graph.specs.declared.field.Tip.TheVariants as tips
 use Rattle.sgb_graph.specs.declared.field.Util.{Util}
 use Rattle.sgb_graph.specs.declared.field.Util.TheVariants.{Zero, Int, Vertex, Arc, Text}
-use Rattle.sgb_graph.specs.Graph.{GraphOf, VertexOf, ArcOf, IsGraph, n_of, m_of, made_of, arcs_of, arc_at}
+use Rattle.sgb_graph.specs.Graph.{GraphOf, VertexOf, ArcOf, n_of, m_of, made_of, arcs_of, arc_at}
 use Rattle.sgb_graph.specs.Honest.{vertex_letters, arc_letters, graph_letters}
 use Rattle.sgb_graph.specs.Edit.{owner_of}
 use Rattle.sgb_graph.specs.Read.{first_of}
@@ -17,7 +17,6 @@ use Rattle.sgb_grammar.specs.Check.{check_of}
 use Rattle.sgb_text.specs.declared.restoring.CheckRule.{CheckRule}
 use Rattle.sgb_text.specs.Restore.{Accepted, Refused}
 use Rattle.sgb_text.specs.Layout.{laid}
-use Rattle.sgb_text.specs.Clean.{clean_of}
 
 -- ---- items
 

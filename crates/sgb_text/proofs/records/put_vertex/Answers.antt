@@ -1,5 +1,5 @@
 use Rattle.std.proofs.Common.{◌≡◌, ◌∙◌, ap, length, take, refl}
-use Rattle.sgb_graph.specs.Graph.{vertex_at, arcs_of, n_of}
+use Rattle.sgb_graph.specs.Graph.{vertex_at}
 use Rattle.sgb_graph.specs.Honest.{vertex_letters}
 use Rattle.sgb_graph.specs.Read.{first_of}
 use Rattle.sgb_text.specs.Clean.{clean_vertex}

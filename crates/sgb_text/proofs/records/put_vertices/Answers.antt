@@ -1,4 +1,4 @@
-use Rattle.std.proofs.Common.{◌≡◌, ◌∙◌, ◌<◌, ◌≤◌, ap, sym, arith, length}
+use Rattle.std.proofs.Common.{◌∙◌, ◌<◌, ap, sym, arith}
 use Rattle.sgb_graph.specs.Graph.{n_of, no_vertex}
 use Rattle.sgb_graph.specs.Honest.{vertex_letters}
 use Rattle.sgb_text.specs.Clean.{clean_of, dirt_in}

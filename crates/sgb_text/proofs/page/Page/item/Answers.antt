@@ -1,4 +1,4 @@
-use Rattle.std.proofs.Common.{◌++◌, arith}
+use Rattle.std.proofs.Common.{arith}
 use Rattle.sgb_text.proofs.Cuts.{item_long, item_short, three_parts}
 use Rattle.sgb_text.proofs.page.Page.item.Goals as goal
 
