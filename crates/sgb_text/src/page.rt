@@ -104,9 +104,9 @@ impl Page {
         requires { self.old.column + length (mark.now ++ (bytes.now ++ end.now)) ≤ 79 }
         ensures { OnOk result (self.new ≡ with_bytes self.old (mark.now ++ (bytes.now ++ end.now))) }
     {
-        self.text.extend_from_slice(mark)?;
+        append(&mut self.text, mark)?;
         self.text.extend_from_slice(bytes)?;
-        self.text.extend_from_slice(end)?;
+        append(&mut self.text, end)?;
         self.column += mark.len() + bytes.len() + end.len();
         Ok(())
     }
@@ -125,6 +125,21 @@ impl Page {
         self.text.extend_from_slice(b"\\\n")?;
         self.column = put_rest(&mut self.text, rest, end)?;
         Ok(())
+    }
+}
+
+// Adds bytes, of which there are mostly one or none.
+#[inline]
+fn append(text: &mut Vec<u8>, bytes: &[u8]) -> Result<(), AllocError>
+    ensures { OnOk result (text.new.items ≡ text.old.items ++ bytes.now) }
+{
+    match bytes {
+        [] => Ok(()),
+        [byte] => {
+            text.push(*byte)?;
+            Ok(())
+        }
+        _ => text.extend_from_slice(bytes),
     }
 }
 
