@@ -1,1 +1,5 @@
 pub mod Restore
+pub mod Layout
+pub mod Clean
+pub mod Save
+pub mod Private

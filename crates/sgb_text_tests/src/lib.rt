@@ -7,3 +7,5 @@ mod outcome;
 mod read;
 #[cfg(test)]
 mod refused;
+#[cfg(test)]
+mod written;

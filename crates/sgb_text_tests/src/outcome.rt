@@ -1,6 +1,6 @@
-//! What restoring a text answers.
-use sgb_graph::{Graph, Util, VertexNo};
-use sgb_text::{CheckRule, restore};
+//! What restoring and saving answer.
+use sgb_graph::{Graph, Types, Util, VertexNo};
+use sgb_text::{CheckRule, restore, save};
 use std::alloc::{AllocError, Global};
 
 /// The text of these lines.
@@ -56,5 +56,58 @@ fn number_in(value: &Util) -> i64 {
     match value {
         Util::Int(number) => *number,
         _ => 0,
+    }
+}
+
+/// The graph is saved as these lines, with so many values written as Zero.
+pub(crate) fn is_saved_as(
+    alloc: Global,
+    graph: &Graph,
+    lines: &[&[u8]],
+    cleaned: u64,
+) -> Result<bool, AllocError> {
+    let text = joined(alloc, lines)?;
+    let saved = save(alloc, graph)?;
+    Ok(saved.text.as_slice() == text.as_slice() && saved.cleaned == cleaned)
+}
+
+/// The lines are read, and the graph is saved as the very lines.
+pub(crate) fn come_back(alloc: Global, lines: &[&[u8]]) -> Result<bool, AllocError> {
+    let text = joined(alloc, lines)?;
+    match restore(alloc, &text, CheckRule::Match) {
+        Ok(graph) => is_saved_as(alloc, &graph, lines, 0),
+        Err(_) => Ok(false),
+    }
+}
+
+/// The lines are read, and the graph is saved as the others once it has these letters.
+pub(crate) fn come_back_under(
+    alloc: Global,
+    lines: &[&[u8]],
+    letters: &[u8],
+    others: &[&[u8]],
+    cleaned: u64,
+) -> Result<bool, AllocError> {
+    let text = joined(alloc, lines)?;
+    match restore(alloc, &text, CheckRule::Match) {
+        Ok(graph) => is_saved_under(alloc, graph, letters, others, cleaned),
+        Err(_) => Ok(false),
+    }
+}
+
+/// The same of a graph.
+pub(crate) fn is_saved_under(
+    alloc: Global,
+    mut graph: Graph,
+    letters: &[u8],
+    lines: &[&[u8]],
+    cleaned: u64,
+) -> Result<bool, AllocError> {
+    match Types::new(letters) {
+        Some(types) => {
+            let _ = graph.set_types(types);
+            is_saved_as(alloc, &graph, lines, cleaned)
+        }
+        None => Ok(false),
     }
 }
