@@ -28,12 +28,16 @@ wanted s = unsigned_abs s.m
 abbrev pub numbers_each : Bool → ℕ
 numbers_each directed = if directed then 1 else 2
 
+-- there are at most 65,535 vertices and 1,000,000 numbers
+abbrev pub is_small : RandomSpec → Bool
+is_small s = nat_le (size_of s) 65535 && nat_le (wanted s * numbers_each s.directed) 1000000
+
 -- the first refusal that comes before any draw
 unfoldable pub refusal_of_random : RandomSpec → Option Refusal
 refusal_of_random s =
     refusal_unless (int_lt (pos 0) s.n && int_le (pos 0) s.m) BadSpecs
     (option_or (refusal_of_range s.min s.max)
-    (refusal_unless (nat_le (size_of s) 65535 && nat_le (wanted s * numbers_each s.directed) 1000000) TooLarge None))
+    (refusal_unless (is_small s) TooLarge None))
 
 -- What the attempts have come to: the insertions, how many of the arcs or edges that are wanted count as made, how many
 -- numbers were drawn, and the generator after them.

@@ -1,5 +1,5 @@
 //! One attempt: two vertices are drawn, and what comes of them.
-ghost use Rattle.std.specs.Prelude.{◌≡◌, ◌≤◌, ◌<◌, ◌+◌, ◌^◌, ◌∷◌, [], ◌++◌, length, IfErr, OnOk};
+ghost use Rattle.std.specs.Prelude.{◌≡◌, ◌≤◌, ◌<◌, ◌+◌, ◌^◌, ◌∷◌, [], ◌++◌, ◌==◌, ◌&&◌, not, length, IfErr, OnOk};
 ghost use Rattle.std.specs.Int.{int_min};
 ghost use Rattle.sgb_flip.specs.Generator.{IsGenerator};
 ghost use Rattle.sgb_graph.specs.Builder.{insertion};
@@ -10,6 +10,7 @@ ghost use Rattle.sgb_random.specs.Private.Progress.{
   IsIndexed,
   IsLengths,
   course_of,
+  insertion_of,
   insertions_of,
   key_of,
   with_len_at,
@@ -17,6 +18,7 @@ ghost use Rattle.sgb_random.specs.Private.Progress.{
 
 use crate::RandomSpec;
 use crate::progress::{Edge, Progress};
+use crate::spec::{repeats, shortens};
 use sgb_flip::Flip;
 use sgb_graph::Refusal;
 use sgb_plan::LengthRange;
@@ -76,10 +78,10 @@ fn try_pair(
 {
     // It tells that the generator is one, also where nothing is drawn.
     let _ = flip.unread();
-    if from == to && !spec.loops {
+    if is_barred(spec.loops, from, to) {
         return Ok(());
     }
-    if spec.multi > 0 {
+    if repeats(*spec) {
         return insert(flip, range, progress, from, to);
     }
     let key = key_of(spec.directed, from, to);
@@ -87,10 +89,17 @@ fn try_pair(
     if is_new {
         return insert(flip, range, progress, from, to);
     }
-    if spec.multi < 0 {
+    if shortens(*spec) {
         lower(flip, range, progress, place);
     }
     Ok(())
+}
+
+// A vertex would be joined to itself and may not be.
+fn is_barred(loops: bool, from: u32, to: u32) -> bool
+    ensures { result ≡ ((from == to) && not loops) }
+{
+    from == to && !loops
 }
 
 // The number of a pair, which is the same either way round where edges are inserted.
@@ -146,8 +155,17 @@ fn lower(flip: &mut Flip, range: &LengthRange, progress: &mut Progress, place: u
     ensures generator { IsGenerator flip.new }
 {
     let len = draw_length(flip, range, progress);
-    let edge = &mut progress.edges[place];
-    edge.len = edge.len.min(len);
+    progress.edges[place] = shortened(progress.edges[place], len);
+}
+
+// The arc or edge with the length, if that is smaller than its own.
+fn shortened(edge: Edge, len: i64) -> Edge
+    ensures { insertion_of result ≡ insertion edge.from edge.to (int_min edge.len len) }
+{
+    Edge {
+        len: edge.len.min(len),
+        ..edge
+    }
 }
 
 // Draws a length, and counts one more as made.

@@ -27,7 +27,7 @@ pub(crate) fn build(
     requires ends { All (IsWithin n) (map insertion_of edges.now) }
     ensures { IsMade (Ok (random_plan spec.now seed (map insertion_of edges.now))) result }
 {
-    let id = random_id(alloc, spec, seed, n, wanted(spec))?;
+    let id = random_id(alloc, spec, seed, n, wanted(*spec))?;
     let mut builder = Builder::new(alloc, id, Types::none(), spec.directed);
     builder.reserve_vertices(n as usize)?;
     name_vertices(&mut builder, alloc, n)?;

@@ -9,7 +9,7 @@ use crate::RandomSpec;
 use crate::attempt::attempt;
 use crate::build::build;
 use crate::progress::Progress;
-use crate::spec::{judge, room_for_pairs, vertices, wanted};
+use crate::spec::{judge, repeats, vertices, wanted};
 use sgb_flip::Flip;
 use sgb_graph::{Graph, Refusal};
 use sgb_plan::{LengthRange, Seed};
@@ -41,9 +41,10 @@ pub fn random(
 {
     // It tells that the generator is one, also where nothing is drawn.
     let _ = flip.unread();
-    let range = judge(spec)?;
-    let m = wanted(spec);
-    let mut progress = Progress::new(alloc, m as usize, room_for_pairs(spec, m))?;
+    let range = judge(*spec)?;
+    let m = wanted(*spec);
+    let pairs = if repeats(*spec) { 0 } else { m };
+    let mut progress = Progress::new(alloc, m as usize, pairs as usize)?;
     match draw_graph(alloc, flip, spec, seed, &range, &mut progress) {
         Ok(graph) => Ok((graph, progress.draws)),
         Err(refusal) => {
@@ -90,7 +91,7 @@ fn draw_graph(
     ensures few_draws { progress.new.draws ≤ 54420000000 }
     ensures generator { IsGenerator flip.new }
 {
-    let n = vertices(spec);
+    let n = vertices(*spec);
     draw_all(flip, spec, n, range, progress)?;
     build(alloc, spec, seed, n, &progress.edges)
 }
@@ -117,7 +118,7 @@ fn draw_all(
     ensures few_draws { progress.new.draws ≤ 54420000000 }
     ensures generator { IsGenerator flip.new }
 {
-    let m = wanted(spec);
+    let m = wanted(*spec);
     for _attempt in 0..MOST_ATTEMPTS {
         if progress.made >= m {
             return Ok(());

@@ -1,6 +1,6 @@
 //! What a random graph is to be like, and whether there can be one.
-ghost use Rattle.std.specs.Prelude.{◌≡◌, None, Some, IfErr, OnOk, IfOk};
-ghost use Rattle.sgb_random.specs.Random.{refusal_of_random, size_of, wanted};
+ghost use Rattle.std.specs.Prelude.{◌≡◌, ◌≤◌, ◌<◌, None, Some, pos, not, ◌&&◌, int_le, int_lt, IfErr, OnOk, IfOk};
+ghost use Rattle.sgb_random.specs.Random.{is_small, refusal_of_random, size_of, wanted};
 
 use sgb_graph::Refusal;
 use sgb_plan::LengthRange;
@@ -26,44 +26,68 @@ pub struct RandomSpec {
 }
 
 // Judges what can be judged before any draw, and answers the lengths.
-pub(crate) fn judge(spec: &RandomSpec) -> Result<LengthRange, Refusal>
-    ensures ok { OnOk result (refusal_of_random spec.now ≡ None) }
-    ensures min { IfOk result (λ range. range.min ≡ spec.now.min) }
-    ensures max { IfOk result (λ range. range.max ≡ spec.now.max) }
-    ensures err { IfErr result (λ e. refusal_of_random spec.now ≡ Some e) }
+pub(crate) fn judge(spec: RandomSpec) -> Result<LengthRange, Refusal>
+    ensures ok { OnOk result (refusal_of_random spec ≡ None) }
+    ensures min { IfOk result (λ range. range.min ≡ spec.min) }
+    ensures max { IfOk result (λ range. range.max ≡ spec.max) }
+    ensures err { IfErr result (λ e. refusal_of_random spec ≡ Some e) }
 {
-    if spec.n <= 0 || spec.m < 0 {
+    if !is_sound(spec) {
         return Err(Refusal::BadSpecs);
     }
     let range = LengthRange::new(spec.min, spec.max)?;
-    if spec.n > 65_535 || spec.m > most_insertions(spec.directed) {
+    if !is_small(spec) {
         return Err(Refusal::TooLarge);
     }
     Ok(range)
 }
 
-// The most arcs or edges that a graph gives out numbers for.
-fn most_insertions(directed: bool) -> i64 {
-    if directed { 1_000_000 } else { 500_000 }
+// There is a vertex, and as many arcs or edges are wanted as there can be.
+fn is_sound(spec: RandomSpec) -> bool
+    ensures { result ≡ (int_lt (pos 0) spec.n && int_le (pos 0) spec.m) }
+{
+    spec.n > 0 && spec.m >= 0
+}
+
+// There are neither too many vertices nor too many numbers.
+fn is_small(spec: RandomSpec) -> bool
+    ensures { result ≡ is_small spec }
+{
+    let most = if spec.directed { 1_000_000 } else { 500_000 };
+    spec.n.unsigned_abs() <= 65_535 && spec.m.unsigned_abs() <= most
 }
 
 // How many vertices there are.
-pub(crate) fn vertices(spec: &RandomSpec) -> u32
-    requires { refusal_of_random spec.now ≡ None }
-    ensures { result ≡ size_of spec.now }
+pub(crate) fn vertices(spec: RandomSpec) -> u32
+    requires { refusal_of_random spec ≡ None }
+    ensures value { result ≡ size_of spec }
+    ensures some { 0 < result }
+    ensures few { result ≤ 65535 }
 {
-    spec.n as u32
+    spec.n.unsigned_abs() as u32
 }
 
 // How many arcs or edges are to be made.
-pub(crate) fn wanted(spec: &RandomSpec) -> u32
-    requires { refusal_of_random spec.now ≡ None }
-    ensures { result ≡ wanted spec.now }
+pub(crate) fn wanted(spec: RandomSpec) -> u32
+    requires { refusal_of_random spec ≡ None }
+    ensures value { result ≡ wanted spec }
+    ensures few { result ≤ 1000000 }
 {
-    spec.m as u32
+    spec.m.unsigned_abs() as u32
 }
 
-// How many pairs are to be kept in mind at most: none where a pair may be joined again.
-pub(crate) fn room_for_pairs(spec: &RandomSpec, m: u32) -> usize {
-    if spec.multi > 0 { 0 } else { m as usize }
+// Whether a pair may be joined again.
+#[inline]
+pub(crate) fn repeats(spec: RandomSpec) -> bool
+    ensures { result ≡ not (int_le spec.multi (pos 0)) }
+{
+    spec.multi > 0
+}
+
+// Whether a pair that is joined takes a smaller length instead.
+#[inline]
+pub(crate) fn shortens(spec: RandomSpec) -> bool
+    ensures { result ≡ int_lt spec.multi (pos 0) }
+{
+    spec.multi < 0
 }

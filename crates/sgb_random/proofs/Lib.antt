@@ -1,0 +1,4 @@
+mod Coursing
+mod Following
+mod Joining
+mod Judging
