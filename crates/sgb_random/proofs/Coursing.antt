@@ -4,12 +4,12 @@ use Rattle.std.specs.List.{list_any, position_or_len}
 use Rattle.std.proofs.lemmas.Bool.{cases_Bool}
 use Rattle.std.proofs.lemmas.List.{map-append}
 use Rattle.std.proofs.lemmas.List.Elements.{All-append}
-use Rattle.sgb_flip.specs.Generator.{Generator}
+use Rattle.sgb_flip.specs.Generator.{Generator, uniform}
 use Rattle.sgb_graph.specs.Builder.{Insertion, insertion}
 use Rattle.sgb_plan.specs.Length.{drawn_length}
 use Rattle.sgb_random.specs.declared.progress.Progress.{Progress}
 use Rattle.sgb_random.specs.declared.spec.RandomSpec.{RandomSpec}
-use Rattle.sgb_random.specs.Random.{Course, joins, lowered, with_length, tried, size_of}
+use Rattle.sgb_random.specs.Random.{Course, joins, lowered, with_length, tried, attempted, size_of}
 use Rattle.sgb_random.specs.Private.Progress.{insertions_of, key_of, key_of_insertion, IsIndexed, IsWithin, with_len_at}
 use Rattle.sgb_random.proofs.Joining.{any_key, place_key, keys-with_len_at, within-with_len_at, within_more, within_one}
 
@@ -20,6 +20,12 @@ with_length_is low high c es insertions made draws rest i m d r = rw (i, m, d, r
 pub insertions-with_length : (low high : ℤ) (c : Course) (es : ℤ → List Insertion) → (with_length low high c es).insertions ≡ es (drawn_length low high c.rest).len
 unfolding with_length
 insertions-with_length low high c es = refl
+
+pub with_length_same : (low high : ℤ) (c : Course) (es fs : ℤ → List Insertion) → ((len : ℤ) → es len ≡ fs len) → with_length low high c es ≡ with_length low high c fs
+unfolding with_length
+with_length_same low high c es fs same =
+    let drawn = drawn_length low high c.rest in
+    ap (λ xs. record { insertions = xs; made = c.made + 1; draws = c.draws + drawn.draws; rest = drawn.rest }) (same drawn.len)
 
 -- ---- what comes of a pair
 module _ (s : RandomSpec) (u v : ℕ) (c : Course) where
@@ -42,6 +48,10 @@ module _ (s : RandomSpec) (u v : ℕ) (c : Course) where
   pub tried_skipped : ((u == v) && not s.loops) ≡ false → int_le s.multi (pos 0) ≡ true → list_any (joins s.directed u v) c.insertions ≡ true → int_lt s.multi (pos 0) ≡ false → tried s u v c ≡ c
   unfolding tried
   tried_skipped free once old_pair skipped = rw (free, once, old_pair, skipped) refl
+
+pub attempted_is : (s : RandomSpec) (c : Course) (n u v k : ℕ) (w x : Generator) → n ≡ size_of s → u ≡ (uniform c.rest n).value → w ≡ (uniform c.rest n).rest → v ≡ (uniform w n).value → x ≡ (uniform w n).rest → k ≡ (uniform c.rest n).draws + (uniform w n).draws → tried s u v (record { insertions = c.insertions; made = c.made; draws = c.draws + k; rest = x }) ≡ attempted s c
+unfolding attempted
+attempted_is s c n u v k w x n_is u_is w_is v_is x_is k_is = rw (u_is, v_is, x_is, k_is, w_is, n_is) refl
 
 -- ---- the numbers of the pairs
 module _ (s : RandomSpec) (p : Progress) (u v key : ℕ) (indexed : IsIndexed s p) (few : size_of s ≤ 65535) (hu : u < size_of s) (hv : v < size_of s) (is : key ≡ key_of s.directed u v) (once : int_le s.multi (pos 0) ≡ true) where
@@ -81,9 +91,9 @@ indexed_lower s p q place len indexed lower keys = record {
 }
 
 -- ---- results
-pub on_ok : {T E : Type 0} (r : Result T E) (P Q : Type 0) → OnOk r P → (P → Q) → OnOk r Q
-on_ok (Ok x) P Q p f = f p
-on_ok (Err e) P Q p f = tt
+pub on_ok_both : {T E P Q R : Type 0} (r : Result T E) → OnOk r P → OnOk r Q → (P → Q → R) → OnOk r R
+on_ok_both (Ok x) p q f = f p q
+on_ok_both (Err e) p q f = tt
 
 pub not_false : (b : Bool) → not b ≡ false → b ≡ true
 not_false true is = refl

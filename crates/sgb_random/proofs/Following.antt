@@ -11,6 +11,9 @@ pub follows_some : {old new : Generator} (k j : ℕ) → new ≡ after old j →
 follows_some k j is =
     record { led = λ start generator led. sym (after-after start k j) ∙ (ap (λ w. after w j) led ∙ sym is) }
 
+pub follows_two : {a b c : Generator} (k i j : ℕ) → b ≡ after a i → c ≡ after b j → Follows a k c (k + (i + j))
+follows_two {a} {b} {c} k i j first next = follows_some k (i + j) (next ∙ (ap (λ w. after w j) first ∙ after-after a i j))
+
 pub follows_then : {a b c : Generator} {i j k : ℕ} → Follows a i b j → Follows b j c k → Follows a i c k
 follows_then first next = record { led = λ start generator is. next.led start generator (first.led start generator is) }
 

@@ -1,5 +1,5 @@
 //! The graph of the insertions.
-ghost use Rattle.std.specs.Prelude.{◌≡◌, ◌≤◌, ◌<◌, All, map, None, IfOk, IfErr, length};
+ghost use Rattle.std.specs.Prelude.{◌≡◌, ◌≤◌, ◌<◌, ◌∷◌, [], All, map, None, IfOk, IfErr, length};
 ghost use Rattle.std.specs.List.{range_with_len};
 ghost use Rattle.sgb_graph.specs.Builder.{Inserts};
 ghost use Rattle.sgb_graph.specs.Graph.{n_of};
@@ -81,7 +81,16 @@ fn insert_edges(builder: &mut Builder, edges: &[Edge]) -> Result<(), Refusal>
     ensures { Inserts builder.old builder.new (map insertion_of edges.now) result }
 {
     for edge in edges {
-        builder.insert(VertexNo(edge.from), VertexNo(edge.to), edge.len)?;
+        insert_edge(builder, *edge)?;
     }
     Ok(())
+}
+
+#[inline]
+fn insert_edge(builder: &mut Builder, edge: Edge) -> Result<(), Refusal>
+    requires from { edge.from < n_of builder.old.graph }
+    requires to { edge.to < n_of builder.old.graph }
+    ensures { Inserts builder.old builder.new (insertion_of edge ∷ []) result }
+{
+    builder.insert(VertexNo(edge.from), VertexNo(edge.to), edge.len)
 }
