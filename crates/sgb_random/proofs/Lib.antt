@@ -1,3 +1,4 @@
+mod Building
 mod Coursing
 mod Following
 mod Joining

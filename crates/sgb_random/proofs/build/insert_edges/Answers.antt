@@ -1,32 +1,29 @@
-use Rattle.std.proofs.Common.{rules, ◌≡◌, ◌≤◌, ◌<◌, ◌∷◌, [], All, map, None, IfOk, IfErr, length, ℕ, ◌+◌, ◌-◌, ◌*◌, ◌/◌, ◌%◌, Bool, true, false, nat_eq, nat_lt, List, ◌++◌, slice_index_or, slice_set, bit_and, bit_or, Fits, w8, w32, w64, Bor, MutBor}
-use Rattle.std.specs.List.{range_with_len}
-use Rattle.sgb_graph.specs.Builder.{Inserts}
-use Rattle.sgb_graph.specs.Graph.{n_of}
-use Rattle.sgb_plan.specs.Plan.{IsMade, Names}
-use Rattle.sgb_random.specs.Random.{random_id, random_plan, refusal_of_random, numbered, size_of, wanted}
-use Rattle.sgb_random.specs.Private.Progress.{IsWithin, insertion_of}
+use Rattle.std.proofs.Common.{◌≡◌, ◌∷◌, [], arith}
+use Rattle.std.proofs.lemmas.Result.{err_from_is_err_and}
+use Rattle.sgb_graph.proofs.Inserting.{of_start_map, of_some, of_refused, of_end, of_n}
+use Rattle.sgb_random.specs.Private.Progress.{insertion_of}
+use Rattle.sgb_random.proofs.Building.{edge_at, edge_within}
 use Rattle.sgb_random.proofs.build.insert_edges.Goals as goal
 
--- src/build.rt:83:5
 pub loop-edge-init : goal.loop-edge-init
-loop-edge-init c = ?
+loop-edge-init c = of_start_map c.args.builder.now insertion_of c.args.edges.now
 
--- src/build.rt:84:9
 pub insert_edge-requires-clause-from : goal.insert_edge-requires-clause-from
-insert_edge-requires-clause-from c = ?
+insert_edge-requires-clause-from c =
+    omega (arith, of_n c.loop-edge.invariant, (edge_within c.args.edges.now c.loop-edge.edge-index c.loop-edge-test.true c.requires).0)
 
--- src/build.rt:84:9
 pub insert_edge-requires-clause-to : goal.insert_edge-requires-clause-to
-insert_edge-requires-clause-to c = ?
+insert_edge-requires-clause-to c =
+    omega (arith, of_n c.loop-edge.invariant, (edge_within c.args.edges.now c.loop-edge.edge-index c.loop-edge-test.true c.requires).1)
 
--- src/build.rt:84:9
 pub returns-in_err-insert_edge : goal.returns-in_err-insert_edge
-returns-in_err-insert_edge c = ?
+returns-in_err-insert_edge c =
+    let p = err_from_is_err_and c.from_residual.result c.from_residual.ensures.1 in
+    rw (p.1, p.2) (of_refused c.loop-edge-test.true (edge_at c.args.edges.now c.loop-edge.edge-index c.loop-edge-test.true) c.loop-edge.invariant c.in_err-insert_edge.ensures)
 
--- src/build.rt:83:5
 pub loop-edge-preserved : goal.loop-edge-preserved
-loop-edge-preserved c = ?
+loop-edge-preserved c =
+    of_some c.loop-edge-test.true (edge_at c.args.edges.now c.loop-edge.edge-index c.loop-edge-test.true) c.loop-edge.invariant c.in_ok-insert_edge.ensures
 
--- src/build.rt:79:1
 pub returns : goal.returns
-returns c = ?
+returns c = of_end (omega arith) c.loop-edge.invariant

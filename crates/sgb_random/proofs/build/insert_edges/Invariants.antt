@@ -1,11 +1,7 @@
-use Rattle.std.proofs.Common.{◌≡◌, ◌≤◌, ◌<◌, ◌∷◌, [], All, map, None, IfOk, IfErr, length, ℕ, ◌+◌, ◌-◌, ◌*◌}
-use Rattle.std.specs.List.{range_with_len}
-use Rattle.sgb_graph.specs.Builder.{Inserts}
-use Rattle.sgb_graph.specs.Graph.{n_of}
-use Rattle.sgb_plan.specs.Plan.{IsMade, Names}
-use Rattle.sgb_random.specs.Random.{random_id, random_plan, refusal_of_random, numbered, size_of, wanted}
-use Rattle.sgb_random.specs.Private.Progress.{IsWithin, insertion_of}
+use Rattle.std.proofs.Common.{◌∷◌, [], map}
+use Rattle.sgb_graph.proofs.Inserting.{LeftOf}
+use Rattle.sgb_random.specs.Private.Progress.{insertion_of}
 use Rattle.sgb_random.proofs.build.insert_edges.Given as goal
 
 abbrev pub invariant-loop-edge : goal.invariant-loop-edge
-invariant-loop-edge l = ?
+invariant-loop-edge l = LeftOf l.initial.builder (map insertion_of l.edges) l.builder (λ e. insertion_of e ∷ []) l.edges l.edge-index
