@@ -3,3 +3,4 @@ mod Coursing
 mod Following
 mod Joining
 mod Judging
+mod Running

@@ -85,6 +85,7 @@ fn draw_graph(
     requires range { IsLengths spec.now range.now }
     requires fresh { course_of progress.old flip.old ≡ begun flip.old }
     requires no_pairs { progress.old.pairs.keys ≡ [] }
+    requires generator { IsGenerator flip.old }
     ensures made { IsMade (plan_of_course spec.now seed (course spec.now flip.old)) result }
     ensures draws { OnOk result (progress.new.draws ≡ (course spec.now flip.old).draws) }
     ensures rest { flip.new ≡ after flip.old progress.new.draws }
@@ -109,6 +110,7 @@ fn draw_all(
     requires range { IsLengths spec.now range.now }
     requires fresh { course_of progress.old flip.old ≡ begun flip.old }
     requires no_pairs { progress.old.pairs.keys ≡ [] }
+    requires generator { IsGenerator flip.old }
     ensures ok { OnOk result (course_of progress.new flip.new ≡ course spec.now flip.old) }
     ensures all { OnOk result (wanted spec.now ≤ (course spec.now flip.old).made) }
     ensures indexed { OnOk result (IsIndexed spec.now progress.new) }

@@ -1,102 +1,50 @@
-use Rattle.std.proofs.Common.{rules, ◌≡◌, ◌≤◌, ◌<◌, ◌⊎◌, [], None, Ok, Err, IfOk, IfErr, OnOk, OnErr, ℕ, ◌+◌, ◌-◌, ◌*◌, length, ◌/◌, ◌%◌, Bool, true, false, nat_eq, nat_lt, List, ◌∷◌, ◌++◌, slice_index_or, slice_set, bit_and, bit_or, Fits, w8, w32, w64, Bor, MutBor}
-use Rattle.sgb_flip.specs.Generator.{IsGenerator, after, seeded}
-use Rattle.sgb_plan.specs.Plan.{IsMade}
-use Rattle.sgb_random.specs.Random.{course, plan_of_course, plan_of_random, refusal_of_random, size_of, wanted, begun}
-use Rattle.sgb_random.specs.Private.Progress.{IsIndexed, IsLengths, course_of}
+use Rattle.std.proofs.Common.{◌≡◌, ◌≤◌, inr, refl, arith}
+use Rattle.sgb_random.proofs.Following.{follows_start, follows_then}
+use Rattle.sgb_random.proofs.Judging.{judged, some_positive}
+use Rattle.sgb_random.proofs.Running.{run_start, run_next, run_course, run_all, run_stuck}
 use Rattle.sgb_random.proofs.draw.draw_all.Goals as goal
 
--- src/draw.rt:122:5
 pub loop-attempt-init : goal.loop-attempt-init
-loop-attempt-init c = ?
+loop-attempt-init c = run_start c.args.spec.now c.args.flip.now c.args.progress.now c.requires.fresh c.requires.no_pairs c.requires.generator
 
--- src/draw.rt:124:13
 pub returns-then-progress-m-clause-ok : goal.returns-then-progress-m-clause-ok
-returns-then-progress-m-clause-ok c = ?
+returns-then-progress-m-clause-ok c = run_course c.loop-attempt.invariant (omega arith) (omega (arith, c.wanted-m.ensures.value))
 
--- src/draw.rt:124:13
 pub returns-then-progress-m-clause-all : goal.returns-then-progress-m-clause-all
-returns-then-progress-m-clause-all c = ?
+returns-then-progress-m-clause-all c =
+    run_all c.loop-attempt.invariant (omega arith) (omega (arith, c.wanted-m.ensures.value))
 
--- src/draw.rt:124:13
-pub returns-then-progress-m-clause-indexed : goal.returns-then-progress-m-clause-indexed
-returns-then-progress-m-clause-indexed c = ?
-
--- src/draw.rt:124:13
 pub returns-then-progress-m-clause-rest : goal.returns-then-progress-m-clause-rest
-returns-then-progress-m-clause-rest c = ?
+returns-then-progress-m-clause-rest c = follows_start c.requires.generator c.loop-attempt.invariant.follows
 
--- src/draw.rt:124:13
-pub returns-then-progress-m-clause-few_draws : goal.returns-then-progress-m-clause-few_draws
-returns-then-progress-m-clause-few_draws c = ?
-
--- src/draw.rt:124:13
-pub returns-then-progress-m-clause-generator : goal.returns-then-progress-m-clause-generator
-returns-then-progress-m-clause-generator c = ?
-
--- src/draw.rt:126:9
 pub attempt-requires-clause-some : goal.attempt-requires-clause-some
-attempt-requires-clause-some c = ?
+attempt-requires-clause-some c =
+    omega (arith, c.requires.size, some_positive c.args.spec.now.n (judged c.args.spec.now c.requires.judged).some)
 
--- src/draw.rt:126:9
 pub attempt-requires-clause-few : goal.attempt-requires-clause-few
-attempt-requires-clause-few c = ?
+attempt-requires-clause-few c = omega (arith, c.requires.size, (judged c.args.spec.now c.requires.judged).few)
 
--- src/draw.rt:126:9
-pub attempt-requires-clause-indexed : goal.attempt-requires-clause-indexed
-attempt-requires-clause-indexed c = ?
-
--- src/draw.rt:126:9
-pub attempt-requires-clause-draws : goal.attempt-requires-clause-draws
-attempt-requires-clause-draws c = ?
-
--- src/draw.rt:126:9
 pub returns-in_err-attempt-clause-rest : goal.returns-in_err-attempt-clause-rest
-returns-in_err-attempt-clause-rest c = ?
+returns-in_err-attempt-clause-rest c =
+    follows_start c.requires.generator (follows_then c.loop-attempt.invariant.follows c.attempt.ensures.follows)
 
--- src/draw.rt:126:9
-pub returns-in_err-attempt-clause-few_draws : goal.returns-in_err-attempt-clause-few_draws
-returns-in_err-attempt-clause-few_draws c = ?
-
--- src/draw.rt:122:5
 pub loop-attempt-preserved : goal.loop-attempt-preserved
-loop-attempt-preserved c = ?
+loop-attempt-preserved c =
+    run_next c.loop-attempt.invariant (omega (arith, c.wanted-m.ensures.value)) c.in_ok-attempt.ensures.ok c.in_ok-attempt.ensures.indexed c.attempt.ensures.follows c.attempt.ensures.few_draws c.attempt.ensures.generator
 
--- src/draw.rt:129:9
 pub returns-then-progress-m-2-clause-err : goal.returns-then-progress-m-2-clause-err
-returns-then-progress-m-2-clause-err c = ?
+returns-then-progress-m-2-clause-err c =
+    inr (refl, run_stuck c.loop-attempt.invariant (omega arith) (omega (arith, c.wanted-m.ensures.value)))
 
--- src/draw.rt:129:9
 pub returns-then-progress-m-2-clause-rest : goal.returns-then-progress-m-2-clause-rest
-returns-then-progress-m-2-clause-rest c = ?
+returns-then-progress-m-2-clause-rest c = follows_start c.requires.generator c.loop-attempt.invariant.follows
 
--- src/draw.rt:129:9
-pub returns-then-progress-m-2-clause-few_draws : goal.returns-then-progress-m-2-clause-few_draws
-returns-then-progress-m-2-clause-few_draws c = ?
-
--- src/draw.rt:129:9
-pub returns-then-progress-m-2-clause-generator : goal.returns-then-progress-m-2-clause-generator
-returns-then-progress-m-2-clause-generator c = ?
-
--- src/draw.rt:100:1
 pub returns-clause-ok : goal.returns-clause-ok
-returns-clause-ok c = ?
+returns-clause-ok c = run_course c.loop-attempt.invariant (omega arith) (omega (arith, c.wanted-m.ensures.value))
 
--- src/draw.rt:100:1
 pub returns-clause-all : goal.returns-clause-all
-returns-clause-all c = ?
+returns-clause-all c =
+    run_all c.loop-attempt.invariant (omega arith) (omega (arith, c.wanted-m.ensures.value))
 
--- src/draw.rt:100:1
-pub returns-clause-indexed : goal.returns-clause-indexed
-returns-clause-indexed c = ?
-
--- src/draw.rt:100:1
 pub returns-clause-rest : goal.returns-clause-rest
-returns-clause-rest c = ?
-
--- src/draw.rt:100:1
-pub returns-clause-few_draws : goal.returns-clause-few_draws
-returns-clause-few_draws c = ?
-
--- src/draw.rt:100:1
-pub returns-clause-generator : goal.returns-clause-generator
-returns-clause-generator c = ?
+returns-clause-rest c = follows_start c.requires.generator c.loop-attempt.invariant.follows
