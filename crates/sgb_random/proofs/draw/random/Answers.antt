@@ -1,18 +1,19 @@
-use Rattle.std.proofs.Common.{rules, ◌≡◌, ◌≤◌, ◌<◌, ◌⊎◌, [], None, Ok, Err, IfOk, IfErr, OnOk, OnErr, ℕ, ◌+◌, ◌-◌, ◌*◌, length, ◌/◌, ◌%◌, Bool, true, false, nat_eq, nat_lt, List, ◌∷◌, ◌++◌, slice_index_or, slice_set, bit_and, bit_or, Fits, w8, w32, w64, Bor, MutBor}
-use Rattle.sgb_flip.specs.Generator.{IsGenerator, after, seeded}
+use Rattle.std.proofs.Common.{◌≡◌, Ok, Err, sym, subst}
+use Rattle.std.proofs.lemmas.Result.{err_from_is_err_and}
 use Rattle.sgb_plan.specs.Plan.{IsMade}
-use Rattle.sgb_random.specs.Random.{course, plan_of_course, plan_of_random, refusal_of_random, size_of, wanted, begun}
-use Rattle.sgb_random.specs.Private.Progress.{IsIndexed, IsLengths, course_of}
+use Rattle.sgb_plan.proofs.Planning.{refused_before}
+use Rattle.sgb_random.proofs.Running.{plan_before, plan_after}
 use Rattle.sgb_random.proofs.draw.random.Goals as goal
 
--- src/draw.rt:44:17
 pub returns-in_err-range-clause-err : goal.returns-in_err-range-clause-err
-returns-in_err-range-clause-err c = ?
+returns-in_err-range-clause-err c =
+    let p = err_from_is_err_and c.from_residual.result c.from_residual.ensures.1 in
+    rw (p.1, p.2, plan_before c.args.spec.now c.args.seed c.args.flip.now c.in_err-range.ensures.err) (refused_before c.in_err-range.field-0.0)
 
--- src/draw.rt:41:1
 pub returns-in-Ok-clause-graph : goal.returns-in-Ok-clause-graph
-returns-in-Ok-clause-graph c = ?
+returns-in-Ok-clause-graph c =
+    subst (λ plan. IsMade plan (Ok c.in-Ok.graph)) (sym (plan_after c.args.spec.now c.args.seed c.args.flip.now c.in_ok-range.ensures.ok)) c.in-Ok.ensures.made
 
--- src/draw.rt:28:1
 pub returns-clause-err : goal.returns-clause-err
-returns-clause-err c = ?
+returns-clause-err c =
+    subst (λ plan. IsMade plan (Err c.in-Err.refusal)) (sym (plan_after c.args.spec.now c.args.seed c.args.flip.now c.in_ok-range.ensures.ok)) c.in-Err.ensures.made
