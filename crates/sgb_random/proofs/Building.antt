@@ -1,5 +1,5 @@
 -- Lemmas on the graph of the insertions.
-use Rattle.std.proofs.Common.{◌≡◌, ◌<◌, ◌≤◌, ◌+◌, ℕ, pos, List, [], length, get_or, map, replicate, All, refl, sym, ap, ap₂, subst, ◌∙◌, arith}
+use Rattle.std.proofs.Common.{◌≡◌, ◌<◌, ℕ, pos, List, [], length, get_or, map, replicate, All, refl, ap, ap₂, subst, ◌∙◌, arith}
 use Rattle.std.specs.List.{range_with_len}
 use Rattle.std.proofs.lemmas.List.{get_or-map, get_or_default, length-map}
 use Rattle.std.proofs.lemmas.List.FromFn.{length-map-range_with_len}

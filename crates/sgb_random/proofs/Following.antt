@@ -1,6 +1,6 @@
 -- Lemmas on draws that are counted.
-use Rattle.std.proofs.Common.{◌≡◌, ◌+◌, ℕ, refl, sym, ap, ◌∙◌, arith}
-use Rattle.sgb_flip.specs.Generator.{Generator, IsGenerator, after, uniform, IsUniform}
+use Rattle.std.proofs.Common.{◌≡◌, ◌+◌, ℕ, sym, ap, ◌∙◌}
+use Rattle.sgb_flip.specs.Generator.{Generator, IsGenerator, after}
 use Rattle.sgb_flip.proofs.Draws.{after-none, after-after}
 use Rattle.sgb_random.specs.Private.Progress.{Follows}
 

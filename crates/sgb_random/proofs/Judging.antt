@@ -1,5 +1,5 @@
 -- Lemmas on what is judged before any draw.
-use Rattle.std.proofs.Common.{◌≡◌, ◌≤◌, ◌<◌, ◌*◌, ◌^◌, ℕ, ℤ, pos, negsuc, Bool, true, false, ◌&&◌, nat_le, int_lt, int_le, unsigned_abs, nat_lt, ◌≤ℤ◌, Option, None, Some, refl, sym, ap, subst, ◌∙◌, arith, T}
+use Rattle.std.proofs.Common.{◌≡◌, ◌≤◌, ◌<◌, ◌*◌, ◌^◌, ℕ, ℤ, pos, negsuc, Bool, true, false, ◌&&◌, nat_le, int_lt, int_le, unsigned_abs, nat_lt, ◌≤ℤ◌, Option, None, Some, refl, subst, arith, T}
 use Rattle.std.proofs.lemmas.Bool.{leb-true, lt-ltb}
 use Rattle.std.specs.Option.{option_or}
 use Rattle.sgb_graph.specs.declared.refusal.Refusal.{Refusal}
@@ -72,7 +72,7 @@ pub judge_none : (s : RandomSpec) → (int_lt (pos 0) s.n && int_le (pos 0) s.m)
 unfolding refusal_of_random
 judge_none s sound range small = rw (sound, range, small) refl
 
-true_from_T : (b : Bool) → T b → b ≡ true
+pub true_from_T : (b : Bool) → T b → b ≡ true
 true_from_T true t = refl
 true_from_T false t = absurd t
 

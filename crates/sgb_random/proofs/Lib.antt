@@ -3,4 +3,5 @@ mod Coursing
 mod Following
 mod Joining
 mod Judging
+mod Once
 mod Running

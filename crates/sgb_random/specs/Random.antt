@@ -1,5 +1,5 @@
 -- Random graphs: what attempts there are, what comes of each, and the graph of their insertions.
-use Rattle.std.specs.Prelude.{◌≡◌, ◌+◌, ◌*◌, ◌==◌, ◌||◌, ◌&&◌, ◌^◌, ℕ, zero, suc, ℤ, pos, List, [], ◌∷◌, ◌++◌, map, replicate, codes, Bool, true, false, not, nat_lt, nat_le, int_lt, int_le, unsigned_abs, Option, None, Some, Result, Ok, Err, if◌then◌else◌}
+use Rattle.std.specs.Prelude.{◌≡◌, ◌+◌, ◌*◌, ◌==◌, ◌||◌, ◌&&◌, ℕ, zero, suc, ℤ, pos, List, [], ◌∷◌, ◌++◌, map, replicate, codes, Bool, false, not, nat_lt, nat_le, int_lt, int_le, unsigned_abs, Option, None, Some, Result, Ok, Err, if◌then◌else◌}
 use Rattle.std.specs.Int.{int_min, int_signum}
 use Rattle.std.specs.List.{range_with_len, list_any, AllPairs}
 use Rattle.std.specs.Option.{option_or}

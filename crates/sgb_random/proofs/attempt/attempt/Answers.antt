@@ -1,7 +1,5 @@
-use Rattle.std.proofs.Common.{◌≡◌, ◌+◌, refl, ap, ap₂, ◌∙◌}
+use Rattle.std.proofs.Common.{◌+◌, ap₂, ◌∙◌}
 use Rattle.std.proofs.lemmas.Result.{on_ok_weaker}
-use Rattle.sgb_flip.specs.Generator.{uniform}
-use Rattle.sgb_random.specs.Random.{Course}
 use Rattle.sgb_random.specs.Private.Progress.{course_of}
 use Rattle.sgb_random.proofs.Coursing.{attempted_is}
 use Rattle.sgb_random.proofs.Following.{follows_two, follows_then}

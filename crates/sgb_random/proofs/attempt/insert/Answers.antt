@@ -1,4 +1,4 @@
-use Rattle.std.proofs.Common.{◌≡◌, ◌++◌, ◌∷◌, [], map, ap, ap₂, ◌∙◌, FitsSigned, to_z, of_z, w64}
+use Rattle.std.proofs.Common.{◌++◌, ◌∷◌, [], map, ap, ap₂, ◌∙◌, FitsSigned, w64}
 use Rattle.std.proofs.lemmas.Int.{to_z-of_z}
 use Rattle.std.proofs.lemmas.List.{map-append}
 use Rattle.sgb_graph.specs.Builder.{insertion}

@@ -1,4 +1,4 @@
-use Rattle.std.proofs.Common.{◌≡◌, ◌<◌, length, map, ap, ap₂, sym, subst, ◌∙◌, FitsSigned, to_z, of_z, w64}
+use Rattle.std.proofs.Common.{◌<◌, length, map, ap, ap₂, sym, subst, ◌∙◌, FitsSigned, w64}
 use Rattle.std.specs.Int.{int_min}
 use Rattle.std.specs.Vec.{with_item}
 use Rattle.std.proofs.lemmas.Int.{to_z-of_z}

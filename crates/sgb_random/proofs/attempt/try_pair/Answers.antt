@@ -1,11 +1,11 @@
-use Rattle.std.proofs.Common.{◌≡◌, ℤ, ◌==◌, ◌&&◌, ◌++◌, ◌∷◌, [], pos, true, false, not, int_le, int_lt, ap, ap₂, sym, ◌∙◌, cond}
+use Rattle.std.proofs.Common.{◌≡◌, ℤ, ◌==◌, ◌++◌, ◌∷◌, [], pos, true, false, int_le, ap, ap₂, sym, ◌∙◌, cond}
 use Rattle.std.specs.List.{list_any, position_or_len}
 use Rattle.std.proofs.lemmas.Result.{on_ok_weaker}
 use Rattle.sgb_graph.specs.Builder.{insertion}
 use Rattle.sgb_plan.specs.Length.{drawn_length}
-use Rattle.sgb_random.specs.Random.{Course, joins, lowered, with_length, tried}
+use Rattle.sgb_random.specs.Random.{Course, joins, lowered, with_length}
 use Rattle.sgb_random.specs.Private.Progress.{course_of, insertions_of, key_of, with_len_at}
-use Rattle.sgb_random.proofs.Coursing.{insertions-with_length, tried_barred, tried_again, tried_new, tried_shorter, tried_skipped, found_is, place_is, indexed_same, indexed_more, indexed_lower, with_length_same, on_ok_both, not_false, not_true}
+use Rattle.sgb_random.proofs.Coursing.{insertions-with_length, tried_barred, tried_again, tried_new, tried_shorter, tried_skipped, found_is, place_is, indexed_more, indexed_lower, with_length_same, on_ok_both, not_false, not_true}
 use Rattle.sgb_random.proofs.Joining.{lowered_at}
 use Rattle.sgb_random.proofs.attempt.try_pair.Goals as goal
 

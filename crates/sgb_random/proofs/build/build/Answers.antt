@@ -1,8 +1,8 @@
-use Rattle.std.proofs.Common.{◌≡◌, ◌≤◌, map, sym, ap, ap₂, subst, ◌∙◌, arith}
+use Rattle.std.proofs.Common.{map, subst, ◌∙◌, arith}
 use Rattle.std.specs.List.{range_with_len}
 use Rattle.std.proofs.lemmas.Result.{err_from_is_err_and}
 use Rattle.sgb_graph.specs.Graph.{IsGraph, n_of}
-use Rattle.sgb_plan.specs.Plan.{Plan, with_named}
+use Rattle.sgb_plan.specs.Plan.{Plan}
 use Rattle.sgb_plan.proofs.Planning.{begun, RefusesNames, made, refused_names, refused_insertions}
 use Rattle.sgb_random.specs.Random.{numbered, random_plan}
 use Rattle.sgb_random.specs.Private.Progress.{insertion_of}

@@ -1,4 +1,4 @@
-use Rattle.std.proofs.Common.{◌≡◌, ◌∷◌, [], arith}
+use Rattle.std.proofs.Common.{arith}
 use Rattle.std.proofs.lemmas.Result.{err_from_is_err_and}
 use Rattle.sgb_graph.proofs.Inserting.{of_start_map, of_some, of_refused, of_end, of_n}
 use Rattle.sgb_random.specs.Private.Progress.{insertion_of}

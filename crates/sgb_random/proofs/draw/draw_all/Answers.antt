@@ -1,4 +1,4 @@
-use Rattle.std.proofs.Common.{◌≡◌, ◌≤◌, inr, refl, arith}
+use Rattle.std.proofs.Common.{inr, refl, arith}
 use Rattle.sgb_random.proofs.Following.{follows_start, follows_then}
 use Rattle.sgb_random.proofs.Judging.{judged, some_positive}
 use Rattle.sgb_random.proofs.Running.{run_start, run_next, run_course, run_all, run_stuck}

@@ -1,4 +1,3 @@
-use Rattle.std.proofs.Common.{◌≡◌}
 use Rattle.std.proofs.lemmas.Result.{err_from_is_err_and}
 use Rattle.sgb_random.specs.Random.{course}
 use Rattle.sgb_random.proofs.Running.{stuck_refused}

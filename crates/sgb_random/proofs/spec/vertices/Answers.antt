@@ -1,4 +1,4 @@
-use Rattle.std.proofs.Common.{◌≡◌, ap, unsigned_abs, ◌∙◌, FitsSigned, to_z, of_z, w64, rules, arith}
+use Rattle.std.proofs.Common.{◌≡◌, ap, unsigned_abs, ◌∙◌, FitsSigned, w64, rules, arith}
 use Rattle.std.proofs.lemmas.Int.{to_z-of_z}
 use Rattle.sgb_random.specs.Random.{size_of}
 use Rattle.sgb_random.proofs.Judging.{judged, some_positive}
