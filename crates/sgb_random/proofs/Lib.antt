@@ -5,3 +5,4 @@ mod Joining
 mod Judging
 mod Once
 mod Running
+mod Within

@@ -43,7 +43,7 @@ same_tos (e ∷ es) zero len (suc i) x = refl
 same_tos (e ∷ es) (suc place) len zero x = refl
 same_tos (e ∷ es) (suc place) len (suc i) x = same_tos es place len i x
 
-same_count : (es : List Insertion) (place : ℕ) (len : ℤ) → length (with_len_at es place len) ≡ length es
+pub same_count : (es : List Insertion) (place : ℕ) (len : ℤ) → length (with_len_at es place len) ≡ length es
 unfolding with_len_at
 same_count [] place len = refl
 same_count (e ∷ es) zero len = refl

@@ -11,7 +11,7 @@ use Rattle.sgb_plan.specs.Plan.{IsMade}
 use Rattle.sgb_plan.proofs.Planning.{refused_before}
 use Rattle.sgb_random.specs.declared.progress.Progress.{Progress}
 use Rattle.sgb_random.specs.declared.spec.RandomSpec.{RandomSpec}
-use Rattle.sgb_random.specs.Random.{Course, begun, attempted, attempts, course, plan_of_course, plan_of_random, planned, refusal_of_random, wanted, size_of}
+use Rattle.sgb_random.specs.Random.{Course, begun, attempted, attempts, course, plan_of_course, plan_of_random, unless_refused, refusal_of_random, wanted, size_of}
 use Rattle.sgb_random.specs.Private.Progress.{course_of, insertions_of, key_of_insertion, Follows, IsIndexed, IsWithin}
 use Rattle.sgb_random.proofs.Following.{follows_none, follows_then}
 
@@ -109,9 +109,9 @@ stuck_refused s seed c (inl room) = inl room
 stuck_refused s seed c (inr stuck) = rw (lt-ltb c.made (wanted s) stuck.1, stuck.0) (refused_before Stuck)
 
 pub plan_before : (s : RandomSpec) (seed : Seed) (w : Generator) {e : Refusal} → refusal_of_random s ≡ Some e → plan_of_random s seed w ≡ Err e
-unfolding plan_of_random planned
+unfolding plan_of_random unless_refused
 plan_before s seed w refused = rw refused refl
 
 pub plan_after : (s : RandomSpec) (seed : Seed) (w : Generator) → refusal_of_random s ≡ None → plan_of_random s seed w ≡ plan_of_course s seed (course s w)
-unfolding plan_of_random planned
+unfolding plan_of_random unless_refused
 plan_after s seed w none = rw none refl

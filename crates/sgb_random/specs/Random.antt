@@ -120,13 +120,14 @@ plan_of_course s seed c =
     if nat_lt c.made (wanted s) then Err Stuck
     else Ok (random_plan s seed c.insertions)
 
--- the plan of a random graph from a generator, or the first refusal
-unfoldable pub planned : Option Refusal → Result Plan Refusal → Result Plan Refusal
-planned None plan = plan
-planned (Some e) plan = Err e
+-- the refusal if there is one, and else the plan
+unfoldable pub unless_refused : Option Refusal → Result Plan Refusal → Result Plan Refusal
+unless_refused None plan = plan
+unless_refused (Some e) plan = Err e
 
+-- the plan of a random graph from a generator, or the first refusal
 unfoldable pub plan_of_random : RandomSpec → Seed → Generator → Result Plan Refusal
-plan_of_random s seed w = planned (refusal_of_random s) (plan_of_course s seed (course s w))
+plan_of_random s seed w = unless_refused (refusal_of_random s) (plan_of_course s seed (course s w))
 
 -- Where multi is at most 0, at most one insertion joins a pair: none is joined again by a later one.
 abbrev pub JoinsOnce : Bool → List Insertion → Type 0
