@@ -3,7 +3,7 @@ use Rattle.std.proofs.Common.{◌≡◌, ◌≤◌, ◌<◌, ◌*◌, ◌^◌, �
 use Rattle.std.proofs.lemmas.Bool.{leb-true, lt-ltb}
 use Rattle.std.specs.Option.{option_or}
 use Rattle.sgb_graph.specs.declared.refusal.Refusal.{Refusal}
-use Rattle.sgb_graph.specs.declared.refusal.Refusal.TheVariants.{BadSpecs, TooLarge}
+use Rattle.sgb_graph.specs.declared.refusal.Refusal.TheVariants.{NoRoom, BadSpecs, TooLarge, LengthRange}
 use Rattle.sgb_graph.specs.Edit.{refusal_unless}
 use Rattle.sgb_plan.specs.Length.{refusal_of_range, width}
 use Rattle.sgb_random.specs.declared.spec.RandomSpec.{RandomSpec}
@@ -81,3 +81,24 @@ range_none s low high is_low is_high ordered narrow =
     let le : int_le low high ≡ true = true_from_T (int_le low high) ordered.le in
     let lt : nat_lt (width low high) (2 ^ 31) ≡ true = lt-ltb (width low high) (2 ^ 31) narrow in
     subst (λ a. refusal_of_range a s.max ≡ None) is_low (subst (λ b. refusal_of_range low b ≡ None) is_high (rw (le, lt) refl))
+
+-- ---- no refusal of the numbers is want of memory
+unless_room : (b : Bool) (e : Refusal) (later : Option Refusal) → (Some e ≡ Some NoRoom → ⊥) → (later ≡ Some NoRoom → ⊥) → refusal_unless b e later ≡ Some NoRoom → ⊥
+unless_room true e later other rest is = rest is
+unless_room false e later other rest is = other is
+
+or_room : (a b : Option Refusal) → (a ≡ Some NoRoom → ⊥) → (b ≡ Some NoRoom → ⊥) → option_or a b ≡ Some NoRoom → ⊥
+or_room None b first next is = next is
+or_room (Some e) b first next is = first is
+
+no_refusal : None ≡ Some NoRoom → ⊥
+no_refusal is = absurd cc
+
+pub judge_room : (s : RandomSpec) → refusal_of_random s ≡ Some NoRoom → ⊥
+unfolding refusal_of_random
+judge_room s =
+    let large : Some TooLarge ≡ Some NoRoom → ⊥ = λ is. absurd cc in
+    unless_room (int_lt (pos 0) s.n && int_le (pos 0) s.m) BadSpecs _ (λ is. absurd cc)
+    (or_room (refusal_of_range s.min s.max) (refusal_unless (is_small s) TooLarge None)
+    (unless_room (int_le s.min s.max) TooLarge _ large (unless_room (nat_lt (width s.min s.max) (2 ^ 31)) LengthRange None (λ is. absurd cc) no_refusal))
+    (unless_room (is_small s) TooLarge None large no_refusal))

@@ -1,5 +1,6 @@
 //! Random graphs from a generator, and from a seed.
 ghost use Rattle.std.specs.Prelude.{◌≡◌, ◌≤◌, ◌<◌, ◌⊎◌, [], None, Ok, Err, IfOk, IfErr, OnOk, OnErr};
+ghost use Rattle.std.specs.Result.{IsErrOf};
 ghost use Rattle.sgb_flip.specs.Generator.{IsGenerator, after, seeded};
 ghost use Rattle.sgb_plan.specs.Plan.{IsMade};
 ghost use Rattle.sgb_random.specs.Random.{course, plan_of_course, plan_of_random, refusal_of_random, size_of, wanted, begun};
@@ -36,6 +37,7 @@ pub fn random(
     ensures few_draws { IfOk result (λ made. made.1 ≤ 54420000000) }
     ensures rest { IfOk result (λ made. flip.new ≡ after flip.old made.1) }
     ensures err { IfErr result (λ e. IsMade (plan_of_random spec.now seed flip.old) (Err e)) }
+    ensures room { IsErrOf result Refusal.NoRoom → refusal_of_random spec.now ≡ None }
     ensures unchanged { OnErr result (flip.new ≡ flip.old) }
     ensures generator { IsGenerator flip.new }
 {
@@ -66,6 +68,7 @@ pub fn random_graph(
     ensures draws { IfOk result (λ made. made.2 ≡ (course spec.now (seeded seed)).draws) }
     ensures few_draws { IfOk result (λ made. made.2 ≤ 54420000000) }
     ensures err { IfErr result (λ e. IsMade (plan_of_random spec.now (Seed.Number seed) (seeded seed)) (Err e)) }
+    ensures room { IsErrOf result Refusal.NoRoom → refusal_of_random spec.now ≡ None }
 {
     let mut flip = Flip::new(seed);
     let (graph, draws) = random(alloc, &mut flip, spec, Seed::Number(seed))?;
