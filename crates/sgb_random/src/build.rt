@@ -1,0 +1,96 @@
+//! The graph of the insertions.
+ghost use Rattle.std.specs.Prelude.{◌≡◌, ◌≤◌, ◌<◌, ◌∷◌, [], All, map, None, IfOk, IfErr, length};
+ghost use Rattle.std.specs.List.{range_with_len};
+ghost use Rattle.sgb_graph.specs.Builder.{Inserts};
+ghost use Rattle.sgb_graph.specs.Graph.{n_of};
+ghost use Rattle.sgb_plan.specs.Plan.{IsMade, Names};
+ghost use Rattle.sgb_random.specs.Random.{random_id, random_plan, refusal_of_random, numbered, size_of, wanted};
+ghost use Rattle.sgb_random.specs.Private.Progress.{IsWithin, insertion_of};
+
+use crate::RandomSpec;
+use crate::progress::Edge;
+use crate::spec::wanted;
+use sgb_graph::{Builder, Graph, Label, Refusal, Text, Types, Util, VertexNo};
+use sgb_plan::{Part, Seed, dotted, id_of};
+use std::alloc::Global;
+
+// Builds the graph of `n` vertices with these arcs or edges.
+pub(crate) fn build(
+    alloc: Global,
+    spec: &RandomSpec,
+    seed: Seed,
+    n: u32,
+    edges: &[Edge],
+) -> Result<Graph, Refusal>
+    requires judged { refusal_of_random spec.now ≡ None }
+    requires size { n ≡ size_of spec.now }
+    requires ends { All (IsWithin n) (map insertion_of edges.now) }
+    ensures { IsMade (Ok (random_plan spec.now seed (map insertion_of edges.now))) result }
+{
+    let id = random_id(alloc, spec, seed, n, wanted(*spec))?;
+    let mut builder = Builder::new(alloc, id, Types::none(), spec.directed);
+    builder.reserve_vertices(n as usize)?;
+    name_vertices(&mut builder, alloc, n)?;
+    builder.reserve(edges.len())?;
+    insert_edges(&mut builder, edges)?;
+    Ok(builder.finish())
+}
+
+fn random_id(alloc: Global, spec: &RandomSpec, seed: Seed, n: u32, m: u32) -> Result<Text, Refusal>
+    requires size { n ≡ size_of spec.now }
+    requires wanted { m ≡ wanted spec.now }
+    ensures value { IfOk result (λ id. id ≡ random_id spec.now seed) }
+    ensures short { IfOk result (λ id. length id ≤ 160) }
+    ensures err { IfErr result (λ e. e ≡ Refusal.NoRoom) }
+{
+    let parts = [
+        Part::Count(n),
+        Part::Count(m),
+        Part::Number(spec.multi.signum()),
+        Part::Flag(spec.loops),
+        Part::Flag(spec.directed),
+        Part::Count(0),
+        Part::Count(0),
+        Part::Number(spec.min),
+        Part::Number(spec.max),
+        Part::Drawn(seed),
+    ];
+    id_of(alloc, "random_graph", &parts)
+}
+
+fn name_vertices(builder: &mut Builder, alloc: Global, n: u32) -> Result<(), Refusal>
+    ensures { Names builder.old builder.new (map numbered (range_with_len 0 n)) result }
+{
+    for v in 0..n {
+        let label = dotted(alloc, &[v])?;
+        let fields = [
+            Util::Zero,
+            Util::Zero,
+            Util::Zero,
+            Util::Zero,
+            Util::Zero,
+            Util::Zero,
+        ];
+        builder.push_vertex(Label::new(label), fields)?;
+    }
+    Ok(())
+}
+
+fn insert_edges(builder: &mut Builder, edges: &[Edge]) -> Result<(), Refusal>
+    requires { All (IsWithin (n_of builder.old.graph)) (map insertion_of edges.now) }
+    ensures { Inserts builder.old builder.new (map insertion_of edges.now) result }
+{
+    for edge in edges {
+        insert_edge(builder, *edge)?;
+    }
+    Ok(())
+}
+
+#[inline]
+fn insert_edge(builder: &mut Builder, edge: Edge) -> Result<(), Refusal>
+    requires from { edge.from < n_of builder.old.graph }
+    requires to { edge.to < n_of builder.old.graph }
+    ensures { Inserts builder.old builder.new (insertion_of edge ∷ []) result }
+{
+    builder.insert(VertexNo(edge.from), VertexNo(edge.to), edge.len)
+}

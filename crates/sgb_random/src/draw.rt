@@ -1,0 +1,137 @@
+//! Random graphs from a generator, and from a seed.
+ghost use Rattle.std.specs.Prelude.{◌≡◌, ◌≤◌, ◌<◌, ◌⊎◌, [], None, Ok, Err, IfOk, IfErr, OnOk, OnErr};
+ghost use Rattle.std.specs.Result.{IsErrOf};
+ghost use Rattle.sgb_flip.specs.Generator.{IsGenerator, after, seeded};
+ghost use Rattle.sgb_plan.specs.Plan.{IsMade};
+ghost use Rattle.sgb_random.specs.Random.{course, plan_of_course, plan_of_random, refusal_of_random, size_of, wanted, begun};
+ghost use Rattle.sgb_random.specs.Private.Progress.{IsIndexed, IsLengths, course_of};
+
+use crate::RandomSpec;
+use crate::attempt::attempt;
+use crate::build::build;
+use crate::progress::Progress;
+use crate::spec::{judge, repeats, vertices, wanted};
+use sgb_flip::Flip;
+use sgb_graph::{Graph, Refusal};
+use sgb_plan::{LengthRange, Seed};
+use std::alloc::Global;
+
+// After so many attempts a random graph is given up.
+const MOST_ATTEMPTS: u32 = 10_000_000;
+
+/// A random graph from the generator as it stands, and how many numbers were drawn for it. The seed only stands in the
+/// id.
+///
+/// Refused `BadSpecs` where there is no vertex or `m` is below 0; then `TooLarge` where `min` is above `max`, and
+/// `LengthRange` where they are 2^31 or more apart; then `TooLarge` where there are more than 65,535 vertices, or more
+/// than 1,000,000 numbers for the arcs or edges; and `Stuck` where 10,000,000 attempts have not made them all. After a
+/// refusal the generator is as before.
+pub fn random(
+    alloc: Global,
+    flip: &mut Flip,
+    spec: &RandomSpec,
+    seed: Seed,
+) -> Result<(Graph, u64), Refusal>
+    ensures graph { IfOk result (λ made. IsMade (plan_of_random spec.now seed flip.old) (Ok made.0)) }
+    ensures draws { IfOk result (λ made. made.1 ≡ (course spec.now flip.old).draws) }
+    ensures few_draws { IfOk result (λ made. made.1 ≤ 54420000000) }
+    ensures rest { IfOk result (λ made. flip.new ≡ after flip.old made.1) }
+    ensures err { IfErr result (λ e. IsMade (plan_of_random spec.now seed flip.old) (Err e)) }
+    ensures room { IsErrOf result Refusal.NoRoom → refusal_of_random spec.now ≡ None }
+    ensures unchanged { OnErr result (flip.new ≡ flip.old) }
+    ensures generator { IsGenerator flip.new }
+{
+    // It tells that the generator is one, also where nothing is drawn.
+    let _ = flip.unread();
+    let range = judge(*spec)?;
+    let m = wanted(*spec);
+    let pairs = if repeats(*spec) { 0 } else { m };
+    let mut progress = Progress::new(alloc, m as usize, pairs as usize)?;
+    match draw_graph(alloc, flip, spec, seed, &range, &mut progress) {
+        Ok(graph) => Ok((graph, progress.draws)),
+        Err(refusal) => {
+            flip.back_by(progress.draws);
+            Err(refusal)
+        }
+    }
+}
+
+/// A random graph from the generator of the seed, that generator behind the draws, and how many these are
+/// (`random_graph`). Refused as `random` is.
+pub fn random_graph(
+    alloc: Global,
+    spec: &RandomSpec,
+    seed: i64,
+) -> Result<(Graph, Flip, u64), Refusal>
+    ensures graph { IfOk result (λ made. IsMade (plan_of_random spec.now (Seed.Number seed) (seeded seed)) (Ok made.0)) }
+    ensures rest { IfOk result (λ made. made.1 ≡ after (seeded seed) made.2) }
+    ensures draws { IfOk result (λ made. made.2 ≡ (course spec.now (seeded seed)).draws) }
+    ensures few_draws { IfOk result (λ made. made.2 ≤ 54420000000) }
+    ensures err { IfErr result (λ e. IsMade (plan_of_random spec.now (Seed.Number seed) (seeded seed)) (Err e)) }
+    ensures room { IsErrOf result Refusal.NoRoom → refusal_of_random spec.now ≡ None }
+{
+    let mut flip = Flip::new(seed);
+    let (graph, draws) = random(alloc, &mut flip, spec, Seed::Number(seed))?;
+    Ok((graph, flip, draws))
+}
+
+// Draws the arcs or edges and builds their graph. The draws are counted also where that is refused.
+fn draw_graph(
+    alloc: Global,
+    flip: &mut Flip,
+    spec: &RandomSpec,
+    seed: Seed,
+    range: &LengthRange,
+    progress: &mut Progress,
+) -> Result<Graph, Refusal>
+    requires judged { refusal_of_random spec.now ≡ None }
+    requires range { IsLengths spec.now range.now }
+    requires fresh { course_of progress.old flip.old ≡ begun flip.old }
+    requires no_pairs { progress.old.pairs.keys ≡ [] }
+    requires generator { IsGenerator flip.old }
+    ensures made { IsMade (plan_of_course spec.now seed (course spec.now flip.old)) result }
+    ensures draws { OnOk result (progress.new.draws ≡ (course spec.now flip.old).draws) }
+    ensures rest { flip.new ≡ after flip.old progress.new.draws }
+    ensures few_draws { progress.new.draws ≤ 54420000000 }
+    ensures generator { IsGenerator flip.new }
+{
+    let n = vertices(*spec);
+    draw_all(flip, spec, n, range, progress)?;
+    build(alloc, spec, seed, n, &progress.edges)
+}
+
+// Attempts until all that is wanted is made.
+fn draw_all(
+    flip: &mut Flip,
+    spec: &RandomSpec,
+    n: u32,
+    range: &LengthRange,
+    progress: &mut Progress,
+) -> Result<(), Refusal>
+    requires judged { refusal_of_random spec.now ≡ None }
+    requires size { n ≡ size_of spec.now }
+    requires range { IsLengths spec.now range.now }
+    requires fresh { course_of progress.old flip.old ≡ begun flip.old }
+    requires no_pairs { progress.old.pairs.keys ≡ [] }
+    requires generator { IsGenerator flip.old }
+    ensures ok { OnOk result (course_of progress.new flip.new ≡ course spec.now flip.old) }
+    ensures all { OnOk result (wanted spec.now ≤ (course spec.now flip.old).made) }
+    ensures indexed { OnOk result (IsIndexed spec.now progress.new) }
+    ensures err { IfErr result (λ e. (e ≡ Refusal.NoRoom)
+        ⊎ ((e ≡ Refusal.Stuck) × ((course spec.now flip.old).made < wanted spec.now))) }
+    ensures rest { flip.new ≡ after flip.old progress.new.draws }
+    ensures few_draws { progress.new.draws ≤ 54420000000 }
+    ensures generator { IsGenerator flip.new }
+{
+    let m = wanted(*spec);
+    for _attempt in 0..MOST_ATTEMPTS {
+        if progress.made >= m {
+            return Ok(());
+        }
+        attempt(flip, spec, n, range, progress)?;
+    }
+    if progress.made < m {
+        return Err(Refusal::Stuck);
+    }
+    Ok(())
+}
