@@ -1,0 +1,2 @@
+pub mod Arrangement
+pub mod Private
