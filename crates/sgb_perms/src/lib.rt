@@ -1,0 +1,6 @@
+//! Permutations of multisets.
+#![tactic(auto)]
+
+mod spec;
+
+pub use spec::PermsSpec;
