@@ -1,2 +1,3 @@
 pub mod Filters
 pub mod Words
+pub mod Vectors
