@@ -1,3 +1,5 @@
 pub mod Filters
 pub mod Words
 pub mod Vectors
+pub mod Decoding
+pub mod Encoding
