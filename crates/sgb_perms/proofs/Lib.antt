@@ -3,3 +3,4 @@ pub mod Words
 pub mod Vectors
 pub mod Decoding
 pub mod Encoding
+pub mod Pruning
