@@ -4,3 +4,5 @@ pub mod Vectors
 pub mod Decoding
 pub mod Encoding
 pub mod Pruning
+pub mod Arranged
+pub mod Exchanging

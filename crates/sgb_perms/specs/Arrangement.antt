@@ -1,5 +1,5 @@
 -- Arrangements of a multiset, their vectors, and the order in which they are listed.
-use Rattle.std.specs.Prelude.{◌+◌, ◌-◌, ◌*◌, ◌==◌, ℕ, zero, suc, List, [], ◌∷◌, length, map, drop, swap, slice_index, sum, filter, flat_map, nat_lt, nat_le, Bool, if◌then◌else◌}
+use Rattle.std.specs.Prelude.{◌≡◌, ◌<◌, ◌+◌, ◌-◌, ◌*◌, ◌==◌, ℕ, All, zero, suc, List, [], ◌∷◌, length, map, drop, swap, slice_index, sum, filter, flat_map, nat_lt, nat_le, Bool, if◌then◌else◌}
 use Rattle.std.specs.Cmp.Lexicographic.{pointwise}
 use Rattle.std.specs.List.{range_with_len}
 
@@ -20,7 +20,12 @@ count test a = length (filter test a)
 unfoldable pub counts_from : ℕ → ℕ → List ℕ → List ℕ
 counts_from kind kinds a = map (λ k. count (λ y. y == k) a) (range_with_len kind kinds)
 
--- the lists with count j of each kind j
+-- an arrangement has count j of each kind j, and nothing else
+pub record IsArrangement (counts a : List ℕ) : Type 0 where
+  pub kinds : All (λ x. x < length counts) a
+  pub counted : counts_from 0 (length counts) a ≡ counts
+
+-- the arrangements, each once
 unfoldable pub all_arrangements : List ℕ → List (List ℕ)
 all_arrangements counts =
     filter (λ a. same_list (counts_from 0 (length counts) a) counts) (words (length counts) (sum counts))
