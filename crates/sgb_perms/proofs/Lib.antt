@@ -6,3 +6,5 @@ pub mod Encoding
 pub mod Pruning
 pub mod Arranged
 pub mod Exchanging
+pub mod Pieces
+pub mod Looking

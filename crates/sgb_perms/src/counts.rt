@@ -1,5 +1,5 @@
 //! How many elements of each kind there are, and how many inversions.
-ghost use Rattle.std.specs.Prelude.{◌≡◌, ◌⊎◌, ◌≤◌, ◌<◌, ◌*◌, false, true, length, sum, unsigned_abs, IfOk, IfErr};
+ghost use Rattle.std.specs.Prelude.{◌≡◌, ◌⊎◌, ◌≤◌, ◌<◌, ◌*◌, false, true, nat_le, length, sum, IfOk, IfErr};
 ghost use Rattle.sgb_perms.specs.Arrangement.{greatest_from};
 ghost use Rattle.sgb_perms.specs.Perms.{numbers_of, counts_of, are_allowed, most_of};
 
