@@ -8,3 +8,4 @@ pub mod Arranged
 pub mod Exchanging
 pub mod Pieces
 pub mod Looking
+pub mod Runs

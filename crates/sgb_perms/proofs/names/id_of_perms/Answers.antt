@@ -1,4 +1,5 @@
-use Rattle.std.proofs.Common.{◌≡◌, ℕ, ℤ, List, [], ◌∷◌, codes, decimal, Bool, if◌then◌else◌, IfOk, refl, ap, subst, ◌∙◌}
+use Rattle.std.proofs.Common.{◌≡◌, ℕ, ℤ, List, [], ◌∷◌, codes, decimal, Bool, if◌then◌else◌, IfOk, ap, subst, ◌∙◌, to_z, of_z, w64}
+use Rattle.std.proofs.lemmas.Int.{to_z-of_z}
 use Rattle.std.specs.Fmt.{signed_decimal}
 use Rattle.sgb_plan.specs.Id.{id_of}
 use Rattle.sgb_plan.specs.Listing.{shown, shown_at}
@@ -20,9 +21,19 @@ id_shown s most ns a b c d e are one two three four five =
     ∙ (ap (λ x. id_with s most (shown_at (numbers_of s) 0) (shown_at (numbers_of s) 1) (shown_at (numbers_of s) 2) x e) (four ∙ ap (λ m. shown_at m 3) are)
     ∙ ap (λ x. id_with s most (shown_at (numbers_of s) 0) (shown_at (numbers_of s) 1) (shown_at (numbers_of s) 2) (shown_at (numbers_of s) 3) x) (five ∙ ap (λ m. shown_at m 4) are))))
 
+-- a number as its bits show it
+abbrev seen : ℤ → ℤ
+seen z = to_z w64 (of_z w64 z)
+
 pub returns-clause-value : goal.returns-clause-value
 returns-clause-value c =
     subst (λ t. IfOk c.id_of.result (λ id. id ≡ t))
-    (id_shown c.args.spec.now c.args.most c.numbers_of-numbers.result c.shown_at.result c.shown_at-2.result c.shown_at-3.result c.shown_at-4.result c.shown_at-5.result
-    c.numbers_of-numbers.ensures c.shown_at.ensures c.shown_at-2.ensures c.shown_at-3.ensures c.shown_at-4.ensures c.shown_at-5.ensures)
+    (id_shown c.args.spec.now c.args.most c.numbers_of-numbers.result
+    (seen c.shown_at.result) (seen c.shown_at-2.result) (seen c.shown_at-3.result) (seen c.shown_at-4.result) (seen c.shown_at-5.result)
+    c.numbers_of-numbers.ensures
+    (to_z-of_z w64 c.shown_at.result c.shown_at.type_inv ∙ c.shown_at.ensures)
+    (to_z-of_z w64 c.shown_at-2.result c.shown_at-2.type_inv ∙ c.shown_at-2.ensures)
+    (to_z-of_z w64 c.shown_at-3.result c.shown_at-3.type_inv ∙ c.shown_at-3.ensures)
+    (to_z-of_z w64 c.shown_at-4.result c.shown_at-4.type_inv ∙ c.shown_at-4.ensures)
+    (to_z-of_z w64 c.shown_at-5.result c.shown_at-5.type_inv ∙ c.shown_at-5.ensures))
     c.id_of.ensures.value
