@@ -1,5 +1,5 @@
 //! How many elements of each kind there are, and how many inversions.
-ghost use Rattle.std.specs.Prelude.{◌≡◌, ◌⊎◌, ◌≤◌, ◌<◌, ◌*◌, false, true, nat_le, length, sum, IfOk, IfErr};
+ghost use Rattle.std.specs.Prelude.{◌≡◌, ◌⊎◌, ◌≤◌, ◌<◌, ◌&&◌, false, true, pos, int_le, nat_le, length, sum, IfOk, IfErr};
 ghost use Rattle.sgb_perms.specs.Arrangement.{greatest_from};
 ghost use Rattle.sgb_perms.specs.Perms.{numbers_of, counts_of, are_allowed, most_of};
 
@@ -22,7 +22,7 @@ pub(crate) fn counts_of(alloc: Global, spec: &PermsSpec) -> Result<Vec<u64>, Ref
     ensures err { IfErr result (λ e. (e ≡ Refusal.NoRoom) ⊎
         ((e ≡ Refusal.BadSpecs) × (are_allowed spec.now.n0 spec.now.max_inv (counts_of spec.now) ≡ false))) }
 {
-    if spec.n0 < 1 || spec.max_inv < 0 {
+    if !is_in_range(spec) {
         return Err(Refusal::BadSpecs);
     }
     let counts = list_of(alloc, &numbers_of(spec), 1, MOST_KINDS)?;
@@ -30,6 +30,13 @@ pub(crate) fn counts_of(alloc: Global, spec: &PermsSpec) -> Result<Vec<u64>, Ref
         return Err(Refusal::BadSpecs);
     }
     Ok(counts)
+}
+
+// There is an element of kind 0, and the limit is not below 0.
+fn is_in_range(spec: &PermsSpec) -> bool
+    ensures { result ≡ (int_le (pos 1) spec.now.n0 && int_le (pos 0) spec.now.max_inv) }
+{
+    spec.n0 >= 1 && spec.max_inv >= 0
 }
 
 // The numbers of the kinds as they were given.

@@ -1,9 +1,9 @@
-use Rattle.std.proofs.Common.{◌≡◌, ◌<◌, ◌≤◌, ℕ, ℤ, pos, negsuc, suc, zero, List, [], ◌∷◌, length, sum, drop, Bool, true, false, nat_le, int_le, int_lt, ◌&&◌, cond, ◌⊎◌, inl, inr, refl, ap, sym, ◌∙◌, arith, to_z, of_z, w64}
+use Rattle.std.proofs.Common.{◌≡◌, ◌<◌, ◌≤◌, ℕ, ℤ, pos, negsuc, suc, zero, List, [], ◌∷◌, length, sum, drop, Bool, true, false, nat_le, int_le, int_lt, ◌&&◌, if◌then◌else◌, ◌==◌, ◌⊎◌, inl, inr, refl, ap, sym, ◌∙◌, arith, to_z, of_z, w64}
 use Rattle.std.proofs.lemmas.Int.{to_z-of_z}
 use Rattle.sgb_graph.specs.declared.refusal.Refusal.{Refusal}
 use Rattle.sgb_graph.specs.declared.refusal.Refusal.TheVariants.{NoRoom, BadSpecs}
 use Rattle.sgb_plan.specs.Listing.{leading, count_of, count_from, listed, listed_at}
-use Rattle.std.proofs.lemmas.Bool.{false≢true, and_left, and_right, lt-leb}
+use Rattle.std.proofs.lemmas.Bool.{false≢true, and_parts, and_left, and_right, lt-leb, lt-ltb, ne_eqb}
 use Rattle.std.proofs.lemmas.List.FromFn.{length-map-range_with_len}
 use Rattle.std.proofs.lemmas.Result.{err_from_is_err_and}
 use Rattle.sgb_perms.specs.declared.spec.PermsSpec.{PermsSpec}
@@ -32,10 +32,16 @@ behind_some before [] some = some
 behind_some before (pos n ∷ ns) some = some
 behind_some before (negsuc d ∷ ns) some = omega arith
 
-first_listed : (n : ℤ) (ns : List ℤ) → int_lt n (pos 1) ≡ false → 0 < count_of 1 (n ∷ ns)
-first_listed (pos zero) ns above = absurd (false≢true (sym above))
-first_listed (pos (suc n)) ns above = ?
-first_listed (negsuc n) ns above = absurd (false≢true (sym above))
+count_some : (before : ℕ) (ns : List ℤ) → 0 < before → 0 < (if before == 0 then 0 else count_from 1 before (drop before ns))
+count_some before ns some = rw (ne_eqb before 0 (λ none. omega arith)) (behind_some before (drop before ns) some)
+
+first_listed : (n : ℤ) (ns : List ℤ) → int_le (pos 1) n ≡ true → 0 < count_of 1 (n ∷ ns)
+first_listed (pos zero) ns above = absurd (false≢true above)
+first_listed (pos (suc n)) ns above =
+    let positive : int_lt (pos 0) (pos (suc n)) ≡ true = lt-ltb 0 (suc n) (omega arith) in
+    let some : 0 < leading (pos (suc n) ∷ ns) = rw positive (omega arith) in
+    count_some (leading (pos (suc n) ∷ ns)) (pos (suc n) ∷ ns) some
+first_listed (negsuc n) ns above = absurd (false≢true above)
 
 pub returns-in_err-counts-clause-err : goal.returns-in_err-counts-clause-err
 returns-in_err-counts-clause-err c =
@@ -45,8 +51,10 @@ returns-in_err-counts-clause-err c =
 pub returns-clause-some : goal.returns-clause-some
 returns-clause-some c =
     let s = c.args.spec.now in
-    let above : int_lt s.n0 (pos 1) ≡ false = ap (λ z. int_lt z (pos 1)) (sym (to_z-of_z w64 s.n0 ?)) ∙ c.if-spec-lt1.false in
-    let some = first_listed s.n0 (drop 1 (numbers_of s)) above in
+    let allowed : (int_le (pos 1) s.n0 && int_le (pos 0) s.max_inv) ≡ true = sym c.is_in_range.ensures ∙ c.if-not-is_in_range.false in
+    let above = (and_parts (int_le (pos 1) s.n0) (int_le (pos 0) s.max_inv) allowed).0 in
+    let some : 0 < count_of 1 (numbers_of s) = first_listed s.n0 (drop 1 (numbers_of s)) above in
     let long = length-listed 1 (numbers_of s) in
-    let listed_so = ap length (c.in_ok-counts.ensures.list ∙ ap (listed 1) c.numbers_of.ensures) in
+    let listed_so : length c.in_ok-counts.counts.items ≡ length (listed 1 (numbers_of s)) =
+        ap length (c.in_ok-counts.ensures.list ∙ ap (listed 1) c.numbers_of.ensures) in
     omega (arith, some, long, listed_so)
