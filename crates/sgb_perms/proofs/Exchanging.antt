@@ -35,6 +35,7 @@ record Around (a : List ℕ) (place : ℕ) : Type 0 where
   y : ℕ
   before : a ≡ front ++ x ∷ y ∷ back
   after : exchanged a place ≡ front ++ y ∷ x ∷ back
+  at : length front ≡ place
   greater : is_descent a place ≡ true → y < x
 
 around : (a : List ℕ) (place : ℕ) → place + 1 < length a → Around a place
@@ -50,6 +51,7 @@ around a place within =
       front = front; back = back; x = x; y = y;
       before = whole;
       after = ap (λ l. exchanged l place) whole ∙ swap_apart front x y back place (length-take-le place a (omega arith));
+      at = length-take-le place a (omega arith);
       greater = λ is. ltb-true y x is;
     }
 
@@ -152,3 +154,9 @@ place_within rows a (k, less, is) =
           absurd (false≢true
           (sym (fails_before_first (same_list a) rows k a (omega arith)) ∙ test_from_same a (get_or rows k a) (sym is)))
     ]
+
+pub exchanged_back : (a : List ℕ) (place : ℕ) → place + 1 < length a → exchanged (exchanged a place) place ≡ a
+exchanged_back a place within =
+    let s = around a place within in
+    let long : length s.front ≡ place = s.at in
+    ap (λ l. exchanged l place) s.after ∙ (swap_apart s.front s.y s.x s.back place long ∙ sym s.before)

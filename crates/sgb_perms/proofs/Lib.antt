@@ -9,3 +9,4 @@ pub mod Exchanging
 pub mod Pieces
 pub mod Looking
 pub mod Runs
+pub mod Moves

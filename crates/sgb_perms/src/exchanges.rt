@@ -43,6 +43,7 @@ fn insert_from(
 ) -> Result<(), Refusal>
     requires vertex { from.0 < n_of builder.old.graph }
     requires vertices { n_of builder.old.graph ≡ length (shown_by places.now.keys) }
+    requires few { n_of builder.old.graph ≤ 65535 }
     requires closed { LeadsWithin (shown_by places.now.keys) row.old }
     ensures { Inserts builder.old builder.new (exchanges_of (shown_by places.now.keys) from.0 row.old) result }
 {

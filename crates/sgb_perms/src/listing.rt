@@ -17,10 +17,11 @@ pub(crate) fn list_arrangements(alloc: Global, counts: &[u64], most: usize) -> R
     ensures err { IfErr result (λ e. (e ≡ Refusal.NoRoom) ⊎
         ((e ≡ Refusal.TooLarge) × (65535 < length (arrangements counts.now most)))) }
 {
-    let (zeros, others) = counts.split_first().unwrap();
+    let zeros = counts[0];
+    let others = &counts[1..];
     let width = width_of(counts);
     let mut row = Vec::with_capacity(alloc, width)?;
-    row.resize(*zeros as usize, 0)?;
+    row.resize(zeros as usize, 0)?;
     let mut rows = Rows::new(alloc, width);
     list_rows(&mut rows, &mut row, 0, 0, others, 0, most)?;
     Ok(rows)
