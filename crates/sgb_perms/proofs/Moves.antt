@@ -1,7 +1,7 @@
 -- Lemmas on the exchanges that are inserted.
 use Rattle.std.proofs.Common.{◌≡◌, ◌<◌, ◌≤◌, ◌+◌, ◌-◌, ℕ, List, [], ◌∷◌, length, get_or, map, Bool, true, false, cond, All, Contains, refl, sym, ap, ap₂, subst, ◌∙◌, arith, pos}
 use Rattle.std.specs.List.{flat_map, range_with_len, swap}
-use Rattle.std.proofs.lemmas.Bool.{cond-true, cond-false}
+use Rattle.std.proofs.lemmas.Bool.{cond-true, cond-false, lt-ltb, le-ltb}
 use Rattle.std.proofs.lemmas.List.Elements.{Contains-get_or}
 use Rattle.std.proofs.lemmas.List.Edits.{length-swap}
 use Rattle.sgb_graph.specs.Builder.{Insertion, insertion}
@@ -10,7 +10,7 @@ use Rattle.sgb_graph.specs.declared.builder.Builder.{Builder}
 use Rattle.sgb_perms.specs.Arrangement.{is_descent, descents, exchanged, arrangements}
 use Rattle.sgb_perms.specs.Perms.{exchange, exchanges_of, place_of, row_at}
 use Rattle.sgb_perms.specs.Private.Places.{LeadsWithin, IsClosed}
-use Rattle.sgb_perms.proofs.Exchanging.{exchange_listed, place_within}
+use Rattle.sgb_perms.proofs.Exchanging.{exchange_listed, place_within, exchanged_back}
 
 -- the exchange at a place, where there is one
 abbrev pub move_at : List (List ℕ) → ℕ → List ℕ → ℕ → List Insertion
@@ -37,3 +37,19 @@ closed zeros counts most v less place low descends =
     let rows = arrangements (zeros ∷ counts) most in
     place_within rows (exchanged (row_at rows v) place)
     (exchange_listed zeros counts most (row_at rows v) place (Contains-get_or rows v [] less) low descends)
+
+-- ---- as they are met in a row that is, for now, another list of the same elements
+pub descends_so : (row a : List ℕ) (place : ℕ) → row ≡ a → get_or row (place + 1) 0 < get_or row place 0 → is_descent a place ≡ true
+descends_so row a place same less =
+    lt-ltb (get_or a (place + 1) 0) (get_or a place 0) (subst (λ r. get_or r (place + 1) 0 < get_or r place 0) same less)
+
+pub rises_so : (row a : List ℕ) (place : ℕ) → row ≡ a → get_or row place 0 ≤ get_or row (place + 1) 0 → is_descent a place ≡ false
+rises_so row a place same le =
+    le-ltb (get_or a (place + 1) 0) (get_or a place 0) (subst (λ r. get_or r place 0 ≤ get_or r (place + 1) 0) same le)
+
+pub place_so : (rows : List (List ℕ)) (row after a : List ℕ) (place to : ℕ) → row ≡ a → after ≡ exchanged row place → to ≡ place_of rows after → to ≡ place_of rows (exchanged a place)
+place_so rows row after a place to same put is = is ∙ ap (place_of rows) (put ∙ ap (λ r. exchanged r place) same)
+
+pub row_back : (row after last a : List ℕ) (place : ℕ) → place + 1 < length a → row ≡ a → after ≡ exchanged row place → last ≡ exchanged after place → last ≡ a
+row_back row after last a place within same put back =
+    back ∙ (ap (λ r. exchanged r place) (put ∙ ap (λ r. exchanged r place) same) ∙ exchanged_back a place within)
