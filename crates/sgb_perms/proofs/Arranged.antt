@@ -1,19 +1,19 @@
 -- The arrangements are those that the code lists.
-use Rattle.std.proofs.Common.{◌≡◌, ◌≢◌, ◌<◌, ◌≤◌, ◌+◌, ◌-◌, ℕ, zero, suc, List, [], ◌∷◌, ◌++◌, length, get_or, drop, map, replicate, Bool, true, false, ◌==◌, nat_lt, nat_le, cond, All, Contains, inl, inr, refl, sym, ap, ap₂, subst, ◌∙◌, arith}
-use Rattle.std.specs.List.{flat_map, filter, list_all, sum}
-use Rattle.std.proofs.lemmas.Bool.{false≢true, cases_Bool, ltb-true, lt-ltb, leb-true, le-leb}
+use Rattle.std.proofs.Common.{◌≡◌, ◌<◌, ◌≤◌, ◌+◌, ◌-◌, ℕ, zero, suc, List, [], ◌∷◌, length, get_or, drop, map, replicate, Bool, true, false, ◌==◌, nat_lt, nat_le, cond, All, Contains, inl, inr, refl, sym, ap, ap₂, subst, ◌∙◌, arith}
+use Rattle.std.specs.List.{filter, list_all, sum}
+use Rattle.std.proofs.lemmas.Bool.{cases_Bool, ltb-true, lt-ltb, leb-true, le-leb}
 use Rattle.std.proofs.lemmas.List.{length-replicate, length-append, map-id}
 use Rattle.std.proofs.lemmas.List.Elements.{All-weaker, All-contains, filter_passes}
 use Rattle.std.proofs.lemmas.List.Folds.{list_all-append}
 use Rattle.std.proofs.lemmas.List.Sums.{sum_by-cons, length-filter, count_by-le-length, AllPass-from_list_all, list_all-from_AllPass}
 use Rattle.std.proofs.lemmas.Slice.Eq.{bytes_eq-Decides}
-use Rattle.std.proofs.lemmas.Bool.{and_parts, and_from, eq-eqb, le-ltb}
+use Rattle.std.proofs.lemmas.Bool.{and_from, le-ltb}
 use Rattle.sgb_graph.proofs.Inserting.{flat_map-filter}
 use Rattle.sgb_plan.specs.Distinct.{Distinct}
 use Rattle.sgb_plan.proofs.Distincts.{Distinct-filter, Distinct-flat_map}
 use Rattle.sgb_perms.specs.Arrangement.{words, same_list, count, counts_from, IsArrangement, all_arrangements, smaller_right, vector_from, vector_of, vectors, arrangements}
 use Rattle.sgb_perms.specs.Private.Listed.{rows_from}
-use Rattle.sgb_perms.proofs.Filters.{filter_all, filter_none, filter_one, OnlyOne, All-from_contains, list_all-weaker, Contains-filter, Contains-from_filter, Contains-flat_map, Contains-from_flat_map}
+use Rattle.sgb_perms.proofs.Filters.{filter_none, filter_one, OnlyOne, All-from_contains, list_all-weaker, Contains-filter, Contains-from_filter, Contains-flat_map, Contains-from_flat_map}
 use Rattle.sgb_perms.proofs.Words.{IsWord, words_have, words_are, words_differ}
 use Rattle.sgb_perms.proofs.Vectors.{below, at, AllBelow, all_kept, kept_at, below_weaker, sum_counts, length-smaller_right}
 use Rattle.sgb_perms.proofs.Decoding.{decoded, decoded_one, decoded_is}
@@ -47,7 +47,7 @@ all_have counts a is =
     let none = none_below_zero a in
     let same : 0 + length counts ≡ length counts = omega arith in
     let all : count (below (0 + length counts)) a ≡ length a =
-        ap (λ n. count (below n) a) same ∙ ap length (all_kept (length counts) a low) in
+    ap (λ n. count (below n) a) same ∙ ap length (all_kept (length counts) a low) in
     let sums : sum (counts_from 0 (length counts) a) ≡ sum counts = ap sum is.counted in
     Contains-filter (λ b. same_list (counts_from 0 (length counts) b) counts) (words (length counts) (sum counts)) a
     (words_have (length counts) (sum counts) a (record { long = omega (arith, total, none, all, sums); low = low.all }))
@@ -58,7 +58,7 @@ unfolding all_arrangements
 all_are counts a within =
     let both = Contains-from_filter (λ b. same_list (counts_from 0 (length counts) b) counts) (words (length counts) (sum counts)) a within in
     let word : IsWord (length counts) (sum counts) a =
-        All-contains (IsWord (length counts) (sum counts)) (words (length counts) (sum counts)) a (words_are (length counts) (sum counts)) both.0 in
+    All-contains (IsWord (length counts) (sum counts)) (words (length counts) (sum counts)) a (words_are (length counts) (sum counts)) both.0 in
     record {
       kinds = below_are_kinds (length counts) a (record { all = word.low });
       counted = same_from_test (counts_from 0 (length counts) a) counts both.1;
@@ -92,12 +92,12 @@ from_decoded zeros cs v a made =
     let one_on : 1 + length cs ≡ suc (length cs) = omega arith in
     let others : suc (length cs) - 1 ≡ length cs = omega arith in
     let first : count (at 0) a ≡ zeros =
-        ap length (sym (kept_at 0 1 (omega arith) a)) ∙ (ap (count (at 0)) d.kept ∙ start_count zeros) in
+    ap length (sym (kept_at 0 1 (omega arith) a)) ∙ (ap (count (at 0)) d.kept ∙ start_count zeros) in
     record {
       is = record {
-          kinds = below_are_kinds (suc (length cs)) a (subst (λ n. AllBelow n a) one_on d.low);
-          counted = ap₂ (λ n ns. n ∷ ns) first d.counted;
-        };
+        kinds = below_are_kinds (suc (length cs)) a (subst (λ n. AllBelow n a) one_on d.low);
+        counted = ap₂ (λ n ns. n ∷ ns) first d.counted;
+      };
       vector = ap (λ n. vector_from 1 n a) others ∙ d.vector;
     }
 
@@ -124,8 +124,8 @@ having_is zeros cs v =
     let counts = zeros ∷ cs in
     let p : List ℕ → Bool = λ a. same_list (vector_of counts a) v in
     let back : (a : List ℕ) → Contains (all_arrangements counts) a → p a ≡ true → decoded 1 cs (start zeros) v ≡ a ∷ [] =
-        λ a within passes.
-        ap (decoded 1 cs (start zeros)) (sym (same_from_test (vector_of counts a) v passes)) ∙ to_decoded zeros cs a (all_are counts a within) in
+    λ a within passes.
+    ap (decoded 1 cs (start zeros)) (sym (same_from_test (vector_of counts a) v passes)) ∙ to_decoded zeros cs a (all_are counts a within) in
     elim (decoded_one 1 cs (start zeros) v) [
       | inl none ↦
           filter_none p (all_arrangements counts)
@@ -139,13 +139,13 @@ having_is zeros cs v =
       | inr one ↦
           let t = from_decoded zeros cs v one.0 one.1 in
           let only : OnlyOne p (all_arrangements counts) one.0 =
-              record {
-                within = all_have counts one.0 t.is;
-                passes = test_from_same (vector_of counts one.0) v t.vector;
-                only = λ b within passes.
-                    let same : one.0 ∷ [] ≡ b ∷ [] = sym one.1 ∙ back b within passes in
-                    let equal : one.0 ≡ b = cc in sym equal;
-              } in
+          record {
+            within = all_have counts one.0 t.is;
+            passes = test_from_same (vector_of counts one.0) v t.vector;
+            only = λ b within passes.
+                let same : one.0 ∷ [] ≡ b ∷ [] = sym one.1 ∙ back b within passes in
+                let equal : one.0 ≡ b = cc in sym equal;
+          } in
           filter_one p (all_arrangements counts) one.0 (all_differ counts) only ∙ sym one.1
     ]
 
@@ -158,7 +158,7 @@ arrangements_are zeros cs most =
     let long : length (start zeros) ≡ zeros = length-replicate zeros 0 in
     flat_map-filter (having counts) (λ v. nat_le (sum v) most) (words (sum counts) (sum cs))
     ∙ (flat_map_agree (told most (having counts)) (told most (decoded 1 cs (start zeros)))
-      (λ v. ap (λ ds. cond (nat_le (sum v) most) ds []) (having_is zeros cs v)) (words (sum counts) (sum cs))
+    (λ v. ap (λ ds. cond (nat_le (sum v) most) ds []) (having_is zeros cs v)) (words (sum counts) (sum cs))
     ∙ pruned (sum counts) 1 cs most (start zeros) (omega arith))
 
 -- ---- laws
@@ -167,8 +167,8 @@ unfolding arrangements vectors
 arrangements_differ counts most =
     let vs = filter (λ v. nat_le (sum v) most) (words (sum counts) (sum (drop 1 counts))) in
     let names : Distinct (map (λ (v : List ℕ). v) vs) =
-        subst Distinct (sym (map-id vs))
-        (Distinct-filter (λ v. nat_le (sum v) most) (words (sum counts) (sum (drop 1 counts))) (words_differ (sum counts) (sum (drop 1 counts)))) in
+    subst Distinct (sym (map-id vs))
+    (Distinct-filter (λ v. nat_le (sum v) most) (words (sum counts) (sum (drop 1 counts))) (words_differ (sum counts) (sum (drop 1 counts)))) in
     Distinct-flat_map (having counts) (vector_of counts) (λ v. v) vs names
     (λ v.
     All-weaker (λ a. same_list (vector_of counts a) v ≡ true) (λ a. vector_of counts a ≡ v) (λ a. same_from_test (vector_of counts a) v)
@@ -233,18 +233,18 @@ listed_has zeros cs most a is =
     let v = vector_of counts a in
     let inside = all_have counts a is.arrangement in
     let word : IsWord (suc (length cs)) (sum counts) a =
-        All-contains (IsWord (suc (length cs)) (sum counts)) (words (suc (length cs)) (sum counts)) a (words_are (suc (length cs)) (sum counts))
-        (Contains-from_filter (λ b. same_list (counts_from 0 (suc (length cs)) b) counts) (words (suc (length cs)) (sum counts)) a inside).0 in
+    All-contains (IsWord (suc (length cs)) (sum counts)) (words (suc (length cs)) (sum counts)) a (words_are (suc (length cs)) (sum counts))
+    (Contains-from_filter (λ b. same_list (counts_from 0 (suc (length cs)) b) counts) (words (suc (length cs)) (sum counts)) a inside).0 in
     let counted : counts_from 0 (suc (length cs)) a ≡ zeros ∷ cs = is.arrangement.counted in
     let later : counts_from 1 (length cs) a ≡ cs = cc in
     let others : suc (length cs) - 1 ≡ length cs = omega arith in
     let long : length v ≡ sum cs =
-        ap (λ n. length (vector_from 1 n a)) others ∙ (length-vector 1 (length cs) a ∙ ap sum later) in
+    ap (λ n. length (vector_from 1 n a)) others ∙ (length-vector 1 (length cs) a ∙ ap sum later) in
     let low : list_all (below (sum counts)) v ≡ true = ap (λ n. list_all (below n) v) (sym word.long) ∙ short_vector 1 (suc (length cs) - 1) a in
     let fits : Contains (filter (λ w. nat_le (sum w) most) (words (sum counts) (sum cs))) v =
-        Contains-filter (λ w. nat_le (sum w) most) (words (sum counts) (sum cs)) v
-        (words_have (sum counts) (sum cs) v (record { long = long; low = low }))
-        (le-leb (sum v) most is.within) in
+    Contains-filter (λ w. nat_le (sum w) most) (words (sum counts) (sum cs)) v
+    (words_have (sum counts) (sum cs) v (record { long = long; low = low }))
+    (le-leb (sum v) most is.within) in
     Contains-flat_map (having counts) (filter (λ w. nat_le (sum w) most) (words (sum counts) (sum cs))) v a fits
     (Contains-filter (λ b. same_list (vector_of counts b) v) (all_arrangements counts) a inside (test_from_same v v refl))
 
@@ -252,5 +252,5 @@ listed_has zeros cs most a is =
 pub vector_tells : (zeros : ℕ) (cs a b : List ℕ) → IsArrangement (zeros ∷ cs) a → IsArrangement (zeros ∷ cs) b → vector_of (zeros ∷ cs) a ≡ vector_of (zeros ∷ cs) b → a ≡ b
 vector_tells zeros cs a b one other same =
     let both : a ∷ [] ≡ b ∷ [] =
-        sym (to_decoded zeros cs a one) ∙ (ap (decoded 1 cs (start zeros)) same ∙ to_decoded zeros cs b other) in
+    sym (to_decoded zeros cs a one) ∙ (ap (decoded 1 cs (start zeros)) same ∙ to_decoded zeros cs b other) in
     cc

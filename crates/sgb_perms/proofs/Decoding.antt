@@ -1,14 +1,14 @@
 -- The arrangement that a vector tells, and that it has this vector.
-use Rattle.std.proofs.Common.{◌≡◌, ◌≢◌, ◌<◌, ◌≤◌, ◌+◌, ◌-◌, ℕ, zero, suc, List, [], ◌∷◌, ◌++◌, length, take, drop, map, Bool, true, false, ◌==◌, nat_lt, nat_le, ◌&&◌, cond, ◌⊎◌, inl, inr, refl, sym, ap, ap₂, subst, ◌∙◌, arith, append_assoc}
-use Rattle.std.specs.List.{flat_map, filter, list_all, range_with_len, sum, insert}
-use Rattle.std.proofs.lemmas.Bool.{false≢true, cases_Bool, and_parts, and_from, leb-true, lt-ltb}
-use Rattle.std.proofs.lemmas.List.{append-nil, length-append, length-drop, length-take, length-take-le, take-append-drop, drop-drop, drop_at}
+use Rattle.std.proofs.Common.{◌≡◌, ◌≤◌, ◌+◌, ◌-◌, ℕ, zero, suc, List, [], ◌∷◌, ◌++◌, length, take, drop, nat_lt, nat_le, cond, ◌⊎◌, inl, inr, refl, sym, ap, ap₂, subst, ◌∙◌, arith, append_assoc}
+use Rattle.std.specs.List.{filter, list_all}
+use Rattle.std.proofs.lemmas.Bool.{cases_Bool, and_from, leb-true, lt-ltb}
+use Rattle.std.proofs.lemmas.List.{append-nil, length-append, length-drop, length-take-le, take-append-drop, drop-drop, drop_at}
 use Rattle.std.proofs.lemmas.List.Edits.{length-insert}
 use Rattle.std.proofs.lemmas.List.Folds.{list_all-append}
-use Rattle.sgb_perms.specs.Arrangement.{count, counts_from, smaller_right, vector_from}
+use Rattle.sgb_perms.specs.Arrangement.{counts_from, smaller_right, vector_from}
 use Rattle.sgb_perms.specs.Private.Listed.{placed}
 use Rattle.sgb_perms.proofs.Filters.{list_all-drop, list_all-take}
-use Rattle.sgb_perms.proofs.Vectors.{below, at, AllBelow, AllBelow-more, kept_below, kept_at, all_kept, kept_insert, length-smaller_right, smaller_right-kept, smaller_right-none, smaller_right-insert}
+use Rattle.sgb_perms.proofs.Vectors.{below, AllBelow, AllBelow-more, kept_below, all_kept, kept_insert, length-smaller_right, smaller_right-kept, smaller_right-none, smaller_right-insert}
 
 -- ---- the arrangement of a vector: each number tells where a copy of its kind is inserted
 unfoldable pub copies_of : ℕ → ℕ → (List ℕ → List ℕ → List (List ℕ)) → ℕ → List ℕ → List ℕ → List (List ℕ)
@@ -60,7 +60,7 @@ ready_less : (k right x : ℕ) (row : List ℕ) → x ≤ right → IsReady k ri
 ready_less k right x row less is =
     let within = is.within in
     let same : drop (right - x) (drop (length row - right) row) ≡ drop (length row - x) row =
-        drop-drop (right - x) (length row - right) row ∙ ap (λ n. drop n row) (omega arith) in
+    drop-drop (right - x) (length row - right) row ∙ ap (λ n. drop n row) (omega arith) in
     record {
       within = omega arith;
       behind = record { all = ap (list_all (below k)) (sym same) ∙ list_all-drop (below k) (right - x) (drop (length row - right) row) is.behind.all };
@@ -88,10 +88,10 @@ ready_placed k x row is =
     let within = is.within in
     let long = length-placed row k x in
     let front : length (take m row ++ k ∷ []) ≡ length (placed row k x) - x =
-        length-append (take m row) (k ∷ []) ∙ omega (arith, length-take-le m row (omega arith)) in
+    length-append (take m row) (k ∷ []) ∙ omega (arith, length-take-le m row (omega arith)) in
     let behind : drop (length (placed row k x) - x) (placed row k x) ≡ drop m row =
-        ap (drop (length (placed row k x) - x)) (sym (append_assoc (take m row) (k ∷ []) (drop m row)))
-        ∙ drop_at (take m row ++ k ∷ []) (drop m row) (length (placed row k x) - x) front in
+    ap (drop (length (placed row k x) - x)) (sym (append_assoc (take m row) (k ∷ []) (drop m row)))
+    ∙ drop_at (take m row ++ k ∷ []) (drop m row) (length (placed row k x) - x) front in
     record {
       within = omega arith;
       behind = record { all = ap (list_all (below k)) behind ∙ is.behind.all };
@@ -128,8 +128,15 @@ copies_are : (n k : ℕ) (next : List ℕ → List ℕ → List (List ℕ)) (rig
 unfolding copies_of
 copies_are zero k next right row v a ready made =
     record {
-      numbers = []; rest = v; after = row; vector = refl; long = refl; made = made;
-      right = sym (append-nil (smaller_right k row)); kept = refl; low = ready.low;
+      numbers = [];
+      rest = v;
+      after = row;
+      vector = refl;
+      long = refl;
+      made = made;
+      right = sym (append-nil (smaller_right k row));
+      kept = refl;
+      low = ready.low;
     }
 copies_are (suc n) k next right row [] a ready made = absurd (let wrong : [] ≡ a ∷ [] = made in cc)
 copies_are (suc n) k next right row (x ∷ v) a ready made =
@@ -139,7 +146,9 @@ copies_are (suc n) k next right row (x ∷ v) a ready made =
           let made_so : copies_of n k next x (placed row k x) v ≡ a ∷ [] = rw low at made in
           let c = copies_are n k next x (placed row k x) v a (ready_placed k x row fits) made_so in
           record {
-            numbers = x ∷ c.numbers; rest = c.rest; after = c.after;
+            numbers = x ∷ c.numbers;
+            rest = c.rest;
+            after = c.after;
             vector = ap (λ w. x ∷ w) c.vector;
             long = ap suc c.long;
             made = c.made;
@@ -178,9 +187,9 @@ decoded_is k (c ∷ counts) row v a small made =
     let d = decoded_is (k + 1) counts cs.after cs.rest a cs.low cs.made in
     let more : k + 1 + length counts ≡ k + suc (length counts) = omega arith in
     let mine : smaller_right k a ≡ cs.numbers =
-        sym (smaller_right-kept k (k + 1) (omega arith) a)
-        ∙ (ap (smaller_right k) d.kept
-        ∙ (cs.right ∙ ap (λ w. w ++ cs.numbers) (smaller_right-none k row small))) in
+    sym (smaller_right-kept k (k + 1) (omega arith) a)
+    ∙ (ap (smaller_right k) d.kept
+    ∙ (cs.right ∙ ap (λ w. w ++ cs.numbers) (smaller_right-none k row small))) in
     record {
       kept =
           sym (kept_below k (k + 1) (omega arith) a)

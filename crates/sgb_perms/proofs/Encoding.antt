@@ -1,7 +1,7 @@
 -- The vector of an arrangement tells the arrangement.
-use Rattle.std.proofs.Common.{◌≡◌, ◌≢◌, ◌<◌, ◌≤◌, ◌+◌, ◌-◌, ℕ, zero, suc, List, [], ◌∷◌, ◌++◌, length, take, drop, map, replicate, Bool, true, false, ◌==◌, nat_lt, nat_le, ◌&&◌, cond, ◌⊎◌, inl, inr, refl, sym, ap, ap₂, subst, ◌∙◌, arith, append_assoc}
-use Rattle.std.specs.List.{flat_map, filter, list_all, range_with_len, sum, insert}
-use Rattle.std.proofs.lemmas.Bool.{false≢true, cases_Bool, cases_order, and_parts, and_from, leb-true, le-leb, lt-ltb, le-ltb, ltb-true, eq-eqb, ne_eqb}
+use Rattle.std.proofs.Common.{◌≡◌, ◌≤◌, ◌+◌, ◌-◌, ℕ, zero, suc, List, [], ◌∷◌, ◌++◌, length, replicate, Bool, true, nat_le, ◌&&◌, inl, inr, refl, sym, ap, ap₂, ◌∙◌, arith}
+use Rattle.std.specs.List.{filter}
+use Rattle.std.proofs.lemmas.Bool.{cases_order, and_parts, and_from, leb-true, le-leb, lt-ltb, le-ltb, eq-eqb, ne_eqb}
 use Rattle.sgb_perms.specs.Arrangement.{count, counts_from, smaller_right, vector_from}
 use Rattle.sgb_perms.specs.Private.Listed.{placed}
 use Rattle.sgb_perms.proofs.Vectors.{below, at, length-smaller_right}

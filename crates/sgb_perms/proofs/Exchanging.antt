@@ -1,12 +1,12 @@
 -- An exchange of a descent leads from one arrangement that is listed to another.
-use Rattle.std.proofs.Common.{◌≡◌, ◌≢◌, ◌<◌, ◌≤◌, ◌+◌, ◌-◌, ℕ, zero, suc, List, [], ◌∷◌, ◌++◌, length, get_or, set, take, drop, map, Bool, true, false, ◌==◌, nat_lt, cond, All, Contains, inl, inr, refl, sym, ap, ap₂, subst, ◌∙◌, arith, append_assoc}
-use Rattle.std.specs.List.{flat_map, filter, list_all, sum, swap, position_or_len}
-use Rattle.std.proofs.lemmas.Bool.{false≢true, cases_Bool, cases_lt, cases_order, and_parts, and_from, ltb-true, lt-ltb, le-ltb, eq-eqb, ne_eqb}
+use Rattle.std.proofs.Common.{◌≡◌, ◌<◌, ◌≤◌, ◌+◌, ◌-◌, ℕ, zero, suc, List, [], ◌∷◌, ◌++◌, length, get_or, set, take, drop, Bool, true, ◌==◌, All, Contains, inl, inr, refl, sym, ap, ap₂, subst, ◌∙◌, arith, append_assoc}
+use Rattle.std.specs.List.{sum, swap, position_or_len}
+use Rattle.std.proofs.lemmas.Bool.{false≢true, cases_Bool, cases_lt, cases_order, ltb-true, lt-ltb, le-ltb, eq-eqb, ne_eqb}
 use Rattle.std.proofs.lemmas.List.{length-append, length-take-le, take-append-drop, drop_more, get_or_at, set_at}
 use Rattle.std.proofs.lemmas.List.Edits.{swap_is}
-use Rattle.std.proofs.lemmas.List.Elements.{filter-append, All-append, All-cons, All-head, All-tail, All-take, All-drop}
+use Rattle.std.proofs.lemmas.List.Elements.{All-cons, All-head, All-tail}
 use Rattle.std.proofs.lemmas.List.Sums.{sum_by-cons, sum_by-append, fails_before_first}
-use Rattle.sgb_perms.specs.Arrangement.{same_list, count, counts_from, IsArrangement, smaller_right, vector_from, vector_of, arrangements, is_descent, exchanged}
+use Rattle.sgb_perms.specs.Arrangement.{same_list, count, counts_from, smaller_right, vector_from, arrangements, is_descent, exchanged}
 use Rattle.sgb_perms.proofs.Vectors.{below, at}
 use Rattle.sgb_perms.proofs.Arranged.{IsListed, listed_is, listed_has, test_from_same}
 
@@ -19,7 +19,7 @@ swap_apart front x y back n long =
     let after : length (front ++ y ∷ []) ≡ n + 1 = length-append front (y ∷ []) ∙ omega arith in
     let first : get_or a n 0 ≡ x = get_or_at front x (y ∷ back) 0 n long in
     let second : get_or a (n + 1) 0 ≡ y =
-        ap (λ l. get_or l (n + 1) 0) (sym (append_assoc front (x ∷ []) (y ∷ back))) ∙ get_or_at (front ++ x ∷ []) y back 0 (n + 1) next in
+    ap (λ l. get_or l (n + 1) 0) (sym (append_assoc front (x ∷ []) (y ∷ back))) ∙ get_or_at (front ++ x ∷ []) y back 0 (n + 1) next in
     sym (swap_is a n (n + 1) 0 (omega arith) (omega arith))
     ∙ (ap₂ (λ u v. set (set a n u) (n + 1) v) second first
     ∙ (ap (λ l. set l (n + 1) x) (set_at front x (y ∷ back) y n long)
@@ -45,10 +45,13 @@ around a place within =
     let front = take place a in
     let back = drop (place + 1 + 1) a in
     let whole : a ≡ front ++ x ∷ y ∷ back =
-        sym (take-append-drop place a)
-        ∙ ap (λ l. front ++ l) (drop_more a place 0 (omega arith) ∙ ap (λ l. x ∷ l) (drop_more a (place + 1) 0 within)) in
+    sym (take-append-drop place a)
+    ∙ ap (λ l. front ++ l) (drop_more a place 0 (omega arith) ∙ ap (λ l. x ∷ l) (drop_more a (place + 1) 0 within)) in
     record {
-      front = front; back = back; x = x; y = y;
+      front = front;
+      back = back;
+      x = x;
+      y = y;
       before = whole;
       after = ap (λ l. exchanged l place) whole ∙ swap_apart front x y back place (length-take-le place a (omega arith));
       at = length-take-le place a (omega arith);
@@ -131,9 +134,9 @@ listed-exchange counts most front x y back less is =
     let within = is.within in
     record {
       arrangement = record {
-          kinds = kinds-exchange (λ z. z < length counts) front x y back is.arrangement.kinds;
-          counted = counts-exchange 0 (length counts) front x y back ∙ is.arrangement.counted;
-        };
+        kinds = kinds-exchange (λ z. z < length counts) front x y back is.arrangement.kinds;
+        counted = counts-exchange 0 (length counts) front x y back ∙ is.arrangement.counted;
+      };
       within = omega arith;
     }
 

@@ -1,10 +1,8 @@
 -- Lemmas on filters, and on lists that are joined.
-use Rattle.std.proofs.Common.{◌≡◌, ◌≢◌, ◌<◌, ◌≤◌, ◌+◌, ◌-◌, ℕ, zero, suc, List, [], ◌∷◌, ◌++◌, length, get_or, take, drop, map, Bool, true, false, ◌&&◌, cond, All, Contains, ◌⊎◌, inl, inr, refl, sym, ap, subst, ◌∙◌, arith, append_assoc}
+use Rattle.std.proofs.Common.{◌≡◌, ◌≢◌, ◌<◌, ◌≤◌, ◌+◌, ℕ, zero, suc, List, [], ◌∷◌, take, drop, Bool, true, false, All, Contains, ◌⊎◌, inl, inr, refl, sym, ap, subst, ◌∙◌, arith}
 use Rattle.std.specs.List.{flat_map, filter, list_all, range_with_len}
 use Rattle.std.proofs.lemmas.Bool.{false≢true, cases_Bool, cases_lt, and_parts, and_from}
-use Rattle.std.proofs.lemmas.List.{append-nil}
-use Rattle.std.proofs.lemmas.List.Concat.{flat_map-append}
-use Rattle.std.proofs.lemmas.List.Elements.{All-contains, All-nil, All-cons, All-head, All-tail, All-weaker, Contains-append_left, Contains-append_right, Contains-append_cases}
+use Rattle.std.proofs.lemmas.List.Elements.{All-contains, All-nil, All-cons, All-head, All-tail, Contains-append_left, Contains-append_right, Contains-append_cases}
 use Rattle.sgb_plan.specs.Distinct.{Distinct}
 use Rattle.sgb_plan.proofs.Distincts.{Distinct-head, Distinct-tail}
 
@@ -70,9 +68,6 @@ pub All-from_contains : {X : Type 0} (P : X → Type 0) (xs : List X) → ((x : 
 All-from_contains P [] each = All-nil P
 All-from_contains P (x ∷ xs) each =
     All-cons P x xs (each x (Contains-head x xs)) (All-from_contains P xs (λ y within. each y (Contains-cons x y xs within)))
-
-
-
 
 pub Contains-filter : {X : Type 0} (p : X → Bool) (xs : List X) (x : X) → Contains xs x → p x ≡ true → Contains (filter p xs) x
 Contains-filter p [] x (k, less, is) passes = absurd (omega arith)
@@ -148,26 +143,26 @@ filter_one p (y ∷ xs) x apart one =
       | inl passes ↦
           let same : y ≡ x = one.only y (Contains-head y xs) passes in
           let none : filter p xs ≡ [] =
-              filter_none p xs
-              (All-from_contains (λ z. p z ≡ false) xs
-              (λ z within.
-              elim (cases_Bool (p z)) [
-                | inl too ↦
-                    let equal : y ≡ z = same ∙ sym (one.only z (Contains-cons y z xs within) too) in
-                    absurd (All-contains (λ w. y ≢ w) xs z (Distinct-head y xs apart) within equal)
-                | inr fails ↦ fails
-              ])) in
+          filter_none p xs
+          (All-from_contains (λ z. p z ≡ false) xs
+          (λ z within.
+          elim (cases_Bool (p z)) [
+            | inl too ↦
+                let equal : y ≡ z = same ∙ sym (one.only z (Contains-cons y z xs within) too) in
+                absurd (All-contains (λ w. y ≢ w) xs z (Distinct-head y xs apart) within equal)
+            | inr fails ↦ fails
+          ])) in
           rw passes (ap (λ zs. y ∷ zs) none ∙ ap (λ z. z ∷ []) same)
       | inr fails ↦
           let rest : OnlyOne p xs x =
-              record {
-                within =
-                    elim (Contains-cons_cases y x xs one.within) [
-                      | inl same ↦ absurd (false≢true (sym fails ∙ (ap p same ∙ one.passes)))
-                      | inr later ↦ later
-                    ];
-                passes = one.passes;
-                only = λ z within. one.only z (Contains-cons y z xs within);
-              } in
+          record {
+            within =
+                elim (Contains-cons_cases y x xs one.within) [
+                  | inl same ↦ absurd (false≢true (sym fails ∙ (ap p same ∙ one.passes)))
+                  | inr later ↦ later
+                ];
+            passes = one.passes;
+            only = λ z within. one.only z (Contains-cons y z xs within);
+          } in
           rw fails (filter_one p xs x (Distinct-tail y xs apart) rest)
     ]

@@ -1,8 +1,8 @@
 -- Lemmas on rows that are looked up.
-use Rattle.std.proofs.Common.{◌≡◌, ◌≢◌, ◌<◌, ◌≤◌, ◌+◌, ℕ, List, [], ◌∷◌, ◌++◌, length, get_or, take, map, Bool, true, false, ◌||◌, not, cond, All, inl, inr, refl, sym, ap, ap₂, subst, ◌∙◌, arith}
+use Rattle.std.proofs.Common.{◌≡◌, ◌≢◌, ◌<◌, ◌≤◌, ◌+◌, ℕ, List, [], ◌∷◌, ◌++◌, length, get_or, take, Bool, false, not, All, inl, inr, refl, sym, ap, ap₂, subst, ◌∙◌, arith}
 use Rattle.std.specs.List.{list_any, position, position_or_len}
 use Rattle.std.specs.Option.{unwrap_or}
-use Rattle.std.proofs.lemmas.Bool.{false≢true, cases_Bool, cases_lt, lt-ltb, le-ltb}
+use Rattle.std.proofs.lemmas.Bool.{cases_Bool, cases_lt, lt-ltb, le-ltb}
 use Rattle.std.proofs.lemmas.List.{map-append, take_more, length-take-le, get_or-take, get_or_default}
 use Rattle.std.proofs.lemmas.List.Elements.{All-head, All-tail}
 use Rattle.std.proofs.lemmas.List.Sums.{prefix_len-le-length}
@@ -32,11 +32,11 @@ none_same k (j ∷ ks) differ =
 pub key_more : (rows : List (List ℕ)) (i : ℕ) (k : Bor (List ℕ)) (ks after : List (Bor (List ℕ))) → Distinct rows → i < length rows → k.now ≡ get_or rows i [] → shown_by ks ≡ take i rows → after ≡ insert_key same_key ks k → shown_by after ≡ take (i + 1) rows
 key_more rows i k ks after apart less is shown put =
     let fresh : list_any (same_key k) ks ≡ false =
-        none_same k ks
-        (subst (All (λ row. row ≢ k.now)) (sym shown)
-        (λ j d below same.
-        let low : j < i = omega (arith, length-take-le i rows (omega arith)) in
-        apart j i d low less (sym (get_or-take i rows j d low) ∙ (same ∙ (is ∙ get_or_default rows i [] d less))))) in
+    none_same k ks
+    (subst (All (λ row. row ≢ k.now)) (sym shown)
+    (λ j d below same.
+    let low : j < i = omega (arith, length-take-le i rows (omega arith)) in
+    apart j i d low less (sym (get_or-take i rows j d low) ∙ (same ∙ (is ∙ get_or_default rows i [] d less))))) in
     ap shown_by put
     ∙ rw fresh (map-append (λ (x : Bor (List ℕ)). x.now) ks (k ∷ [])
     ∙ (ap₂ (λ xs y. xs ++ y ∷ []) shown is ∙ sym (take_more rows i [] less)))

@@ -1,15 +1,14 @@
 -- Lemmas on the exchanges that are inserted.
-use Rattle.std.proofs.Common.{◌≡◌, ◌<◌, ◌≤◌, ◌+◌, ◌-◌, ℕ, List, [], ◌∷◌, length, get_or, map, Bool, true, false, cond, All, Contains, refl, sym, ap, ap₂, subst, ◌∙◌, arith, pos}
-use Rattle.std.specs.List.{flat_map, range_with_len, swap}
+use Rattle.std.proofs.Common.{◌≡◌, ◌<◌, ◌≤◌, ◌+◌, ◌-◌, ℕ, List, [], ◌∷◌, length, get_or, true, false, cond, sym, ap, subst, ◌∙◌, pos}
+use Rattle.std.specs.List.{flat_map, range_with_len}
 use Rattle.std.proofs.lemmas.Bool.{cond-true, cond-false, lt-ltb, le-ltb}
 use Rattle.std.proofs.lemmas.List.Elements.{Contains-get_or}
-use Rattle.std.proofs.lemmas.List.Edits.{length-swap}
 use Rattle.sgb_graph.specs.Builder.{Insertion, insertion}
 use Rattle.sgb_graph.proofs.Inserting.{LeftFrom, from_start, map-filter}
 use Rattle.sgb_graph.specs.declared.builder.Builder.{Builder}
 use Rattle.sgb_perms.specs.Arrangement.{is_descent, descents, exchanged, arrangements}
 use Rattle.sgb_perms.specs.Perms.{exchange, exchanges_of, place_of, row_at}
-use Rattle.sgb_perms.specs.Private.Places.{LeadsWithin, IsClosed}
+use Rattle.sgb_perms.specs.Private.Places.{IsClosed}
 use Rattle.sgb_perms.proofs.Exchanging.{exchange_listed, place_within, exchanged_back}
 
 -- the exchange at a place, where there is one

@@ -1,8 +1,7 @@
 -- The vectors of arrangements, as they are met by recursion: where a number is too large nothing follows.
 use Rattle.std.proofs.Common.{◌≡◌, ◌<◌, ◌≤◌, ◌+◌, ◌-◌, ℕ, zero, suc, min, List, [], ◌∷◌, ◌++◌, length, map, Bool, true, false, nat_le, cond, inl, inr, refl, sym, ap, ap₂, ◌∙◌, arith}
 use Rattle.std.specs.List.{flat_map, range_with_len, sum}
-use Rattle.std.proofs.lemmas.Bool.{cases_Bool, cases_lt, leb-true, le-leb, lt-leb}
-use Rattle.std.proofs.lemmas.List.{append-nil}
+use Rattle.std.proofs.lemmas.Bool.{cases_lt, le-leb, lt-leb}
 use Rattle.std.proofs.lemmas.List.Concat.{flat_map-append}
 use Rattle.std.proofs.lemmas.List.Folds.{flat_map-map}
 use Rattle.std.proofs.lemmas.List.Sums.{sum_by-cons}
@@ -82,28 +81,28 @@ copies_pruned bound m (suc n) k next rows goes (suc all) is right left row low f
     let tell = copies_of (suc n) k next right row in
     let inner : ℕ → List (List ℕ) = λ x. flat_map (λ v. told left tell (x ∷ v)) (words bound all) in
     let step : flat_map (told left tell) (flat_map (λ x. map (λ v. x ∷ v) (words bound all)) (range_with_len 0 bound)) ≡ flat_map inner (range_with_len 0 bound) =
-        flat_map-flat_map (told left tell) (λ x. map (λ v. x ∷ v) (words bound all)) (range_with_len 0 bound)
-        ∙ flat_map_agree (λ x. flat_map (told left tell) (map (λ v. x ∷ v) (words bound all))) inner
-          (λ x. flat_map-map (told left tell) (λ v. x ∷ v) (words bound all)) (range_with_len 0 bound) in
+    flat_map-flat_map (told left tell) (λ x. map (λ v. x ∷ v) (words bound all)) (range_with_len 0 bound)
+    ∙ flat_map_agree (λ x. flat_map (told left tell) (map (λ v. x ∷ v) (words bound all))) inner
+    (λ x. flat_map-map (told left tell) (λ v. x ∷ v) (words bound all)) (range_with_len 0 bound) in
     let same : (x : ℕ) → x < min right left + 1 → inner x ≡ copies_from n k rows x (left - x) (placed row k x) =
-        λ x less.
-        let long = length-placed row k x in
-        let right_so : nat_le x right ≡ true = le-leb x right (omega arith) in
-        flat_map_agree (λ v. told left tell (x ∷ v)) (told (left - x) (copies_of n k next x (placed row k x)))
-        (λ v. let sums = sum_fits x left v (omega arith) in rw (sums, right_so) refl)
-        (words bound all)
-        ∙ copies_pruned bound m n k next rows goes all (omega arith) x (left - x) (placed row k x) (omega arith) (omega arith) in
+    λ x less.
+    let long = length-placed row k x in
+    let right_so : nat_le x right ≡ true = le-leb x right (omega arith) in
+    flat_map_agree (λ v. told left tell (x ∷ v)) (told (left - x) (copies_of n k next x (placed row k x)))
+    (λ v. let sums = sum_fits x left v (omega arith) in rw (sums, right_so) refl)
+    (words bound all)
+    ∙ copies_pruned bound m n k next rows goes all (omega arith) x (left - x) (placed row k x) (omega arith) (omega arith) in
     let none : (x : ℕ) → min right left + 1 ≤ x → inner x ≡ [] =
-        λ x more.
-        flat_map_none (λ v. told left tell (x ∷ v))
-        (λ v.
-        elim (cases_lt right x) [
-          | inl high ↦
-              let fails : nat_le x right ≡ false = lt-leb x right high in
-              rw fails (cond_none (nat_le (sum (x ∷ v)) left))
-          | inr not_high ↦ let fails = sum_too_large x left v (omega arith) in rw fails refl
-        ])
-        (words bound all) in
+    λ x more.
+    flat_map_none (λ v. told left tell (x ∷ v))
+    (λ v.
+    elim (cases_lt right x) [
+      | inl high ↦
+          let fails : nat_le x right ≡ false = lt-leb x right high in
+          rw fails (cond_none (nat_le (sum (x ∷ v)) left))
+      | inr not_high ↦ let fails = sum_too_large x left v (omega arith) in rw fails refl
+    ])
+    (words bound all) in
     step ∙ cut inner (λ x. copies_from n k rows x (left - x) (placed row k x)) (min right left + 1) bound (omega arith) same none
 
 -- the arrangements that the vectors of these counts tell

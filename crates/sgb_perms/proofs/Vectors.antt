@@ -1,15 +1,11 @@
 -- Lemmas on counts and vectors: what stands below a kind, and what an insertion changes.
-use Rattle.std.proofs.Common.{◌≡◌, ◌≢◌, ◌<◌, ◌≤◌, ◌+◌, ◌-◌, ℕ, zero, suc, List, [], ◌∷◌, ◌++◌, length, take, drop, map, Bool, true, false, ◌==◌, nat_lt, nat_le, ◌&&◌, cond, inl, inr, refl, sym, ap, ap₂, subst, ◌∙◌, arith, append_assoc}
-use Rattle.std.specs.List.{flat_map, filter, list_all, range_with_len, sum, insert}
-use Rattle.std.proofs.lemmas.Bool.{false≢true, cases_Bool, cases_eq, cases_order, cases_lt, and_parts, and_from, ltb-true, lt-ltb, le-ltb, le-leb, leb-true, eqb-true, eq-eqb, ne_eqb}
-use Rattle.std.proofs.lemmas.List.{append-nil, length-append, length-drop, length-take, take-append-drop, drop-drop, drop_at, take_at}
-use Rattle.std.proofs.lemmas.List.Edits.{length-insert}
+use Rattle.std.proofs.Common.{◌≡◌, ◌<◌, ◌≤◌, ◌+◌, ℕ, zero, suc, List, [], ◌∷◌, ◌++◌, length, Bool, true, false, ◌==◌, nat_lt, inl, inr, refl, sym, ap, ap₂, ◌∙◌, arith}
+use Rattle.std.specs.List.{filter, list_all, sum}
+use Rattle.std.proofs.lemmas.Bool.{false≢true, cases_Bool, cases_order, and_parts, ltb-true, lt-ltb, le-ltb, eqb-true, eq-eqb, ne_eqb}
 use Rattle.std.proofs.lemmas.List.Elements.{filter-append}
-use Rattle.std.proofs.lemmas.List.Folds.{list_all-append}
-use Rattle.std.proofs.lemmas.List.Sums.{sum_by-cons, sum_by-append}
-use Rattle.sgb_perms.specs.Arrangement.{count, counts_from, smaller_right, vector_from}
-use Rattle.sgb_perms.specs.Private.Listed.{placed}
-use Rattle.sgb_perms.proofs.Filters.{filter_all, filter_none, filter_within, list_all-drop, list_all-take, list_all-weaker}
+use Rattle.std.proofs.lemmas.List.Sums.{sum_by-cons}
+use Rattle.sgb_perms.specs.Arrangement.{count, counts_from, smaller_right}
+use Rattle.sgb_perms.proofs.Filters.{filter_all, filter_within, list_all-weaker}
 
 -- the elements below a kind, and those of it
 abbrev pub below : ℕ → ℕ → Bool
@@ -66,7 +62,7 @@ sum_counts k (suc n) a =
     let same : k + 1 + n ≡ k + suc n = omega arith in
     let end : count (below (k + 1 + n)) a ≡ count (below (k + suc n)) a = ap (λ m. count (below m) a) same in
     let front : sum (counts_from k (suc n) a) ≡ count (at k) a + sum (counts_from (k + 1) n a) =
-        sum_by-cons (λ x. x) (count (at k) a) (counts_from (k + 1) n a) in
+    sum_by-cons (λ x. x) (count (at k) a) (counts_from (k + 1) n a) in
     omega (arith, rest, more, end, front)
 
 -- ---- vectors
@@ -94,7 +90,7 @@ smaller_right-kept j k less (y ∷ a) =
           ])
       | inr high ↦
           let other : (y == j) ≡ false =
-              ne_eqb y j (λ same. false≢true (sym high ∙ lt-ltb y k (omega arith))) in
+          ne_eqb y j (λ same. false≢true (sym high ∙ lt-ltb y k (omega arith))) in
           rw (high, other) rest
     ]
 

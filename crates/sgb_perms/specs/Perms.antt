@@ -1,5 +1,5 @@
 -- The graph of the arrangements of a multiset, as it is planned.
-use Rattle.std.specs.Prelude.{◌+◌, ◌==◌, ℕ, ℤ, pos, unsigned_abs, int_le, nat_lt, nat_le, List, [], ◌∷◌, ◌++◌, length, map, sum, replicate, slice_index, slice_index_or, flat_map, codes, decimal, Bool, ◌&&◌, ◌||◌, Result, Ok, Err, if◌then◌else◌}
+use Rattle.std.specs.Prelude.{◌==◌, ℕ, ℤ, pos, unsigned_abs, int_le, nat_lt, nat_le, List, [], ◌∷◌, ◌++◌, length, map, sum, replicate, slice_index, slice_index_or, flat_map, codes, decimal, Bool, ◌&&◌, ◌||◌, Result, Ok, Err, if◌then◌else◌}
 use Rattle.std.specs.Fmt.{signed_decimal}
 use Rattle.std.specs.List.{position_or_len, range_with_len}
 use Rattle.sgb_graph.specs.declared.refusal.Refusal.{Refusal}

@@ -1,5 +1,5 @@
 //! How many elements of each kind there are, and how many inversions.
-ghost use Rattle.std.specs.Prelude.{◌≡◌, ◌⊎◌, ◌≤◌, ◌<◌, ◌&&◌, false, true, pos, int_le, nat_le, length, sum, IfOk, IfErr};
+ghost use Rattle.std.specs.Prelude.{◌≡◌, ◌⊎◌, ◌≤◌, ◌<◌, ◌&&◌, false, true, pos, int_le, nat_le, length, sum, unsigned_abs, IfOk, IfErr};
 ghost use Rattle.sgb_perms.specs.Arrangement.{greatest_from};
 ghost use Rattle.sgb_perms.specs.Perms.{numbers_of, counts_of, are_allowed, most_of};
 
@@ -10,6 +10,7 @@ use std::alloc::Global;
 
 // The most kinds, and the most elements.
 const MOST_KINDS: u32 = 16;
+
 const MOST_ELEMENTS: u64 = 255;
 
 // How many elements there are of each kind, of which there is at least one.
@@ -44,6 +45,13 @@ pub(crate) fn numbers_of(spec: &PermsSpec) -> [i64; 5]
     ensures { result ≡ numbers_of spec.now }
 {
     [spec.n0, spec.n1, spec.n2, spec.n3, spec.n4]
+}
+
+// The limit of the inversions as it was given, which is not below 0 where a graph is made.
+pub(crate) fn limit_of(spec: &PermsSpec) -> u64
+    ensures { result ≡ unsigned_abs spec.now.max_inv }
+{
+    spec.max_inv.unsigned_abs()
 }
 
 // There are at most 255 elements together.

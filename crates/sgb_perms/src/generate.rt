@@ -3,7 +3,7 @@ ghost use Rattle.sgb_plan.specs.Plan.{IsMade};
 ghost use Rattle.sgb_perms.specs.Perms.{plan_of_perms};
 
 use crate::PermsSpec;
-use crate::counts::{counts_of, most_of};
+use crate::counts::{counts_of, limit_of, most_of};
 use crate::exchanges::insert_exchanges;
 use crate::listing::list_arrangements;
 use crate::names::{id_of_perms, name_vertices};
@@ -25,7 +25,7 @@ pub fn perms(alloc: Global, spec: &PermsSpec) -> Result<Graph, Refusal>
     ensures made { IsMade (plan_of_perms spec.now) result }
 {
     let counts = counts_of(alloc, spec)?;
-    let most = most_of(&counts, spec.max_inv.unsigned_abs());
+    let most = most_of(&counts, limit_of(spec));
     let rows = list_arrangements(alloc, &counts, most)?;
     let id = id_of_perms(alloc, spec, most as u32)?;
     let mut builder = Builder::new(alloc, id, Types::none(), spec.directed);

@@ -34,7 +34,11 @@ pub(crate) fn id_of_perms(alloc: Global, spec: &PermsSpec, most: u32) -> Result<
 }
 
 // Makes a vertex of each row.
-pub(crate) fn name_vertices(builder: &mut Builder, alloc: Global, rows: &Rows) -> Result<(), Refusal>
+pub(crate) fn name_vertices(
+    builder: &mut Builder,
+    alloc: Global,
+    rows: &Rows,
+) -> Result<(), Refusal>
     requires { All (λ row. All (λ kind. kind < 16) row) rows.now.rows }
     ensures { Names builder.old builder.new (map row_vertex rows.now.rows) result }
 {

@@ -1,5 +1,4 @@
-use Rattle.std.proofs.Common.{◌≡◌, ◌<◌, ◌≤◌, ℕ, ℤ, pos, negsuc, suc, zero, List, [], ◌∷◌, length, sum, drop, Bool, true, false, nat_le, int_le, int_lt, ◌&&◌, if◌then◌else◌, ◌==◌, ◌⊎◌, inl, inr, refl, ap, sym, ◌∙◌, arith, to_z, of_z, w64}
-use Rattle.std.proofs.lemmas.Int.{to_z-of_z}
+use Rattle.std.proofs.Common.{◌≡◌, ◌<◌, ℕ, ℤ, pos, negsuc, suc, zero, List, [], ◌∷◌, length, sum, drop, true, false, nat_le, int_le, int_lt, ◌&&◌, if◌then◌else◌, ◌==◌, ◌⊎◌, inl, inr, ap, sym, ◌∙◌, arith}
 use Rattle.sgb_graph.specs.declared.refusal.Refusal.{Refusal}
 use Rattle.sgb_graph.specs.declared.refusal.Refusal.TheVariants.{NoRoom, BadSpecs}
 use Rattle.sgb_plan.specs.Listing.{leading, count_of, count_from, listed, listed_at}
@@ -56,5 +55,5 @@ returns-clause-some c =
     let some : 0 < count_of 1 (numbers_of s) = first_listed s.n0 (drop 1 (numbers_of s)) above in
     let long = length-listed 1 (numbers_of s) in
     let listed_so : length c.in_ok-counts.counts.items ≡ length (listed 1 (numbers_of s)) =
-        ap length (c.in_ok-counts.ensures.list ∙ ap (listed 1) c.numbers_of.ensures) in
+    ap length (c.in_ok-counts.ensures.list ∙ ap (listed 1) c.numbers_of.ensures) in
     omega (arith, some, long, listed_so)

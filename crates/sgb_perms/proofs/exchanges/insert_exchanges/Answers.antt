@@ -1,5 +1,4 @@
-use Rattle.std.proofs.Common.{◌≡◌, ◌<◌, ℕ, List, length, ◌++◌, sym, ap, ap₂, subst, ◌∙◌, arith}
-use Rattle.std.specs.List.{flat_map, range_with_len}
+use Rattle.std.proofs.Common.{◌≡◌, ℕ, List, length, ◌++◌, sym, ap, ap₂, subst, ◌∙◌, arith}
 use Rattle.std.proofs.lemmas.Result.{err_from_is_err_and}
 use Rattle.sgb_graph.specs.declared.builder.Builder.{Builder}
 use Rattle.sgb_graph.specs.Builder.{grown}
@@ -34,7 +33,7 @@ pub insert_from-requires-clause-closed : goal.insert_from-requires-clause-closed
 insert_from-requires-clause-closed c =
     let rows = c.args.rows.now.rows in
     let is : c.deref_mut.result.now ≡ row_at rows c.loop-v.v =
-        c.deref_mut.ensures.value ∙ (c.in_ok-extend_from_slice.ensures.items ∙ ap₂ (λ xs ys. xs ++ ys) c.clear.ensures.items c.row.ensures.value) in
+    c.deref_mut.ensures.value ∙ (c.in_ok-extend_from_slice.ensures.items ∙ ap₂ (λ xs ys. xs ++ ys) c.clear.ensures.items c.row.ensures.value) in
     leads rows (shown_by c.args.places.now.keys) (row_at rows c.loop-v.v) c.deref_mut.result.now c.requires.places is
     (c.requires.closed c.loop-v.v (omega (arith, c.len-v-end.ensures.value)))
 
@@ -43,17 +42,17 @@ returns-in_err-insert_from c =
     let p = err_from_is_err_and c.from_residual-in_err-insert_from.result c.from_residual-in_err-insert_from.ensures.1 in
     let rows = c.args.rows.now.rows in
     let is : c.deref_mut.result.now ≡ row_at rows c.loop-v.v =
-        c.deref_mut.ensures.value ∙ (c.in_ok-extend_from_slice.ensures.items ∙ ap₂ (λ xs ys. xs ++ ys) c.clear.ensures.items c.row.ensures.value) in
+    c.deref_mut.ensures.value ∙ (c.in_ok-extend_from_slice.ensures.items ∙ ap₂ (λ xs ys. xs ++ ys) c.clear.ensures.items c.row.ensures.value) in
     let refused : RefusesInsertions c.loop-v.builder (exchanges_of rows c.loop-v.v (row_at rows c.loop-v.v)) c.in_err-insert_from.field-0.0 =
-        subst (λ es. RefusesInsertions c.loop-v.builder es c.in_err-insert_from.field-0.0)
-        (ap₂ (λ rs a. exchanges_of rs c.loop-v.v a) c.requires.places is) c.in_err-insert_from.ensures in
+    subst (λ es. RefusesInsertions c.loop-v.builder es c.in_err-insert_from.field-0.0)
+    (ap₂ (λ rs a. exchanges_of rs c.loop-v.v a) c.requires.places is) c.in_err-insert_from.ensures in
     rw (p.1, p.2) (from_refused (omega (arith, c.len-v-end.ensures.value)) c.loop-v.invariant refused)
 
 pub loop-v-preserved : goal.loop-v-preserved
 loop-v-preserved c =
     let rows = c.args.rows.now.rows in
     let is : c.deref_mut.result.now ≡ row_at rows c.loop-v.v =
-        c.deref_mut.ensures.value ∙ (c.in_ok-extend_from_slice.ensures.items ∙ ap₂ (λ xs ys. xs ++ ys) c.clear.ensures.items c.row.ensures.value) in
+    c.deref_mut.ensures.value ∙ (c.in_ok-extend_from_slice.ensures.items ∙ ap₂ (λ xs ys. xs ++ ys) c.clear.ensures.items c.row.ensures.value) in
     from_some (omega (arith, c.len-v-end.ensures.value)) c.loop-v.invariant
     (c.in_ok-insert_from.ensures ∙ ap₂ (λ rs a. grown c.loop-v.builder (exchanges_of rs c.loop-v.v a)) c.requires.places is)
 

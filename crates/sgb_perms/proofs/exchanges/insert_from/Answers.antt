@@ -1,7 +1,6 @@
-use Rattle.std.proofs.Common.{◌≡◌, ◌<◌, ◌≤◌, ◌+◌, ◌-◌, ℕ, List, [], ◌∷◌, length, Bool, true, pos, refl, sym, ap, subst, ◌∙◌, arith}
+use Rattle.std.proofs.Common.{◌≡◌, ◌<◌, ◌+◌, ◌-◌, ℕ, List, length, true, refl, sym, ap, subst, ◌∙◌, arith}
 use Rattle.std.proofs.lemmas.Result.{err_from_is_err_and}
-use Rattle.sgb_graph.specs.Builder.{insertion, grown}
-use Rattle.sgb_graph.specs.Graph.{n_of}
+use Rattle.sgb_graph.specs.Builder.{grown}
 use Rattle.sgb_graph.proofs.Inserting.{LeftFrom, RefusesInsertions, from_some, from_none, from_refused, from_end, from_n}
 use Rattle.sgb_perms.specs.Arrangement.{is_descent, exchanged}
 use Rattle.sgb_perms.specs.Perms.{place_of, exchanges_of}
@@ -53,7 +52,7 @@ returns-in_err-insert c =
     let descends = descends_so c.loop-place.row a place c.loop-place.invariant.row c.if-row-place.true in
     let is = place_so rows c.loop-place.row c.swap.new.self a place c.place_of-to.result c.loop-place.invariant.row c.swap.ensures.after c.place_of-to.ensures in
     let refused : RefusesInsertions c.loop-place.builder (move_at rows c.args.from.0 a place) c.in_err-insert.field-0.0 =
-        subst (λ es. RefusesInsertions c.loop-place.builder es c.in_err-insert.field-0.0) (move_some rows c.args.from.0 a place c.place_of-to.result descends is) c.in_err-insert.ensures.value in
+    subst (λ es. RefusesInsertions c.loop-place.builder es c.in_err-insert.field-0.0) (move_some rows c.args.from.0 a place c.place_of-to.result descends is) c.in_err-insert.ensures.value in
     rw (p.1, p.2) (from_refused (omega arith) c.loop-place.invariant.left refused)
 
 pub loop-place-preserved : goal.loop-place-preserved

@@ -5,7 +5,7 @@ use Rattle.std.proofs.lemmas.List.Edits.{length-insert}
 use Rattle.std.proofs.lemmas.List.Sums.{sum_by-cons}
 use Rattle.std.proofs.lemmas.Result.{err_from_is_err_and}
 use Rattle.sgb_perms.specs.Private.Listed.{placed, copies_from, rows_from}
-use Rattle.sgb_perms.specs.Private.Rows.{RowsOf, Lists, with_rows}
+use Rattle.sgb_perms.specs.Private.Rows.{Lists, with_rows}
 use Rattle.sgb_perms.proofs.Runs.{RefusesRows, run_start, run_some, run_refused, run_end, run_width}
 use Rattle.sgb_perms.proofs.listing.+list_rows.Goals as goal
 
@@ -47,11 +47,16 @@ list_rows-requires t c =
     let cases = c.in-Some.ensures.cases in
     let long = ap length cases.0 in
     let sums : sum c.args.others.now ≡ c.in-Some.next.now + sum c.in-Some.others.now =
-        ap sum cases.0 ∙ sum_by-cons (λ x. x) c.in-Some.next.now c.in-Some.others.now in
-    (omega (arith, long, sums),
-      (omega (arith, long, c.requires.kinds),
-      (omega (arith, c.len.ensures, c.args.row.now.ok.0),
-      (omega (arith, sums, c.requires.width), c.requires.narrow))))
+    ap sum cases.0 ∙ sum_by-cons (λ x. x) c.in-Some.next.now c.in-Some.others.now in (
+      omega (arith, long, sums),
+      (
+        omega (arith, long, c.requires.kinds),
+        (
+          omega (arith, c.len.ensures, c.args.row.now.ok.0),
+          (omega (arith, sums, c.requires.width), c.requires.narrow),
+        ),
+      ),
+    )
 
 pub returns-in-Some-clause-rows : goal.returns-in-Some-clause-rows
 returns-in-Some-clause-rows t c =
@@ -90,12 +95,19 @@ list_rows-requires-in-loop-x t c =
     let entered = inserted_is row c.loop-x.row.items c.insert.new.self.items c.len-in-loop-x.result c.loop-x.x c.args.kind c.loop-x.invariant.row (c.len-in-loop-x.ensures ∙ c.loop-x.row.ok.0) c.in_ok-insert.ensures.items in
     let long : length c.insert.new.self.items ≡ length row + 1 = ap length entered ∙ length-insert row (length row - c.loop-x.x) c.args.kind (omega arith) in
     let wide = run_width c.loop-x.invariant.rows in
-    let some : 0 < c.args.copies = omega (arith, c.if-copies-eq0.false) in
-    (omega (arith, some),
-      (c.requires.kinds,
-      (omega (arith, long, c.requires.right, c.min-x-end.ensures),
-      (omega (arith, long, wide, some, c.requires.width),
-      omega (arith, wide, c.requires.narrow)))))
+    let some : 0 < c.args.copies = omega (arith, c.if-copies-eq0.false) in (
+      omega (arith, some),
+      (
+        c.requires.kinds,
+        (
+          omega (arith, long, c.requires.right, c.min-x-end.ensures),
+          (
+            omega (arith, long, wide, some, c.requires.width),
+            omega (arith, wide, c.requires.narrow),
+          ),
+        ),
+      ),
+    )
 
 pub returns-in_err-list_rows-clause-rows : goal.returns-in_err-list_rows-clause-rows
 returns-in_err-list_rows-clause-rows t c =
@@ -105,7 +117,7 @@ returns-in_err-list_rows-clause-rows t c =
     let f : ℕ → List (List ℕ) = λ x. copies_from (c.args.copies - 1) c.args.kind (rows_from (c.args.kind + 1) c.args.others.now) x (c.args.left - x) (placed row c.args.kind x) in
     let entered = inserted_is row c.loop-x.row.items c.insert.new.self.items c.len-in-loop-x.result c.loop-x.x c.args.kind c.loop-x.invariant.row (c.len-in-loop-x.ensures ∙ c.loop-x.row.ok.0) c.in_ok-insert.ensures.items in
     let refused : RefusesRows c.loop-x.rows (f c.loop-x.x) e =
-        subst (λ r. RefusesRows c.loop-x.rows (copies_from (c.args.copies - 1) c.args.kind (rows_from (c.args.kind + 1) c.args.others.now) c.loop-x.x (c.args.left - c.loop-x.x) r) e) entered c.in_err-list_rows.ensures.rows in
+    subst (λ r. RefusesRows c.loop-x.rows (copies_from (c.args.copies - 1) c.args.kind (rows_from (c.args.kind + 1) c.args.others.now) c.loop-x.x (c.args.left - c.loop-x.x) r) e) entered c.in_err-list_rows.ensures.rows in
     rw (p.1, p.2)
     (subst (λ rs. RefusesRows c.args.rows.now rs e)
     (one_copy c.args.copies c.args.kind c.args.others.now c.args.right c.args.left row (omega (arith, c.if-copies-eq0.false)))
@@ -132,4 +144,4 @@ pub returns-clause-rows : goal.returns-clause-rows
 returns-clause-rows t c =
     run_end (omega (arith, c.min-x-end.ensures)) c.loop-x.invariant.rows
     ∙ ap (with_rows c.args.rows.now)
-      (one_copy c.args.copies c.args.kind c.args.others.now c.args.right c.args.left c.args.row.now.items (omega (arith, c.if-copies-eq0.false)))
+    (one_copy c.args.copies c.args.kind c.args.others.now c.args.right c.args.left c.args.row.now.items (omega (arith, c.if-copies-eq0.false)))

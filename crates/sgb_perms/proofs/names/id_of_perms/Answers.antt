@@ -1,4 +1,5 @@
-use Rattle.std.proofs.Common.{◌≡◌, ℕ, ℤ, List, [], ◌∷◌, codes, decimal, Bool, if◌then◌else◌, IfOk, ap, subst, ◌∙◌, to_z, of_z, w64}
+use Rattle.std.proofs.Common.{◌≡◌, ℕ, ℤ, List, [], ◌∷◌, codes, decimal, if◌then◌else◌, IfOk, ap, subst, ◌∙◌, to_z, of_z, w64, ◌<◌, ◌^◌}
+use lib.Signed.{mag}
 use Rattle.std.proofs.lemmas.Int.{to_z-of_z}
 use Rattle.std.specs.Fmt.{signed_decimal}
 use Rattle.sgb_plan.specs.Id.{id_of}
@@ -25,15 +26,18 @@ id_shown s most ns a b c d e are one two three four five =
 abbrev seen : ℤ → ℤ
 seen z = to_z w64 (of_z w64 z)
 
+seen_is : (z : ℤ) → mag z < 2 ^ 63 → seen z ≡ z
+seen_is z small = to_z-of_z w64 z (record { sfits = small })
+
 pub returns-clause-value : goal.returns-clause-value
 returns-clause-value c =
     subst (λ t. IfOk c.id_of.result (λ id. id ≡ t))
     (id_shown c.args.spec.now c.args.most c.numbers_of-numbers.result
     (seen c.shown_at.result) (seen c.shown_at-2.result) (seen c.shown_at-3.result) (seen c.shown_at-4.result) (seen c.shown_at-5.result)
     c.numbers_of-numbers.ensures
-    (to_z-of_z w64 c.shown_at.result c.shown_at.type_inv ∙ c.shown_at.ensures)
-    (to_z-of_z w64 c.shown_at-2.result c.shown_at-2.type_inv ∙ c.shown_at-2.ensures)
-    (to_z-of_z w64 c.shown_at-3.result c.shown_at-3.type_inv ∙ c.shown_at-3.ensures)
-    (to_z-of_z w64 c.shown_at-4.result c.shown_at-4.type_inv ∙ c.shown_at-4.ensures)
-    (to_z-of_z w64 c.shown_at-5.result c.shown_at-5.type_inv ∙ c.shown_at-5.ensures))
+    (seen_is c.shown_at.result c.shown_at.type_inv ∙ c.shown_at.ensures)
+    (seen_is c.shown_at-2.result c.shown_at-2.type_inv ∙ c.shown_at-2.ensures)
+    (seen_is c.shown_at-3.result c.shown_at-3.type_inv ∙ c.shown_at-3.ensures)
+    (seen_is c.shown_at-4.result c.shown_at-4.type_inv ∙ c.shown_at-4.ensures)
+    (seen_is c.shown_at-5.result c.shown_at-5.type_inv ∙ c.shown_at-5.ensures))
     c.id_of.ensures.value

@@ -1,5 +1,4 @@
-use Rattle.std.proofs.Common.{◌≡◌, ◌<◌, ◌≤◌, ℕ, List, [], ◌∷◌, length, get_or, map, Bool, true, All, refl, sym, ap, subst, ◌∙◌, arith}
-use Rattle.std.specs.List.{list_all}
+use Rattle.std.proofs.Common.{◌≡◌, ◌<◌, ◌≤◌, ℕ, List, [], ◌∷◌, length, get_or, map, true, All, refl, sym, ap, subst, ◌∙◌, arith}
 use Rattle.std.proofs.lemmas.Bool.{agree_below_at}
 use Rattle.std.proofs.lemmas.List.{length-map, get_or_default}
 use Rattle.std.proofs.lemmas.List.Elements.{All-map, All-weaker}
@@ -50,8 +49,8 @@ returns-in_err-push_vertex c =
     let is : row ≡ get_or rows c.loop-v.v row = c.row.ensures.value ∙ get_or_default rows c.loop-v.v [] row less in
     let named : c.new.result ≡ name_of row = c.new.ensures.value ∙ (c.in_ok-label.ensures.value ∙ (c.deref.ensures.value ∙ c.in_ok-write_name.ensures.ok)) in
     let refused : RefusesNames c.loop-v.builder (row_vertex row ∷ []) c.in_err-push_vertex.field-0.0 =
-        subst (λ label. RefusesNames c.loop-v.builder (record { label = label; fields = six_zeros } ∷ []) c.in_err-push_vertex.field-0.0) named
-        (push_refused c.loop-v.builder c.new.result six_zeros c.in_err-push_vertex.ensures.err) in
+    subst (λ label. RefusesNames c.loop-v.builder (record { label = label; fields = six_zeros } ∷ []) c.in_err-push_vertex.field-0.0) named
+    (push_refused c.loop-v.builder c.new.result six_zeros c.in_err-push_vertex.ensures.err) in
     rw (p.1, p.2) (names_of_refused row less is c.loop-v.invariant refused)
 
 pub loop-v-preserved : goal.loop-v-preserved
