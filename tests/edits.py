@@ -196,9 +196,11 @@ class Said:
         if told.startswith('no proof'):
             goal = re.search(r'did not prove (`[^`]*`)', told)
             return goal and (goal[1], True)
-        own = path.split('::')[1:]
-        refused = re.findall(r'`Rattle\.%s\.proofs\.%s\.(?:\w+\.)?([^.`]+)`' % (crate, re.escape('.'.join(own))), told)
-        folder = re.escape('/'.join(own))
+        # The proof of a function that calls itself stands under its name with a plus.
+        own = [re.escape(it) for it in path.split('::')[1:]]
+        own[-1] = r'\+?' + own[-1]
+        refused = re.findall(r'`Rattle\.%s\.proofs\.%s\.(?:\w+\.)?([^.`]+)`' % (crate, r'\.'.join(own)), told)
+        folder = '/'.join(own)
         errors = [it for it in self.lines if re.match(r'(?:\./)?proofs/%s/\w+\.antt:\d+:\d+: error' % folder, it)]
         # Functions that call each other have one folder, where each answer begins with its function's name.
         beside, last = (re.escape(it) for it in ('/'.join([*own[:-1], '+']), own[-1]))

@@ -1,0 +1,12 @@
+pub mod Filters
+pub mod Words
+pub mod Vectors
+pub mod Decoding
+pub mod Encoding
+pub mod Pruning
+pub mod Arranged
+pub mod Exchanging
+pub mod Pieces
+pub mod Looking
+pub mod Runs
+pub mod Moves

@@ -1,0 +1,3 @@
+pub mod Arrangement
+pub mod Perms
+pub mod Private

@@ -1,0 +1,3 @@
+pub mod Listed
+pub mod Places
+pub mod Rows
