@@ -196,16 +196,15 @@ class Said:
         if told.startswith('no proof'):
             goal = re.search(r'did not prove (`[^`]*`)', told)
             return goal and (goal[1], True)
-        # The proof of a function that calls itself stands under its name with a plus.
-        own = [re.escape(it) for it in path.split('::')[1:]]
-        own[-1] = r'\+?' + own[-1]
-        refused = re.findall(r'`Rattle\.%s\.proofs\.%s\.(?:\w+\.)?([^.`]+)`' % (crate, r'\.'.join(own)), told)
-        folder = '/'.join(own)
-        errors = [it for it in self.lines if re.match(r'(?:\./)?proofs/%s/\w+\.antt:\d+:\d+: error' % folder, it)]
-        # Functions that call each other have one folder, where each answer begins with its function's name.
-        beside, last = (re.escape(it) for it in ('/'.join([*own[:-1], '+']), own[-1]))
-        errors += [it for it in self.lines if re.match(r'(?:\./)?proofs/%s%s/\w+\.antt:\d+:\d+: error' % (beside, last), it)
-                   or re.match(r'(?:\./)?proofs/%s\w+/\w+\.antt:\d+:\d+: error: `%s-' % (beside, last), it)]
+        # The proof of a function that calls itself stands under its name with a plus; functions that call each other
+        # have one such folder, where each answer begins with its function's name.
+        *above, name = path.split('::')[1:]
+        own = r'\.'.join([*above, r'\+?' + name])
+        refused = re.findall(r'`Rattle\.%s\.proofs\.%s\.(?:\w+\.)?([^.`]+)`' % (crate, own), told)
+        folder = '/'.join(['proofs', *above])
+        own_error = re.compile(r'(?:\./)?%s/(?:\+?%s/\w+\.antt:\d+:\d+: error|\+\w+/\w+\.antt:\d+:\d+: error: `%s-)'
+                               % (folder, name, name))
+        errors = [it for it in self.lines if own_error.match(it)]
         refused += re.findall(r'error: `([^`]*)`', '\n'.join(errors))
         is_own = told.startswith('not proved') and (refused or errors)
         is_real = not errors or any(not VANISHED.search(it) for it in errors)
