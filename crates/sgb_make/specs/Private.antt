@@ -1,0 +1,3 @@
+pub mod Link
+pub mod Rank
+pub mod Signs

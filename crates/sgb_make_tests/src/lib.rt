@@ -1,0 +1,2 @@
+//! Tests of generated graphs.
+#![tactic(auto)]
