@@ -1,6 +1,10 @@
 pub mod Links
 pub mod Moves
+pub mod Parts
+pub mod Quiet
 pub mod Ranks
 pub mod Rides
 pub mod Rows
+pub mod Signings
+pub mod Signs
 pub mod Trips

@@ -1,11 +1,11 @@
 -- The vectors of a piece: whole numbers whose squares have a given sum.
-use Rattle.std.specs.Prelude.{◌+◌, ◌*◌, ◌==◌, ℕ, zero, suc, ℤ, pos, negsuc, List, [], ◌∷◌, map, replicate, sum, Bool, true, false}
-use Rattle.std.specs.List.{flat_map, filter, range_with_len}
+use Rattle.std.specs.Prelude.{◌+◌, ◌*◌, ◌==◌, ℕ, zero, suc, ℤ, pos, negsuc, List, [], ◌∷◌, map, replicate, Bool, true, false}
+use Rattle.std.specs.List.{flat_map, filter, range_with_len, sum_by}
 use Rattle.sgb_make.specs.Choice.{choices}
 
 -- the sum of the squares
 abbrev pub squares : List ℕ → ℕ
-squares parts = sum (map (λ a. a * a) parts)
+squares = sum_by (λ a. a * a)
 
 -- the absolute values of d parts whose squares sum to this, in lexicographic order
 abbrev pub absolutes : ℕ → ℕ → List (List ℕ)
