@@ -1,5 +1,7 @@
+pub mod Advances
 pub mod Links
 pub mod Moves
+pub mod Named
 pub mod Parts
 pub mod Quiet
 pub mod Ranks
@@ -8,3 +10,4 @@ pub mod Rows
 pub mod Signings
 pub mod Signs
 pub mod Trips
+pub mod Volumes

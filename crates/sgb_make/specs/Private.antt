@@ -1,3 +1,4 @@
 pub mod Link
 pub mod Rank
+pub mod Ridden
 pub mod Signs

@@ -1,11 +1,15 @@
 //! Standard graphs: the graphs that stated insertions build.
 #![tactic(auto)]
 
+mod chess;
 mod course;
 mod link;
+mod position;
 mod ride;
 mod side;
+mod sizes;
 mod spec;
 mod vector;
 
+pub use chess::board;
 pub use spec::BoardSpec;

@@ -24,3 +24,8 @@ IsOn (a ∷ sides) (x ∷ p) = (x < a.size) × IsOn sides p
 abbrev pub IsSmall : List Side → Type 0
 IsSmall [] = Unit {0}
 IsSmall (a ∷ sides) = (0 < a.size) × (cells (a ∷ sides) ≤ 65535) × IsSmall sides
+
+-- the product of the sizes
+unfoldable pub volume : List ℕ → ℕ
+volume [] = 1
+volume (n ∷ sizes) = n * volume sizes
