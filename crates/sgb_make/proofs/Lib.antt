@@ -1,8 +1,10 @@
 pub mod Advances
+pub mod Ids
 pub mod Links
 pub mod Moves
 pub mod Named
 pub mod Parts
+pub mod Planned
 pub mod Quiet
 pub mod Ranks
 pub mod Rides

@@ -1,5 +1,5 @@
 //! Boards, and the pieces of chess and others that move on them.
-ghost use Rattle.std.specs.Prelude.{◌≡◌, ◌<◌, ◌≤◌, length, replicate, codes, map, IfOk, IfErr};
+ghost use Rattle.std.specs.Prelude.{◌≡◌, ◌<◌, ◌≤◌, length, replicate, codes, map, pos, int_lt, IfOk, IfErr};
 ghost use Rattle.sgb_graph.specs.Builder.{Inserts};
 ghost use Rattle.sgb_graph.specs.Graph.{n_of};
 ghost use Rattle.sgb_plan.specs.Plan.{IsMade};
@@ -34,6 +34,13 @@ fn piece_of(spec: &BoardSpec) -> i64
     ensures { result ≡ piece_of spec.now }
 {
     if spec.piece == 0 { 1 } else { spec.piece }
+}
+
+// A piece below 0 goes on by steps of the same vector.
+fn is_rider(piece: i64) -> bool
+    ensures { result ≡ int_lt piece (pos 0) }
+{
+    piece < 0
 }
 
 // The greatest absolute value of a piece on a board of so many coordinates.
@@ -146,7 +153,7 @@ pub fn board(alloc: Global, spec: &BoardSpec) -> Result<Graph, Refusal>
     let count = count_of(&sizes)?;
     let course = Course {
         sides: sides_of(alloc, &sizes, spec.wrap)?,
-        rides: piece < 0,
+        rides: is_rider(piece),
         most: piece.unsigned_abs() as u32,
     };
     let id = board_id(alloc, spec, &numbers, piece)?;

@@ -1,0 +1,15 @@
+use Rattle.std.proofs.Common.{rules, ◌≡◌, ◌∷◌, [], ℤ, List, length, codes, map, IfOk, if◌then◌else◌, ap, ap₂, sym, subst, ◌∙◌}
+use Rattle.std.specs.Fmt.{signed_decimal}
+use Rattle.sgb_plan.specs.Id.{id_of}
+use Rattle.sgb_plan.specs.Listing.{shown_at}
+use Rattle.sgb_make.specs.Board.{sizes_asked, piece_of, board_id}
+use Rattle.sgb_make.proofs.Ids.{IsBoardId, id_so}
+use Rattle.sgb_make.proofs.chess.board_id.Goals as goal
+
+pub returns-clause-value : goal.returns-clause-value
+returns-clause-value c =
+    let ns = c.args.numbers.now in
+    let same = c.requires.numbers in
+    id_so c.args.spec.now c.shown_at.result c.shown_at-2.result c.shown_at-3.result c.shown_at-4.result c.args.piece c.id_of.result
+    (c.shown_at.ensures ∙ ap (λ ks. shown_at ks 0) same) (c.shown_at-2.ensures ∙ ap (λ ks. shown_at ks 1) same) (c.shown_at-3.ensures ∙ ap (λ ks. shown_at ks 2) same) (c.shown_at-4.ensures ∙ ap (λ ks. shown_at ks 3) same)
+    c.requires.piece (search rules)
