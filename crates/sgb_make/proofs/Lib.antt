@@ -11,5 +11,6 @@ pub mod Rides
 pub mod Rows
 pub mod Signings
 pub mod Signs
+pub mod Still
 pub mod Trips
 pub mod Volumes

@@ -84,10 +84,10 @@ off_side x n (negsuc b) on far =
     let is : pos x +ℤ negsuc b ≡ negsuc (b - x) = omega (arith, ints) in
     ap (λ y. int_le (pos 0) y && int_lt y (pos n)) is
 
-moved-off : (a : Side) (x : ℕ) (z : ℤ) → a.wraps ≡ false → x < a.size → a.size ≤ unsigned_abs z → moved a x z ≡ None
+pub moved-off : (a : Side) (x : ℕ) (z : ℤ) → a.wraps ≡ false → x < a.size → a.size ≤ unsigned_abs z → moved a x z ≡ None
 moved-off a x z closed on far = rw (closed, off_side x a.size z on far) refl
 
-with_first_none : (o : Option ℕ) → with_first o None ≡ None
+pub with_first_none : (o : Option ℕ) → with_first o None ≡ None
 with_first_none None = refl
 with_first_none (Some x) = refl
 

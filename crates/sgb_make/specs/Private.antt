@@ -2,3 +2,4 @@ pub mod Link
 pub mod Rank
 pub mod Ridden
 pub mod Signs
+pub mod Still

@@ -1,5 +1,5 @@
 -- Rides: the positions that a piece comes to by steps along one vector.
-use Rattle.std.specs.Prelude.{◌+ℤ◌, ◌*ℤ◌, ◌==◌, ℕ, ℤ, pos, unsigned_abs, int_le, int_lt, nat_eq, List, [], ◌∷◌, length, map, Option, Some, None, Bool, ◌&&◌, if◌then◌else◌}
+use Rattle.std.specs.Prelude.{◌≡◌, ◌+ℤ◌, ◌*ℤ◌, ◌==◌, ℕ, ℤ, pos, unsigned_abs, int_le, int_lt, nat_eq, List, [], ◌∷◌, length, map, Option, Some, None, Bool, true, ◌&&◌, All, if◌then◌else◌}
 use Rattle.std.specs.Cmp.Lexicographic.{pointwise}
 use Rattle.std.specs.Int.{int_rem_euclid}
 use Rattle.std.specs.List.{flat_map, range_with_len, position_or_len}
@@ -61,3 +61,9 @@ steps_of rides n = range_with_len 1 (if rides then n else 1)
 unfoldable pub rides_along : List Side → Bool → List ℤ → List Insertion
 rides_along sides rides v =
     flat_map (λ p. ride (place_of sides p) (stop_number sides v rides p) (steps_of rides (length (positions sides)))) (positions sides)
+
+-- a ride ends, since the board is finite: after as many steps as there are positions a rider is off the board, or was
+-- back where it began
+abbrev pub RidesEnd : Type 0
+RidesEnd =
+    (sides : List Side) (v : List ℤ) → All (λ p. stop_number sides v true p (length (positions sides)) ≡ None) (positions sides)

@@ -3,6 +3,7 @@
 
 mod chess;
 mod course;
+mod law;
 mod link;
 mod position;
 mod ride;
@@ -12,4 +13,5 @@ mod spec;
 mod vector;
 
 pub use chess::board;
+pub use law::ride_law;
 pub use spec::BoardSpec;

@@ -1,10 +1,11 @@
 //! The vectors of a piece, one after the other, and the insertions along each.
-ghost use Rattle.std.specs.Prelude.{◌≡◌, ◌<◌, ◌≤◌, ◌-◌, ◌*◌, ◌⊎◌, ℕ, false, length, map, take, drop};
+ghost use Rattle.std.specs.Prelude.{◌≡◌, ◌<◌, ◌≤◌, ◌-◌, ◌*◌, ◌⊎◌, ℕ, true, false, length, map, take, drop};
 ghost use Rattle.sgb_graph.specs.Builder.{Inserts};
 ghost use Rattle.sgb_graph.specs.Graph.{n_of};
 ghost use Rattle.sgb_make.specs.Private.Link.{part_of};
 ghost use Rattle.sgb_make.specs.Private.Rank.{IsSmall, cells};
 ghost use Rattle.sgb_make.specs.Private.Signs.{along_signings, along_parts};
+ghost use Rattle.sgb_make.specs.Private.Still.{IsStillAt};
 
 use crate::course::Course;
 use crate::link::Links;
@@ -73,6 +74,32 @@ fn parts_end(side: Side, left: u32) -> u32
     if side.wraps { end } else { end.min(side.size) }
 }
 
+// The part is a multiple of the size, so that a step along this side leads off it or nowhere else. A part that is not
+// known yet is one only of 1.
+fn is_still(side: Side, part: u32, known: bool) -> bool
+    requires { 0 < side.size }
+    ensures { result ≡ true → (side.size ≡ 1) ⊎ ((known ≡ true) × ((q : ℕ) × (part ≡ q * side.size))) }
+{
+    if side.size == 1 {
+        return true;
+    }
+    known && part % side.size == 0
+}
+
+// A vector whose absolute values begin with the parts before `at` leads off the board or nowhere else.
+fn are_still(sides: &[Side], parts: &[u32], at: usize) -> bool
+    requires long { length parts.now ≡ length sides.now }
+    requires small { IsSmall sides.now }
+    ensures { result ≡ true → (k : ℕ) → k < length sides.now → IsStillAt sides.now parts.now at k }
+{
+    for k in 0..sides.len() {
+        if !is_still(sides[k], parts[k], k < at) {
+            return false;
+        }
+    }
+    true
+}
+
 // Inserts along the vectors whose absolute values begin with the parts before `at`, and whose other squares sum to
 // `left`.
 pub(crate) fn insert_parts(
@@ -95,6 +122,9 @@ pub(crate) fn insert_parts(
         (along_parts course.now.sides.items course.now.rides course.now.most (take at parts.old) (length course.now.sides.items - at) left) result }
     ensures kept { take at parts.new ≡ take at parts.old }
 {
+    if course.rides && are_still(&course.sides, parts, at) {
+        return Ok(());
+    }
     if at == parts.len() {
         return insert_whole(builder, tables, course, parts, steps, left);
     }

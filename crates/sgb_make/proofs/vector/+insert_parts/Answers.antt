@@ -6,10 +6,21 @@ use Rattle.sgb_graph.specs.declared.builder.Builder.{Builder}
 use Rattle.sgb_graph.specs.Graph.{n_of}
 use Rattle.sgb_graph.specs.Builder.{Insertion, Inserts, grown}
 use Rattle.sgb_graph.proofs.Inserting.{RefusesInsertions, from_some, from_refused, from_end, from_n}
+use Rattle.sgb_graph.proofs.Growing.{grown-nil}
 use Rattle.sgb_make.specs.Private.Signs.{along_parts}
+use Rattle.sgb_make.specs.Private.Still.{IsStillAt}
+use Rattle.sgb_make.proofs.Still.{still_parts}
 use Rattle.sgb_make.proofs.Parts.{parts_start, kept_parts, begun_more}
 use Rattle.sgb_make.proofs.Quiet.{idle_above}
 use Rattle.sgb_make.proofs.vector.+insert_parts.Goals as goal
+
+pub returns-then-are_still-clause-value : goal.returns-then-are_still-clause-value
+returns-then-are_still-clause-value t c =
+    let sides = c.args.course.now.sides.items in
+    let all = c.are_still.ensures c.if-are_still.true in
+    let still = subst (λ ss. (k : ℕ) → k < length ss → IsStillAt ss c.args.parts.now c.args.at k) c.deref.ensures.value all in
+    let none = still_parts sides c.args.course.now.rides c.args.course.now.most c.args.parts.now c.args.at (length sides - c.args.at) c.args.left c.if-course.true (omega arith) still in
+    sym (grown-nil c.args.builder.now) ∙ ap (grown c.args.builder.now) (sym none)
 
 pub returns-then-at-parts-clause-value : goal.returns-then-at-parts-clause-value
 returns-then-at-parts-clause-value t c =
