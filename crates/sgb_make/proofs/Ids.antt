@@ -1,5 +1,5 @@
 -- Lemmas on the id of a board.
-use Rattle.std.proofs.Common.{◌≡◌, ℕ, ℤ, pos, int_le, Result, Ok, Err, IfOk, List, [], ◌∷◌, ◌++◌, length, map, codes, Bool, true, false, inl, inr, if◌then◌else◌, refl, sym, ap, ◌∙◌}
+use Rattle.std.proofs.Common.{◌≡◌, ℕ, ℤ, pos, int_le, Result, Ok, Err, IfOk, List, [], ◌∷◌, ◌++◌, length, map, codes, inl, inr, if◌then◌else◌, refl, sym, ap, ◌∙◌}
 use Rattle.std.specs.Fmt.{signed_decimal}
 use Rattle.std.specs.List.{range_with_len}
 use Rattle.std.proofs.lemmas.Bool.{cases_Bool}

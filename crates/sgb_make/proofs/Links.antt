@@ -1,6 +1,6 @@
 -- Lemmas on tables of links: what they hold, and how they are made side by side.
-use Rattle.std.proofs.Common.{◌≡◌, ◌<◌, ◌≤◌, ◌+◌, ◌-◌, ◌*◌, ◌==◌, ℕ, zero, suc, ℤ, pos, ◌*ℤ◌, List, [], ◌∷◌, length, get_or, map, drop, replicate, All, Option, Some, None, IfSome, IsSome, Bool, true, false, ◌⊎◌, inl, inr, refl, sym, ap, ap₂, subst, ◌∙◌, arith}
-use Rattle.std.specs.List.{flat_map, range_with_len}
+use Rattle.std.proofs.Common.{◌≡◌, ◌<◌, ◌≤◌, ◌+◌, ◌*◌, ◌==◌, ℕ, zero, suc, ℤ, pos, ◌*ℤ◌, List, [], ◌∷◌, length, get_or, map, drop, All, Option, Some, None, IfSome, inl, inr, refl, sym, ap, subst, ◌∙◌, arith}
+use Rattle.std.specs.List.{flat_map}
 use Rattle.std.specs.Option.{option_map}
 use Rattle.std.proofs.lemmas.Bool.{cases_Bool, ne_eqb}
 use Rattle.std.proofs.lemmas.Int.{ints}
@@ -12,7 +12,7 @@ use Rattle.sgb_plan.proofs.Distincts.{All-flat_map}
 use Rattle.sgb_make.specs.declared.side.Side.{Side}
 use Rattle.sgb_make.specs.declared.side.Step.{Step}
 use Rattle.sgb_make.specs.Ride.{along, moved, with_first, stop}
-use Rattle.sgb_make.specs.Private.Link.{part_of, link_of, number_of, shifted, row_of, rows_of, links}
+use Rattle.sgb_make.specs.Private.Link.{part_of, link_of, shifted, row_of, rows_of, links}
 use Rattle.sgb_make.specs.Private.Rank.{cells, rank, IsOn, IsSmall}
 use Rattle.sgb_make.proofs.Moves.{moved-below}
 use Rattle.sgb_make.proofs.Ranks.{length-pieces, get_or-pieces, rank-below}

@@ -1,5 +1,5 @@
 -- Lemmas on positions that are made vertices.
-use Rattle.std.proofs.Common.{◌≡◌, ◌<◌, ◌≤◌, ℕ, List, [], ◌∷◌, get_or, ◌⊎◌, sym, ap, ap₂, subst, ◌∙◌, arith}
+use Rattle.std.proofs.Common.{◌≡◌, ◌≤◌, ℕ, List, [], ◌∷◌, get_or, ◌⊎◌, sym, ap, ap₂, subst, ◌∙◌}
 use Rattle.sgb_graph.specs.declared.builder.Builder.{Builder}
 use Rattle.sgb_graph.specs.declared.field.Util.{Util}
 use Rattle.sgb_graph.specs.declared.refusal.Refusal.{Refusal}
@@ -7,7 +7,7 @@ use Rattle.sgb_graph.specs.declared.refusal.Refusal.TheVariants.{NoRoom, TooLarg
 use Rattle.sgb_graph.specs.Graph.{n_of}
 use Rattle.sgb_graph.specs.Vertex.{new_vertex, with_vertex_last}
 use Rattle.sgb_plan.specs.Name.{dotted}
-use Rattle.sgb_plan.specs.Plan.{Named, with_named}
+use Rattle.sgb_plan.specs.Plan.{with_named}
 use Rattle.sgb_plan.proofs.Planning.{RefusesNames, pushed, push_refused}
 use Rattle.sgb_make.specs.declared.side.Side.{Side}
 use Rattle.sgb_make.specs.Board.{board_vertex, coordinate_fields}

@@ -1,23 +1,23 @@
 -- Lemmas on the plan of a board, and on when there is none.
-use Rattle.std.proofs.Common.{◌≡◌, ◌<◌, ◌≤◌, ◌+◌, ◌%◌, ◌==◌, ℕ, zero, suc, ℤ, pos, negsuc, unsigned_abs, int_lt, int_le, nat_le, List, [], ◌∷◌, length, map, get_or, drop, Bool, true, false, inl, inr, ◌&&◌, All, Result, Ok, Err, if◌then◌else◌, refl, sym, ap, ap₂, subst, ◌∙◌, arith}
-use Rattle.std.specs.List.{prefix_len, range_with_len}
+use Rattle.std.proofs.Common.{◌≡◌, ◌<◌, ◌≤◌, ◌%◌, ◌==◌, ℕ, zero, suc, ℤ, pos, negsuc, unsigned_abs, int_lt, nat_le, List, [], length, map, get_or, drop, Bool, true, false, inl, inr, ◌&&◌, Ok, Err, if◌then◌else◌, refl, sym, ap, subst, ◌∙◌, arith}
+use Rattle.std.specs.List.{range_with_len}
 use Rattle.std.proofs.lemmas.Bool.{cases_Bool, le-leb, lt-leb, and_from}
-use Rattle.std.proofs.lemmas.List.{length-map, get_or-map}
+use Rattle.std.proofs.lemmas.List.{length-map}
 use Rattle.std.proofs.lemmas.List.Elements.{All-map}
 use Rattle.std.proofs.lemmas.List.FromFn.{length-map-range_with_len, length-range_with_len, get_or-range_with_len}
 use Rattle.std.proofs.lemmas.List.Sums.{prefix_len_passes}
 use Rattle.std.proofs.lemmas.Nat.{mod_below}
 use Rattle.sgb_graph.specs.declared.builder.Builder.{Builder}
 use Rattle.sgb_graph.specs.declared.refusal.Refusal.{Refusal}
-use Rattle.sgb_graph.specs.declared.refusal.Refusal.TheVariants.{NoRoom, TooLarge, BadSpecs}
-use Rattle.sgb_graph.specs.Graph.{GraphOf, n_of}
+use Rattle.sgb_graph.specs.declared.refusal.Refusal.TheVariants.{TooLarge, BadSpecs}
+use Rattle.sgb_graph.specs.Graph.{n_of}
 use Rattle.sgb_graph.specs.New.{bare_graph}
 use Rattle.sgb_plan.specs.Listing.{is_positive, leading, count_from, count_of, listed_at, listed}
 use Rattle.sgb_plan.specs.Plan.{Plan, IsMade, with_named}
-use Rattle.sgb_plan.proofs.Planning.{begun, n-with_named, many_vertices, refused_before}
+use Rattle.sgb_plan.proofs.Planning.{begun, n-with_named, many_vertices}
 use Rattle.sgb_make.specs.declared.side.Side.{Side}
 use Rattle.sgb_make.specs.declared.spec.BoardSpec.{BoardSpec}
-use Rattle.sgb_make.specs.Board.{sizes_asked, piece_of, most_of_piece, is_board, sides_of, board_vertex, board_id, board_plan, plan_of_board}
+use Rattle.sgb_make.specs.Board.{sizes_asked, piece_of, most_of_piece, sides_of, board_vertex, board_id, board_plan, plan_of_board}
 use Rattle.sgb_make.specs.Ride.{positions}
 use Rattle.sgb_make.specs.Private.Rank.{volume, cells}
 use Rattle.sgb_make.specs.Private.Ridden.{ridden_plan}

@@ -1,6 +1,6 @@
 -- Lemmas on vectors that make no insertion: from each position the first step leads off the board, or a rider back.
-use Rattle.std.proofs.Common.{◌≡◌, ◌<◌, ◌≤◌, ◌+◌, ◌-◌, ◌*◌, ◌==◌, ℕ, zero, suc, ℤ, pos, negsuc, ◌+ℤ◌, ◌*ℤ◌, unsigned_abs, int_le, int_lt, List, [], ◌∷◌, ◌++◌, length, get_or, take, map, Option, Some, None, Bool, true, false, ◌&&◌, ◌⊎◌, inl, inr, if◌then◌else◌, refl, sym, ap, ap₂, subst, ◌∙◌, arith}
-use Rattle.std.specs.List.{flat_map, filter, range_with_len}
+use Rattle.std.proofs.Common.{◌≡◌, ◌<◌, ◌≤◌, ◌+◌, ◌-◌, ◌*◌, ℕ, zero, suc, ℤ, pos, negsuc, ◌+ℤ◌, ◌*ℤ◌, unsigned_abs, int_le, int_lt, List, [], ◌∷◌, ◌++◌, length, get_or, take, map, Option, Some, None, Bool, true, false, ◌&&◌, ◌⊎◌, inl, inr, if◌then◌else◌, refl, sym, ap, ap₂, ◌∙◌, arith}
+use Rattle.std.specs.List.{flat_map, range_with_len}
 use Rattle.std.specs.Option.{option_map}
 use Rattle.std.proofs.lemmas.Bool.{cases_Bool, eq-eqb, le-ltb}
 use Rattle.std.proofs.lemmas.Int.{ints}
@@ -10,7 +10,7 @@ use Rattle.sgb_graph.specs.Builder.{Insertion}
 use Rattle.sgb_make.specs.declared.side.Side.{Side}
 use Rattle.sgb_make.specs.Ride.{positions, place_of, moved, with_first, stop, unless_back, stop_number, ride_on, ride, steps_of, rides_along}
 use Rattle.sgb_make.specs.Vector.{vectors_of}
-use Rattle.sgb_make.specs.Private.Rank.{cells, rank, IsOn}
+use Rattle.sgb_make.specs.Private.Rank.{cells, IsOn}
 use Rattle.sgb_make.specs.Private.Signs.{signings, along_vectors}
 use Rattle.sgb_make.proofs.Links.{one_times}
 use Rattle.std.proofs.lemmas.List.{length-take-le}

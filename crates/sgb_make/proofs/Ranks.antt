@@ -1,5 +1,5 @@
 -- Lemmas on positions and their numbers.
-use Rattle.std.proofs.Common.{◌≡◌, ◌≢◌, ◌<◌, ◌≤◌, ◌+◌, ◌*◌, ◌/◌, ◌%◌, ℕ, zero, suc, List, [], ◌∷◌, ◌++◌, length, get_or, map, take, nat_eq, Bool, true, All, refl, sym, ap, ap₂, subst, ◌∙◌, arith}
+use Rattle.std.proofs.Common.{◌≡◌, ◌<◌, ◌+◌, ◌*◌, ◌/◌, ◌%◌, ℕ, zero, suc, List, [], ◌∷◌, ◌++◌, length, get_or, map, take, nat_eq, true, refl, sym, ap, ap₂, ◌∙◌, arith}
 use Rattle.std.specs.Cmp.Lexicographic.{pointwise, same_text}
 use Rattle.std.specs.List.{flat_map, range_with_len}
 use Rattle.std.proofs.lemmas.List.{get_or-map, length-append, length-map, length-take-le}
@@ -13,7 +13,7 @@ use Rattle.sgb_plan.proofs.Distincts.{Distinct-nil, Distinct-cons, Distinct-map,
 use Rattle.sgb_make.specs.declared.side.Side.{Side}
 use Rattle.sgb_make.specs.Choice.{choices}
 use Rattle.sgb_make.specs.Ride.{along, positions, place_of}
-use Rattle.sgb_make.specs.Private.Rank.{cells, rank, IsOn, IsSmall}
+use Rattle.sgb_make.specs.Private.Rank.{cells, rank, IsOn}
 
 -- ---- joined lists whose pieces are equally long
 pub length-pieces : {X A : Type 0} (f : X → List A) (n : ℕ) (xs : List X) → ((x : X) → length (f x) ≡ n) → length (flat_map f xs) ≡ length xs * n

@@ -1,17 +1,16 @@
 -- Lemmas on vectors by their absolute values and signs.
-use Rattle.std.proofs.Common.{◌≡◌, ◌<◌, ◌≤◌, ◌+◌, ◌-◌, ◌*◌, ◌==◌, ℕ, zero, suc, ℤ, pos, negsuc, unsigned_abs, List, [], ◌∷◌, ◌++◌, length, get_or, map, take, drop, replicate, sum, Bool, true, false, cond, All, if◌then◌else◌, ◌⊎◌, inl, inr, refl, sym, ap, ap₂, subst, ◌∙◌, arith, append_assoc}
-use Rattle.std.specs.List.{flat_map, filter, range_with_len}
-use Rattle.std.proofs.lemmas.Bool.{cases_Bool, eq-eqb, ne_eqb, eqb-true}
-use Rattle.std.proofs.lemmas.List.{append-nil, map-append, at_drop_more}
-use Rattle.std.proofs.lemmas.List.Elements.{filter-append, filter_agree}
+use Rattle.std.proofs.Common.{◌≡◌, ℕ, zero, suc, ℤ, pos, negsuc, List, [], ◌∷◌, ◌++◌, map, Bool, true, false, inl, inr, refl, sym, ap, ap₂, ◌∙◌, append_assoc}
+use Rattle.std.specs.List.{flat_map, filter}
+use Rattle.std.proofs.lemmas.Bool.{cases_Bool}
+use Rattle.std.proofs.lemmas.List.{append-nil}
+use Rattle.std.proofs.lemmas.List.Elements.{filter-append}
 use Rattle.std.proofs.lemmas.List.Folds.{flat_map-map}
 use Rattle.std.proofs.lemmas.Grind.{flat_map-append}
-use Rattle.sgb_graph.specs.Builder.{Insertion}
 use Rattle.sgb_make.specs.declared.side.Side.{Side}
 use Rattle.sgb_make.specs.Choice.{choices}
 use Rattle.sgb_make.specs.Ride.{rides_along}
-use Rattle.sgb_make.specs.Vector.{squares, absolutes, signed, is_forward, vectors_of, vectors}
-use Rattle.sgb_make.specs.Private.Signs.{signings, along_signings, parts_below, along_vectors, along_parts}
+use Rattle.sgb_make.specs.Vector.{signed, is_forward, vectors_of}
+use Rattle.sgb_make.specs.Private.Signs.{signings, along_signings, along_vectors}
 
 -- ---- joined lists
 pub flat_map_agree : {X A : Type 0} (f g : X → List A) (xs : List X) → ((x : X) → f x ≡ g x) → flat_map f xs ≡ flat_map g xs

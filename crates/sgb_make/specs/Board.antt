@@ -1,5 +1,5 @@
 -- Boards: which graph a specification plans.
-use Rattle.std.specs.Prelude.{◌+◌, ◌==◌, ℕ, zero, suc, ℤ, pos, unsigned_abs, int_le, int_lt, nat_le, List, [], ◌∷◌, ◌++◌, length, map, slice_get, codes, Option, Some, None, Bool, ◌&&◌, Result, Ok, Err, if◌then◌else◌}
+use Rattle.std.specs.Prelude.{ℕ, zero, suc, ℤ, pos, unsigned_abs, int_le, int_lt, nat_le, List, [], ◌∷◌, ◌++◌, length, map, slice_get, codes, Option, Some, None, Bool, ◌&&◌, Result, Ok, Err, if◌then◌else◌}
 use Rattle.std.specs.Fmt.{signed_decimal}
 use Rattle.std.specs.Int.{int_rem_euclid, int_div_euclid}
 use Rattle.std.specs.List.{flat_map}

@@ -1,5 +1,5 @@
 -- Lists that are chosen element by element.
-use Rattle.std.specs.Prelude.{ℕ, List, [], ◌∷◌, map}
+use Rattle.std.specs.Prelude.{List, [], ◌∷◌, map}
 use Rattle.std.specs.List.{flat_map}
 
 -- one element of each list, in lexicographic order

@@ -110,7 +110,15 @@ fn insert_vectors(builder: &mut Builder, alloc: Global, course: &Course) -> Resu
     };
     let mut parts = zeros(alloc, course.sides.len())?;
     let mut steps = no_steps(alloc, course.sides.len())?;
-    insert_parts(builder, &mut tables, course, &mut parts, &mut steps, 0, course.most)
+    insert_parts(
+        builder,
+        &mut tables,
+        course,
+        &mut parts,
+        &mut steps,
+        0,
+        course.most,
+    )
 }
 
 // The graph of so many positions, and of all rides on them.

@@ -6,5 +6,4 @@ ghost use Rattle.sgb_make.specs.Ride.{RidesEnd};
 /// nothing.
 pub fn ride_law()
     ensures { RidesEnd }
-{
-}
+{}

@@ -93,7 +93,12 @@ fn append_row(table: &mut Vec<u32>, behind: &[u32], to: Option<u32>) -> Result<(
 }
 
 // Writes the links of a board from those of the board without its first side.
-fn append_rows(table: &mut Vec<u32>, behind: &[u32], side: Side, step: Step) -> Result<(), AllocError>
+fn append_rows(
+    table: &mut Vec<u32>,
+    behind: &[u32],
+    side: Side,
+    step: Step,
+) -> Result<(), AllocError>
     requires low { All (λ t. t ≤ length behind.now) behind.now }
     requires few { side.size * length behind.now ≤ 65535 }
     ensures { OnOk result (table.new.items ≡ table.old.items ++ rows_of side (part_of step) behind.now) }

@@ -130,7 +130,15 @@ pub(crate) fn insert_parts(
     }
     for part in 0..parts_end(course.sides[at], left) {
         parts[at] = part;
-        insert_parts(builder, tables, course, parts, steps, at + 1, left - part * part)?;
+        insert_parts(
+            builder,
+            tables,
+            course,
+            parts,
+            steps,
+            at + 1,
+            left - part * part,
+        )?;
     }
     Ok(())
 }

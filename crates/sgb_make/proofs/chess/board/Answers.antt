@@ -1,4 +1,4 @@
-use Rattle.std.proofs.Common.{rules, ◌≡◌, ◌<◌, ◌≤◌, ℕ, pos, int_lt, All, List, length, unsigned_abs, FitsSigned, Ok, Err, ◌⊎◌, inl, inr, sym, ap, ap₂, subst, ◌∙◌, arith}
+use Rattle.std.proofs.Common.{rules, ◌≡◌, ◌<◌, ◌≤◌, pos, int_lt, All, length, unsigned_abs, FitsSigned, Ok, Err, ◌⊎◌, inl, inr, sym, ap, ap₂, subst, ◌∙◌, arith}
 use Rattle.std.specs.Int.{w64}
 use Rattle.std.proofs.lemmas.Int.{to_z-of_z}
 use Rattle.std.proofs.lemmas.Result.{err_from_is_err_and}
@@ -11,7 +11,7 @@ use Rattle.sgb_make.specs.declared.spec.BoardSpec.{BoardSpec}
 use Rattle.sgb_make.specs.Board.{sizes_asked, piece_of, most_of_piece, sides_of, board_id, board_plan, plan_of_board}
 use Rattle.sgb_make.specs.Private.Rank.{volume, cells, IsSmall}
 use Rattle.sgb_make.specs.Private.Ridden.{ridden_plan}
-use Rattle.sgb_make.proofs.Planned.{positive-listed, length-listed, too_many_sizes, too_large_piece, planned, board_plan_is, too_many_positions, most_is}
+use Rattle.sgb_make.proofs.Planned.{positive-listed, too_many_sizes, too_large_piece, planned, board_plan_is, too_many_positions}
 use Rattle.sgb_make.proofs.Volumes.{ArePositive, small_sizes, small-sides_of, cells-sides_of, length-sides_of}
 use Rattle.sgb_make.proofs.chess.board.Goals as goal
 
@@ -27,8 +27,8 @@ returns-in_err-sizes c =
     let p = err_from_is_err_and c.from_residual.result c.from_residual.ensures.1 in
     record {
       made = rw (p.1, p.2)
-      (no_plan c.args.spec.now c.in_err-sizes.field-0.0
-      (subst (λ ns. (c.in_err-sizes.field-0.0 ≡ NoRoom) ⊎ ((c.in_err-sizes.field-0.0 ≡ BadSpecs) × (20 < count_of 0 ns))) c.sizes_asked-numbers.ensures c.in_err-sizes.ensures.err));
+          (no_plan c.args.spec.now c.in_err-sizes.field-0.0
+          (subst (λ ns. (c.in_err-sizes.field-0.0 ≡ NoRoom) ⊎ ((c.in_err-sizes.field-0.0 ≡ BadSpecs) × (20 < count_of 0 ns))) c.sizes_asked-numbers.ensures c.in_err-sizes.ensures.err));
     }
 
 pub returns-then-unsigned_abs-most_of_piece : goal.returns-then-unsigned_abs-most_of_piece
@@ -57,7 +57,7 @@ returns-in_err-count c =
     let many : 65535 < volume (listed 0 (sizes_asked s)) = subst (λ ns. 65535 < volume ns) (c.deref.ensures.value ∙ sizes) c.in_err-count.ensures.err.1 in
     record {
       made = rw (p.1, p.2)
-      (subst (λ q. IsMade q (Err c.in_err-count.field-0.0)) (sym plan) (too_many_positions s (listed 0 (sizes_asked s)) c.in_err-count.field-0.0 c.in_err-count.ensures.err.0 many));
+          (subst (λ q. IsMade q (Err c.in_err-count.field-0.0)) (sym plan) (too_many_positions s (listed 0 (sizes_asked s)) c.in_err-count.field-0.0 c.in_err-count.ensures.err.0 many));
     }
 
 pub sides_of-requires : goal.sides_of-requires
@@ -112,5 +112,5 @@ returns c =
     ∙ board_plan_is s (sides_of s.wrap (listed 0 (sizes_asked s))))) in
     record {
       made = subst (λ q. IsMade q c.build.result) (sym plan)
-      (subst (λ (q : Plan). IsMade (Ok q) c.build.result) same c.build.ensures);
+          (subst (λ (q : Plan). IsMade (Ok q) c.build.result) same c.build.ensures);
     }

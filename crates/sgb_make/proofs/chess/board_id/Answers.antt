@@ -1,9 +1,6 @@
-use Rattle.std.proofs.Common.{rules, ◌≡◌, ◌∷◌, [], ℤ, List, length, codes, map, IfOk, if◌then◌else◌, ap, ap₂, sym, subst, ◌∙◌}
-use Rattle.std.specs.Fmt.{signed_decimal}
-use Rattle.sgb_plan.specs.Id.{id_of}
+use Rattle.std.proofs.Common.{rules, ap, ◌∙◌}
 use Rattle.sgb_plan.specs.Listing.{shown_at}
-use Rattle.sgb_make.specs.Board.{sizes_asked, piece_of, board_id}
-use Rattle.sgb_make.proofs.Ids.{IsBoardId, id_so}
+use Rattle.sgb_make.proofs.Ids.{id_so}
 use Rattle.sgb_make.proofs.chess.board_id.Goals as goal
 
 pub returns-clause-value : goal.returns-clause-value

@@ -1,16 +1,11 @@
-use Rattle.std.proofs.Common.{◌≡◌, ◌+◌, ℕ, List, [], length, map, codes, Bool, Ok, Err, refl, sym, ap, ap₂, subst, ◌∙◌, arith}
-use Rattle.std.proofs.lemmas.List.{length-map}
+use Rattle.std.proofs.Common.{map, refl, ap, subst, ◌∙◌}
 use Rattle.std.proofs.lemmas.Result.{err_from_is_err_and}
-use Rattle.sgb_graph.specs.declared.builder.Builder.{Builder}
-use Rattle.sgb_graph.specs.Graph.{IsGraph, n_of}
-use Rattle.sgb_graph.specs.New.{bare_graph}
-use Rattle.sgb_plan.specs.Plan.{Plan, IsMade, with_named}
-use Rattle.sgb_plan.proofs.Planning.{begun, n-with_named, RefusesNames, made, refused_names, refused_insertions}
+use Rattle.sgb_graph.specs.Graph.{IsGraph}
+use Rattle.sgb_plan.specs.Plan.{Plan, with_named}
+use Rattle.sgb_plan.proofs.Planning.{RefusesNames, made, refused_names, refused_insertions}
 use Rattle.sgb_make.specs.Board.{board_vertex}
 use Rattle.sgb_make.specs.Ride.{positions}
-use Rattle.sgb_make.specs.Private.Rank.{cells}
 use Rattle.sgb_make.specs.Private.Ridden.{ridden_plan}
-use Rattle.sgb_make.proofs.Ranks.{length-positions}
 use Rattle.sgb_make.proofs.Planned.{begins, named_n}
 use Rattle.sgb_make.proofs.chess.build.Goals as goal
 

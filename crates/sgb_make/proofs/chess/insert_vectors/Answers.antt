@@ -1,6 +1,5 @@
-use Rattle.std.proofs.Common.{rules, ◌≡◌, ◌-◌, List, [], length, take, drop, ap, ap₂, sym, subst, ◌∙◌, arith}
+use Rattle.std.proofs.Common.{◌≡◌, ◌-◌, List, [], length, ap, sym, subst, ◌∙◌, arith}
 use Rattle.sgb_graph.specs.Builder.{Insertion, Inserts}
-use Rattle.sgb_make.specs.Private.Ridden.{along_all}
 use Rattle.sgb_make.specs.Private.Signs.{along_parts}
 use Rattle.sgb_make.proofs.Parts.{all_vectors}
 use Rattle.sgb_make.proofs.chess.insert_vectors.Goals as goal

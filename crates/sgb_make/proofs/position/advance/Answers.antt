@@ -1,6 +1,5 @@
-use Rattle.std.proofs.Common.{◌≡◌, ◌<◌, ◌≤◌, ◌+◌, ◌-◌, ℕ, length, get_or, false, subst, arith}
+use Rattle.std.proofs.Common.{◌≡◌, ◌+◌, ◌-◌, ℕ, length, get_or, false, subst, arith}
 use Rattle.sgb_make.specs.declared.side.Side.{Side}
-use Rattle.sgb_make.specs.Private.Rank.{cells}
 use Rattle.sgb_make.proofs.Advances.{Counted, length-on, on-at, on-set, counted_start, counted_more, counted_up, counted_all}
 use Rattle.sgb_make.proofs.position.advance.Goals as goal
 

@@ -1,14 +1,11 @@
-use Rattle.std.proofs.Common.{◌≡◌, ◌<◌, ◌+◌, ◌∷◌, [], ℕ, List, length, get_or, map, replicate, ap, ap₂, sym, subst, ◌∙◌, arith}
+use Rattle.std.proofs.Common.{◌≡◌, ◌+◌, length, map, replicate, ap, sym, subst, ◌∙◌, arith}
 use Rattle.std.proofs.lemmas.List.{with_items_is}
 use Rattle.std.proofs.lemmas.Result.{err_from_is_err_and}
-use Rattle.sgb_graph.specs.declared.builder.Builder.{Builder}
-use Rattle.sgb_graph.specs.declared.field.Util.{Util}
 use Rattle.sgb_plan.specs.Name.{dotted}
-use Rattle.sgb_plan.specs.Plan.{with_named}
-use Rattle.sgb_plan.proofs.Planning.{NamesOf, pushed, push_refused, names_of_start, names_of_some, names_of_refused, names_of_end}
+use Rattle.sgb_plan.proofs.Planning.{NamesOf, names_of_start, names_of_some, names_of_refused, names_of_end}
 use Rattle.sgb_make.specs.Board.{board_vertex, coordinate_fields}
 use Rattle.sgb_make.specs.Ride.{positions}
-use Rattle.sgb_make.specs.Private.Rank.{IsOn, rank, cells}
+use Rattle.sgb_make.specs.Private.Rank.{IsOn, rank}
 use Rattle.sgb_make.proofs.Advances.{zeros_on, rank-zeros}
 use Rattle.sgb_make.proofs.Named.{position_here, named_so, refused_so}
 use Rattle.sgb_make.proofs.Ranks.{length-positions}
@@ -47,10 +44,10 @@ loop-preserved c =
     let now : rank sides c.deref_mut.result.now ≡ c.loop.counter = ap (rank sides) c.deref_mut.ensures.value ∙ number in
     record {
       left = names_of_some c.loop.position.items (omega (arith, length-positions sides)) (position_here sides c.loop.position.items c.loop.counter c.loop.invariant.on number) c.loop.invariant.left
-      (c.in_ok-push_vertex.ensures.ok
-      ∙ named_so c.loop.builder c.loop.position.items c.new.result c.fields_of.result
-      (c.new.ensures.value ∙ (c.in_ok-label.ensures.value ∙ ap dotted c.deref.ensures.value))
-      (c.fields_of.ensures ∙ ap coordinate_fields c.deref-in-loop.ensures.value));
+          (c.in_ok-push_vertex.ensures.ok
+          ∙ named_so c.loop.builder c.loop.position.items c.new.result c.fields_of.result
+          (c.new.ensures.value ∙ (c.in_ok-label.ensures.value ∙ ap dotted c.deref.ensures.value))
+          (c.fields_of.ensures ∙ ap coordinate_fields c.deref-in-loop.ensures.value));
       on = subst (IsOn sides) (sym items) c.advance.ensures.on;
       number = λ more. ap (rank sides) items ∙ (c.advance.ensures.next (omega (arith, more, now, c.requires.count)) ∙ ap (λ k. k + 1) now);
     }

@@ -1,9 +1,8 @@
-use Rattle.std.proofs.Common.{◌≡◌, ◌≤◌, List, length, map, All, ap, sym, subst, ◌∙◌, arith}
+use Rattle.std.proofs.Common.{◌≡◌, List, length, map, ap, sym, subst, ◌∙◌, arith}
 use Rattle.std.proofs.lemmas.List.{length-map}
 use Rattle.sgb_graph.specs.Builder.{Insertion, Inserts}
 use Rattle.sgb_make.specs.Ride.{rides_along}
-use Rattle.sgb_make.specs.Private.Link.{part_of, links, trips}
-use Rattle.sgb_make.specs.Private.Rank.{cells}
+use Rattle.sgb_make.specs.Private.Link.{part_of, trips}
 use Rattle.sgb_make.proofs.Links.{length-links, table_low, few_cells}
 use Rattle.sgb_make.proofs.Rides.{rides_are_trips}
 use Rattle.sgb_make.proofs.ride.insert_rides.Goals as goal

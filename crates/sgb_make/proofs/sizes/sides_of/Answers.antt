@@ -1,5 +1,5 @@
-use Rattle.std.proofs.Common.{rules, ◌≡◌, ◌++◌, ◌∷◌, [], ℤ, pos, ap, ◌∙◌, arith, to_z, of_z}
-use Rattle.std.specs.Int.{w64, int_div_euclid}
+use Rattle.std.proofs.Common.{◌++◌, ap, ◌∙◌, arith, to_z, of_z}
+use Rattle.std.specs.Int.{w64}
 use Rattle.std.proofs.lemmas.Int.{to_z-of_z}
 use Rattle.sgb_make.specs.Board.{sides_of}
 use Rattle.sgb_make.proofs.Volumes.{sides_more, sides_end}

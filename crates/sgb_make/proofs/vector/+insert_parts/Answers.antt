@@ -1,9 +1,6 @@
-use Rattle.std.proofs.Common.{rules, ◌≡◌, ◌<◌, ◌≤◌, ◌+◌, ◌-◌, ◌*◌, ℕ, List, [], ◌∷◌, ◌++◌, length, get_or, take, set, suc, refl, ap, ap₂, sym, subst, ◌∙◌, arith}
-use Rattle.std.proofs.Math.ListN.{length-set}
-use Rattle.std.proofs.lemmas.List.{take_all, take-take, take-set-le, take_more_set, length-take-le}
+use Rattle.std.proofs.Common.{rules, ◌≡◌, ◌<◌, ◌+◌, ◌-◌, ◌*◌, ℕ, List, length, take, refl, ap, ap₂, sym, subst, ◌∙◌, arith}
+use Rattle.std.proofs.lemmas.List.{take_all}
 use Rattle.std.proofs.lemmas.Result.{err_from_is_err_and}
-use Rattle.sgb_graph.specs.declared.builder.Builder.{Builder}
-use Rattle.sgb_graph.specs.Graph.{n_of}
 use Rattle.sgb_graph.specs.Builder.{Insertion, Inserts, grown}
 use Rattle.sgb_graph.proofs.Inserting.{RefusesInsertions, from_some, from_refused, from_end, from_n}
 use Rattle.sgb_graph.proofs.Growing.{grown-nil}
@@ -36,7 +33,7 @@ loop-part-init t c =
     let sides = c.args.course.now.sides.items in
     record {
       left = parts_start sides c.args.course.now.rides c.args.course.now.most (take c.args.at c.args.parts.now) (length sides - c.args.at) (length sides - (c.args.at + 1)) c.args.left c.parts_end-part-end.result c.args.builder.now (omega arith) c.requires.left c.parts_end-part-end.ensures.few
-      (idle_above sides c.args.course.now.rides c.args.parts.now c.args.at c.args.left c.parts_end-part-end.result c.index.result.now (omega arith) (omega arith) c.index.ensures c.parts_end-part-end.ensures.all);
+          (idle_above sides c.args.course.now.rides c.args.parts.now c.args.at c.args.left c.parts_end-part-end.result c.index.result.now (omega arith) (omega arith) c.index.ensures c.parts_end-part-end.ensures.all);
       kept = refl;
     }
 
@@ -64,8 +61,8 @@ loop-part-preserved t c =
     let begun = begun_more c.args.parts.now c.loop-part.parts c.args.at c.loop-part.part (omega arith) c.loop-part.invariant.kept in
     record {
       left = from_some (omega arith) c.loop-part.invariant.left
-      (c.in_ok-insert_parts.ensures.value
-      ∙ ap (λ ps. grown c.loop-part.builder (along_parts sides c.args.course.now.rides c.args.course.now.most ps (length sides - (c.args.at + 1)) (c.args.left - c.loop-part.part * c.loop-part.part))) begun);
+          (c.in_ok-insert_parts.ensures.value
+          ∙ ap (λ ps. grown c.loop-part.builder (along_parts sides c.args.course.now.rides c.args.course.now.most ps (length sides - (c.args.at + 1)) (c.args.left - c.loop-part.part * c.loop-part.part))) begun);
       kept = kept_parts c.loop-part.parts c.insert_parts.new.parts c.args.at c.loop-part.part (omega arith) c.insert_parts.ensures.kept ∙ c.loop-part.invariant.kept;
     }
 

@@ -1,4 +1,4 @@
-use Rattle.std.proofs.Common.{◌≡◌, ◌+◌, ◌-◌, ℕ, length, take}
+use Rattle.std.proofs.Common.{◌≡◌, ◌+◌, ◌-◌, length, take}
 use Rattle.sgb_graph.proofs.Inserting.{LeftFrom}
 use Rattle.sgb_make.specs.Private.Signs.{along_parts}
 use Rattle.sgb_make.proofs.Parts.{behind_part}

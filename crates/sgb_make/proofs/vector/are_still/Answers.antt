@@ -1,4 +1,4 @@
-use Rattle.std.proofs.Common.{◌≡◌, ◌<◌, length, false, arith, refl}
+use Rattle.std.proofs.Common.{false, arith}
 use Rattle.std.proofs.lemmas.Bool.{ltb-true}
 use Rattle.sgb_make.specs.declared.side.Side.{Side}
 use Rattle.sgb_make.specs.Private.Still.{IsStillAt}
