@@ -1,0 +1,16 @@
+pub mod Advances
+pub mod Ids
+pub mod Links
+pub mod Moves
+pub mod Named
+pub mod Parts
+pub mod Planned
+pub mod Quiet
+pub mod Ranks
+pub mod Rides
+pub mod Rows
+pub mod Signings
+pub mod Signs
+pub mod Still
+pub mod Trips
+pub mod Volumes

@@ -1,0 +1,5 @@
+pub mod Link
+pub mod Rank
+pub mod Ridden
+pub mod Signs
+pub mod Still

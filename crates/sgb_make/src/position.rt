@@ -1,0 +1,87 @@
+//! The positions of a board as its vertices.
+ghost use Rattle.std.specs.Prelude.{◌≡◌, ◌<◌, ◌≤◌, ◌+◌, length, map, replicate, IfOk};
+ghost use Rattle.sgb_plan.specs.Plan.{Names};
+ghost use Rattle.sgb_make.specs.Board.{board_vertex, coordinate_fields, coordinate};
+ghost use Rattle.sgb_make.specs.Ride.{positions};
+ghost use Rattle.sgb_make.specs.Private.Rank.{IsOn, IsSmall, cells, rank};
+
+use crate::side::Side;
+use sgb_graph::{Builder, Label, Refusal, Util};
+use sgb_plan::dotted;
+use std::alloc::{AllocError, Global};
+
+// Goes on to the next position: the last coordinate counts up, and one that is at its end begins anew and lets the one
+// before it count.
+fn advance(sides: &[Side], position: &mut [u32])
+    requires { IsOn sides.now position.old }
+    ensures on { IsOn sides.now position.new }
+    ensures next { rank sides.now position.old + 1 < cells sides.now →
+        rank sides.now position.new ≡ rank sides.now position.old + 1 }
+{
+    for done in 0..sides.len() {
+        let k = sides.len() - 1 - done;
+        let size = sides[k].size;
+        if position[k] + 1 < size {
+            position[k] += 1;
+            return;
+        }
+        position[k] = 0;
+    }
+}
+
+// So many times 0.
+pub(crate) fn zeros(alloc: Global, count: usize) -> Result<Vec<u32>, AllocError>
+    ensures { IfOk result (λ list. list.items ≡ replicate count 0) }
+{
+    let mut list = Vec::new(alloc);
+    for _ in 0..count {
+        list.push(0)?;
+    }
+    Ok(list)
+}
+
+// A coordinate as the value of a field, or Zero where there is none.
+fn coordinate(x: Option<u32>) -> Util
+    ensures { result ≡ coordinate x }
+{
+    match x {
+        Some(x) => Util::Int(x as i64),
+        None => Util::Zero,
+    }
+}
+
+// The six fields of a position.
+fn fields_of(position: &[u32]) -> [Util; 6]
+    ensures { result ≡ coordinate_fields position.now }
+{
+    [
+        Util::Zero,
+        Util::Zero,
+        Util::Zero,
+        coordinate(position.get(0).copied()),
+        coordinate(position.get(1).copied()),
+        coordinate(position.get(2).copied()),
+    ]
+}
+
+// Makes a vertex of each position, in order.
+pub(crate) fn name_positions(
+    builder: &mut Builder,
+    alloc: Global,
+    sides: &[Side],
+    count: u32,
+) -> Result<(), Refusal>
+    requires few { length sides.now ≤ 20 }
+    requires small { IsSmall sides.now }
+    requires count { count ≡ cells sides.now }
+    ensures { Names builder.old builder.new (map board_vertex (positions sides.now)) result }
+{
+    builder.reserve_vertices(count as usize)?;
+    let mut position = zeros(alloc, sides.len())?;
+    for _ in 0..count {
+        let label = dotted(alloc, &position)?;
+        builder.push_vertex(Label::new(label), fields_of(&position))?;
+        advance(sides, &mut position);
+    }
+    Ok(())
+}

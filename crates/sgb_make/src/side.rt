@@ -1,0 +1,15 @@
+//! The sides of a board, and the steps of a piece along them.
+
+/// A coordinate of a board: its size, and whether its ends are joined.
+#[derive(Clone, Copy, Debug)]
+pub(crate) struct Side {
+    pub(crate) size: u32,
+    pub(crate) wraps: bool,
+}
+
+/// A part of a vector: by how much it moves a coordinate, and whether it moves it back.
+#[derive(Clone, Copy, Debug)]
+pub(crate) struct Step {
+    pub(crate) by: u32,
+    pub(crate) back: bool,
+}

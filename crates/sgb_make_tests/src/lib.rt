@@ -1,0 +1,9 @@
+//! Tests of generated graphs.
+#![tactic(auto)]
+
+#[cfg(test)]
+mod boards;
+#[cfg(test)]
+mod laws;
+#[cfg(test)]
+mod looks;
