@@ -1,0 +1,4 @@
+pub mod Moves
+pub mod Overlap
+pub mod Points
+pub mod Private
