@@ -10,6 +10,8 @@ mod ids;
 #[cfg(test)]
 mod lengths;
 #[cfg(test)]
+mod lists;
+#[cfg(test)]
 mod names;
 #[cfg(test)]
 mod paths;

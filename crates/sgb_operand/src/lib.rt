@@ -1,0 +1,12 @@
+//! Graphs as operands of combinations: whether their arcs lead to vertices, and where they lead from each vertex.
+#![tactic(auto)]
+
+mod check;
+mod facts;
+mod read;
+mod spoke;
+
+pub use check::check_operand;
+pub use facts::spoke_law;
+pub use read::read_spokes;
+pub use spoke::Spoke;
