@@ -1,8 +1,14 @@
-//! Simplices and families of subsets: graphs whose vertices are points with a given sum.
+//! Simplices and families of subsets: graphs whose vertices are the points with a given sum.
 #![tactic(auto)]
 
+mod arguments;
+mod bounds;
 mod counts;
+mod generate;
 mod list;
 mod moves;
 mod naming;
 mod overlap;
+
+pub use arguments::{SimplexSpec, SubsetsSpec};
+pub use generate::{simplex, subsets};

@@ -1,0 +1,33 @@
+-- The bounds of coordinates, by the numbers that are given.
+use Rattle.std.specs.Prelude.{◌+◌, ◌&&◌, ℕ, ℤ, pos, negsuc, unsigned_abs, int_lt, int_le, nat_le, min, List, [], ◌∷◌, length, map, replicate, get_or, codes, Bool, if◌then◌else◌}
+use Rattle.std.specs.Fmt.{signed_decimal}
+use Rattle.std.specs.Int.{int_min}
+use Rattle.std.specs.List.{range_with_len}
+use Rattle.std.specs.Ordering.{int_eq}
+use Rattle.sgb_plan.specs.Listing.{listed, shown_at}
+
+-- 0 stands for -2
+abbrev pub first_of : ℤ → ℤ
+first_of n0 = if int_eq n0 (pos 0) then negsuc 1 else n0
+
+-- -d in front gives d + 1 times n; else the list of the numbers, where -d at its end makes d + 1 of them; none is above n
+unfoldable pub bounds_of : ℤ → List ℤ → List ℕ
+bounds_of n numbers =
+    let first : ℤ = get_or numbers 0 (pos 0) in
+    if int_lt first (pos 0) then replicate (unsigned_abs first + 1) (unsigned_abs n)
+    else map (λ b. min b (unsigned_abs n)) (listed 1 numbers)
+
+-- there may be points with the sum n, of at most 16 coordinates
+abbrev pub are_in_range : ℤ → List ℤ → Bool
+are_in_range n numbers = int_le (pos 0) n && int_le n (pos 65535) && nat_le (length (bounds_of n numbers)) 16
+
+-- the number at this place, as ids show it
+abbrev pub shown_bound : ℤ → List ℤ → ℕ → ℤ
+shown_bound n numbers i = int_min (shown_at numbers i) n
+
+-- n and the five numbers, as ids show them
+abbrev pub shown_parts : ℤ → List ℤ → List (List ℕ)
+shown_parts n numbers = signed_decimal n ∷ map (λ i. signed_decimal (shown_bound n numbers i)) (range_with_len 0 5)
+
+abbrev pub flag_text : Bool → List ℕ
+flag_text flag = if flag then codes "1" else codes "0"

@@ -1,0 +1,64 @@
+//! Pairs of points by how much they have in common.
+ghost use Rattle.std.specs.Prelude.{◌≡◌, ◌≤◌, ◌<◌, [], get_or, length};
+ghost use Rattle.sgb_graph.specs.Builder.{Inserts};
+ghost use Rattle.sgb_graph.specs.Graph.{n_of};
+ghost use Rattle.sgb_simplex.specs.Points.{points};
+ghost use Rattle.sgb_simplex.specs.Overlap.{overlap, has_size, pairs, pairs_to};
+
+use crate::list::PointList;
+use sgb_graph::{Builder, Refusal, VertexNo};
+
+/// Inserts the pairs of points whose overlap is one of these sizes.
+pub(crate) fn insert_pairs(
+    builder: &mut Builder,
+    list: &PointList,
+    size_bits: u64,
+) -> Result<(), Refusal>
+    requires { n_of builder.old.graph ≡ list.now.count }
+    ensures { Inserts builder.old builder.new (pairs (points list.now.total list.now.bounds.items) size_bits) result }
+{
+    for v in 0..list.count {
+        insert_pairs_to(builder, list, v, size_bits)?;
+    }
+    Ok(())
+}
+
+// Inserts those of the point with the number `v`.
+fn insert_pairs_to(
+    builder: &mut Builder,
+    list: &PointList,
+    v: u32,
+    size_bits: u64,
+) -> Result<(), Refusal>
+    requires all { n_of builder.old.graph ≡ list.now.count }
+    requires v { v < list.now.count }
+    ensures { Inserts builder.old builder.new
+        (pairs_to (points list.now.total list.now.bounds.items) size_bits v) result }
+{
+    let point = list.point(v);
+    for u in 0..v + 1 {
+        if has_size(size_bits, overlap(list.point(u), point)) {
+            builder.insert(VertexNo(u), VertexNo(v), 1)?;
+        }
+    }
+    Ok(())
+}
+
+// The sum of the smaller coordinates.
+fn overlap(first: &[u32], second: &[u32]) -> u64
+    requires { length first.now ≤ 16 }
+    ensures { result ≡ overlap first.now second.now }
+{
+    let mut size = 0;
+    for (x, y) in first.iter().zip(second) {
+        size += u64::from(*x.min(y));
+    }
+    size
+}
+
+// The size is below 64, and its bit is set.
+fn has_size(size_bits: u64, size: u64) -> bool
+    ensures { result ≡ has_size size_bits size }
+{
+    size < 64 && (size_bits >> size) % 2 == 1
+}
