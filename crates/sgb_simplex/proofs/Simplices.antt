@@ -12,13 +12,13 @@ use Rattle.sgb_plan.proofs.Distincts.{All-flat_map, position_or_len-map, positio
 use Rattle.sgb_simplex.specs.Points.{tuples, points, place_of}
 use Rattle.sgb_simplex.specs.Private.Counts.{sum_from, counted, counted_below, IsPoint}
 use Rattle.sgb_simplex.proofs.Runs.{filter-flat_map, filter-map, filter_none, agree, empty, cut_above, cut_below, length_in, position_in}
-use Rattle.sgb_simplex.proofs.Sums.{sum_same, sum_part, sum_back, sum_limited}
+use Rattle.sgb_simplex.proofs.Sums.{sum_same, sum_more, sum_part, sum_back, sum_limited}
 
 -- the points that begin with x
 abbrev pub piece : ℕ → List ℕ → ℕ → List (List ℕ)
 piece s bs x = map (λ t. x ∷ t) (points (s - x) bs)
 
-sum_cons : (x : ℕ) (t : List ℕ) → sum (x ∷ t) ≡ x + sum t
+pub sum_cons : (x : ℕ) (t : List ℕ) → sum (x ∷ t) ≡ x + sum t
 sum_cons x t = sum_by-cons (λ y. y) x t
 
 has_sum : (s x : ℕ) (t : List ℕ) → x ≤ s → (sum (x ∷ t) == s) ≡ (sum t == s - x)
@@ -97,6 +97,25 @@ below_is bs s = refl
 pub below_none : (bs : List ℕ) → counted_below bs 0 ≡ 0
 unfolding counted_below sum_from
 below_none bs = refl
+
+pub below_more : (bs : List ℕ) (s : ℕ) → counted_below bs (s + 1) ≡ counted_below bs s + counted bs s
+unfolding counted_below
+below_more bs s = sum_more (counted bs) 0 s (s + 1) s (omega arith) (omega arith)
+
+none_above : (s n : ℕ) → 0 < s → sum_from (counted []) s n ≡ 0
+unfolding sum_from
+none_above s zero some = refl
+none_above s (suc n) some =
+    let here : length (points s []) ≡ 0 = ap length (points_none_nil s some) in
+    omega (arith, here, counted_is [] s, none_above (s + 1) n (omega arith))
+
+-- the one point of no coordinates
+pub below_nil : (s : ℕ) → 0 < s → counted_below [] s ≡ 1
+unfolding counted_below sum_from
+below_nil zero some = absurd (omega (arith, some))
+below_nil (suc s) some =
+    let here : length (points 0 []) ≡ 1 = ap length points_nil in
+    omega (arith, here, counted_is [] 0, none_above 1 s (omega arith))
 
 -- the counts of x sums downwards from s
 counts_back : (bs : List ℕ) (s x rest : ℕ) → x + rest ≡ s + 1 → sum_from (λ y. counted bs (s - y)) 0 x + counted_below bs rest ≡ counted_below bs (s + 1)

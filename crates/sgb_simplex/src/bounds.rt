@@ -49,7 +49,7 @@ fn cut_to(alloc: Global, n: u32, list: &[u64]) -> Result<Vec<u32>, AllocError>
 {
     let mut cut = Vec::with_capacity(alloc, list.len())?;
     for number in list {
-        cut.push(u64::from(n).min(*number) as u32)?;
+        cut.push((*number).min(u64::from(n)) as u32)?;
     }
     Ok(cut)
 }

@@ -1,5 +1,5 @@
 //! The points with a given sum within given bounds, in their order.
-ghost use Rattle.std.specs.Prelude.{◌≡◌, ◌⊎◌, ◌≤◌, ◌<◌, ◌+◌, ◌++◌, [], length, get_or, slice_index, take, drop, All, OnOk, IfOk, IfErr, vec_len};
+ghost use Rattle.std.specs.Prelude.{◌≡◌, ◌⊎◌, ◌≤◌, ◌<◌, ◌+◌, ◌^◌, ◌++◌, [], length, get_or, slice_index, take, drop, All, OnOk, IfOk, IfErr, vec_len};
 ghost use Rattle.std.specs.List.{flat_map, sum};
 ghost use Rattle.sgb_simplex.specs.Points.{points, place_of};
 ghost use Rattle.sgb_simplex.specs.Moves.{lowered, raised};
@@ -19,6 +19,7 @@ pub(crate) struct PointList {
     coordinates: Vec<u32>,
     pub(crate) count: u32,
     ghost narrow: { vec_len bounds ≤ 16 },
+    ghost bounded: { All (λ b. b ≤ 65535) bounds.items },
     ghost table: { IsTable bounds.items total rows.items },
     ghost listed: { coordinates.items ≡ flat_map (λ t. t) (points total bounds.items) },
     ghost counted: { count ≡ length (points total bounds.items) },
@@ -119,6 +120,7 @@ fn list_points(
     total: u32,
     count: usize,
 ) -> Result<Vec<u32>, AllocError>
+    requires total { total ≤ 65535 }
     requires count { count ≤ 65535 }
     requires narrow { length bounds.now ≤ 16 }
     requires bounded { All (λ b. b ≤ 65535) bounds.now }
@@ -127,29 +129,25 @@ fn list_points(
     let mut list = Vec::with_capacity(alloc, count * bounds.len())?;
     let mut point = [0u32; 16];
     let room = sum_of(bounds);
-    if total <= room {
-        list_from(
-            &mut list,
-            &mut point[..bounds.len()],
-            0,
-            total,
-            bounds,
-            room,
-        )?;
+    if total > room {
+        return Ok(list);
     }
+    list_from(
+        &mut list,
+        &mut point[..bounds.len()],
+        0,
+        total,
+        bounds,
+        room,
+    )?;
     Ok(list)
 }
 
 fn sum_of(bounds: &[u32]) -> u32
-    requires narrow { length bounds.now ≤ 16 }
-    requires bounded { All (λ b. b ≤ 65535) bounds.now }
+    requires { sum bounds.now < 2 ^ 32 }
     ensures { result ≡ sum bounds.now }
 {
-    let mut room = 0;
-    for bound in bounds {
-        room += *bound;
-    }
-    room
+    bounds.iter().sum()
 }
 
 // Writes the points that begin as this one before `place`, and whose other coordinates have the sum `left`; the bounds
@@ -166,6 +164,7 @@ fn list_from(
     requires width { length point.old ≡ length bounds.now }
     requires room { room ≡ sum (drop place bounds.now) }
     requires left { left ≤ room }
+    requires small { left ≤ 65535 }
     ensures ok { OnOk result (list.new.items
         ≡ list.old.items ++ flat_map (λ t. take place point.old ++ t) (points left (drop place bounds.now))) }
     ensures kept { take place point.new ≡ take place point.old }
@@ -175,7 +174,7 @@ fn list_from(
     }
     let bound = bounds[place];
     let behind = room - bound;
-    for x in left.saturating_sub(behind)..left.min(bound) + 1 {
+    for x in left.saturating_sub(behind)..bound.min(left) + 1 {
         point[place] = x;
         list_from(list, point, place + 1, left - x, bounds, behind)?;
     }

@@ -49,11 +49,11 @@ fn overlap(first: &[u32], second: &[u32]) -> u64
     requires { length first.now ≤ 16 }
     ensures { result ≡ overlap first.now second.now }
 {
-    let mut size = 0;
-    for (x, y) in first.iter().zip(second) {
-        size += u64::from(*x.min(y));
-    }
-    size
+    first
+        .iter()
+        .zip(second)
+        .map(|(x, y)| u64::from(*x.min(y)))
+        .sum()
 }
 
 // The size is below 64, and its bit is set.
