@@ -1,3 +1,5 @@
+pub mod Fronts
+pub mod Inserted
 pub mod Parts
 pub mod Rows
 pub mod Runs

@@ -24,5 +24,5 @@ part_at (t ∷ ts) w (suc v) start same less at =
     record {
       inside = omega (arith, before, long, part.inside, length-append t (flat_map (λ u. u) ts));
       is = ap (λ k. take w (drop k (t ++ flat_map (λ u. u) ts))) (sym before)
-      ∙ (ap (take w) (sym (drop-drop (v * w) w (t ++ flat_map (λ u. u) ts)) ∙ ap (drop (v * w)) (drop_at t (flat_map (λ u. u) ts) w long)) ∙ part.is);
+          ∙ (ap (take w) (sym (drop-drop (v * w) w (t ++ flat_map (λ u. u) ts)) ∙ ap (drop (v * w)) (drop_at t (flat_map (λ u. u) ts) w long)) ∙ part.is);
     }

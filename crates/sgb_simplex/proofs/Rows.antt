@@ -11,8 +11,10 @@ pub row_none : (n : ℕ) (items : List ℕ) → items ≡ replicate (n + 2) 1 �
 row_none n items is = record { long = long; at = at } where
   size : length items ≡ n + 2
   size = ap length is ∙ length-replicate (n + 2) 1
+
   long : length (set items 0 0) ≡ n + 2
   long = length-set items 0 0 ∙ size
+
   at : (s : ℕ) → s < n + 2 → slice_index (set items 0 0) s ≡ counted_below [] s
   at zero less = get_or-set_same items 0 0 0 (omega (arith, size)) ∙ sym (below_none [])
   at (suc s) less =

@@ -80,7 +80,7 @@ length_points s b bs =
     ∙ (length_in (piece s bs) 0 (min b s + 1)
     ∙ sum_same (λ x. length (piece s bs x)) (λ x. length (points (s - x) bs)) 0 (min b s + 1) (λ x low high. length_piece s bs x))
 
-counted_is : (bs : List ℕ) (s : ℕ) → counted bs s ≡ min 65536 (length (points s bs))
+pub counted_is : (bs : List ℕ) (s : ℕ) → counted bs s ≡ min 65536 (length (points s bs))
 unfolding counted
 counted_is bs s = refl
 

@@ -14,12 +14,16 @@ pub moved_point : {s : ℕ} {bs p : List ℕ} → IsPoint s bs p → (j k : ℕ)
 moved_point {s} {bs} {p} point j k order inside some room = record { long = long; within = within; total = total } where
   low : List ℕ
   low = lowered p j
+
   low_long : length low ≡ length p
   low_long = length-set p j (slice_index p j - 1)
+
   at_k : slice_index low k ≡ slice_index p k
   at_k = get_or-set_other p j k (slice_index p j - 1) 0 (λ same. omega (arith, order, same))
+
   long : length (raised low k) ≡ length bs
   long = length-set low k (slice_index low k + 1) ∙ (low_long ∙ point.long)
+
   total : sum (raised low k) ≡ s
   total = omega (
     arith,
@@ -28,6 +32,7 @@ moved_point {s} {bs} {p} point j k order inside some room = record { long = long
     point.total,
     some,
   )
+
   within : (i : ℕ) → i < length bs → slice_index (raised low k) i ≤ slice_index bs i
   within i less =
       elim (cases_eq i k) [

@@ -38,8 +38,8 @@ left_start start prefix s b all rest low high cut less is end =
     let fits : s ≤ sum (b ∷ rest) = subst (λ l. s ≤ sum l) cut less in
     record {
       same = ap (λ ys. start ++ ys)
-      (sym (ap (λ l. written prefix (points s l)) cut
-      ∙ (ap (written prefix) (points_between s b rest low high fits is end) ∙ written-runs prefix (piece s rest) (range_with_len low (high - low)))));
+          (sym (ap (λ l. written prefix (points s l)) cut
+          ∙ (ap (written prefix) (points_between s b rest low high fits is end) ∙ written-runs prefix (piece s rest) (range_with_len low (high - low)))));
     }
 
 pub left_step : {start prefix all rest now new : List ℕ} {s x end : ℕ} → LeftToWrite start prefix s all rest now x end → x < end → new ≡ now ++ written (prefix ++ x ∷ []) (points (s - x) rest) → LeftToWrite start prefix s all rest new (x + 1) end
@@ -49,9 +49,9 @@ left_step {start} {prefix} {all} {rest} {now} {new} {s} {x} {end} left less wrot
     let here : written prefix (piece s rest x) ≡ written (prefix ++ x ∷ []) (points (s - x) rest) = written-first prefix x (points (s - x) rest) in
     record {
       same = ap (λ l. l ++ later) wrote
-      ∙ (append_assoc now (written (prefix ++ x ∷ []) (points (s - x) rest)) later
-      ∙ (ap (λ ys. now ++ (ys ++ later)) (sym here)
-      ∙ (ap (λ n. now ++ flat_map (λ y. written prefix (piece s rest y)) (range_with_len x n)) (sym more) ∙ left.same)));
+          ∙ (append_assoc now (written (prefix ++ x ∷ []) (points (s - x) rest)) later
+          ∙ (ap (λ ys. now ++ (ys ++ later)) (sym here)
+          ∙ (ap (λ n. now ++ flat_map (λ y. written prefix (piece s rest y)) (range_with_len x n)) (sym more) ∙ left.same)));
     }
 
 pub left_end : {start prefix all rest now : List ℕ} {s x end : ℕ} → LeftToWrite start prefix s all rest now x end → end ≤ x → now ≡ start ++ written prefix (points s all)

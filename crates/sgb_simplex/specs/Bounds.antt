@@ -10,16 +10,20 @@ use Rattle.sgb_plan.specs.Listing.{listed, shown_at}
 abbrev pub first_of : ℤ → ℤ
 first_of n0 = if int_eq n0 (pos 0) then negsuc 1 else n0
 
--- -d in front gives d + 1 times n; else the list of the numbers, where -d at its end makes d + 1 of them; none is above n
-unfoldable pub bounds_of : ℤ → List ℤ → List ℕ
-bounds_of n numbers =
+-- -d in front gives d + 1 times the sum; else the list of the numbers, where -d at its end makes d + 1 of them; none is above the sum
+unfoldable pub bounds_of : ℕ → List ℤ → List ℕ
+bounds_of total numbers =
     let first : ℤ = get_or numbers 0 (pos 0) in
-    if int_lt first (pos 0) then replicate (unsigned_abs first + 1) (unsigned_abs n)
-    else map (λ b. min b (unsigned_abs n)) (listed 1 numbers)
+    if int_lt first (pos 0) then replicate (unsigned_abs first + 1) total
+    else map (λ b. min b total) (listed 1 numbers)
 
--- there may be points with the sum n, of at most 16 coordinates
+-- points may have this sum
+abbrev pub is_total : ℤ → Bool
+is_total n = int_le (pos 0) n && int_le n (pos 65535)
+
+-- and they have at most 16 coordinates
 abbrev pub are_in_range : ℤ → List ℤ → Bool
-are_in_range n numbers = int_le (pos 0) n && int_le n (pos 65535) && nat_le (length (bounds_of n numbers)) 16
+are_in_range n numbers = is_total n && nat_le (length (bounds_of (unsigned_abs n) numbers)) 16
 
 -- the number at this place, as ids show it
 abbrev pub shown_bound : ℤ → List ℤ → ℕ → ℤ

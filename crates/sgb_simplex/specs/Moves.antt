@@ -20,8 +20,11 @@ abbrev pub falling : List ℕ → List ℕ → List ℕ
 falling bounds t = filter (λ j. nat_lt 0 (slice_index t j)) (range_with_len 0 (length bounds - 1))
 
 -- the point t, which is the vertex v, is reached from those with one less at j and one more at k
+abbrev pub move_from : List (List ℕ) → ℕ → List ℕ → ℕ → ℕ → Insertion
+move_from all v t j k = insertion (place_of (raised (lowered t j) k) all) v (pos 1)
+
 abbrev pub moves_from : List (List ℕ) → List ℕ → ℕ → List ℕ → ℕ → List Insertion
-moves_from all bounds v t j = map (λ k. insertion (place_of (raised (lowered t j) k) all) v (pos 1)) (rising bounds t j)
+moves_from all bounds v t j = map (move_from all v t j) (rising bounds t j)
 
 abbrev pub moves_to : List (List ℕ) → List ℕ → ℕ → List ℕ → List Insertion
 moves_to all bounds v t = flat_map (moves_from all bounds v t) (falling bounds t)

@@ -11,9 +11,13 @@ overlap s t = sum (map (λ p. min p.0 p.1) (zip s t))
 abbrev pub has_size : ℕ → ℕ → Bool
 has_size bits size = nat_lt size 64 && ((bits / 2 ^ size) % 2 == 1)
 
--- the points up to v whose overlap with it has such a size
+-- the overlap of these points has such a size
+abbrev pub is_partner : List (List ℕ) → ℕ → ℕ → ℕ → Bool
+is_partner all bits v u = has_size bits (overlap (get_or all u []) (get_or all v []))
+
+-- the points up to v that do so with it
 abbrev pub partners : List (List ℕ) → ℕ → ℕ → List ℕ
-partners all bits v = filter (λ u. has_size bits (overlap (get_or all u []) (get_or all v []))) (range_with_len 0 (v + 1))
+partners all bits v = filter (is_partner all bits v) (range_with_len 0 (v + 1))
 
 abbrev pub pairs_to : List (List ℕ) → ℕ → ℕ → List Insertion
 pairs_to all bits v = map (λ u. insertion u v (pos 1)) (partners all bits v)

@@ -13,7 +13,7 @@ abbrev pub simplex_numbers : SimplexSpec → List ℤ
 simplex_numbers s = first_of s.n0 ∷ s.n1 ∷ s.n2 ∷ s.n3 ∷ s.n4 ∷ []
 
 abbrev pub simplex_bounds : SimplexSpec → List ℕ
-simplex_bounds s = bounds_of s.n (simplex_numbers s)
+simplex_bounds s = bounds_of (unsigned_abs s.n) (simplex_numbers s)
 
 abbrev pub simplex_points : SimplexSpec → List (List ℕ)
 simplex_points s = points (unsigned_abs s.n) (simplex_bounds s)

@@ -13,7 +13,7 @@ abbrev pub subsets_numbers : SubsetsSpec → List ℤ
 subsets_numbers s = first_of s.n0 ∷ s.n1 ∷ s.n2 ∷ s.n3 ∷ s.n4 ∷ []
 
 abbrev pub subsets_points : SubsetsSpec → List (List ℕ)
-subsets_points s = points (unsigned_abs s.n) (bounds_of s.n (subsets_numbers s))
+subsets_points s = points (unsigned_abs s.n) (bounds_of (unsigned_abs s.n) (subsets_numbers s))
 
 unfoldable pub subsets_plan : SubsetsSpec → Plan
 subsets_plan s = record {

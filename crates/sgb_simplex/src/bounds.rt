@@ -1,6 +1,6 @@
 //! The bounds of coordinates, by the numbers that are given.
-ghost use Rattle.std.specs.Prelude.{◌≡◌, ◌⊎◌, ◌≤◌, false, length, All, IfOk, IfErr, IsTrue, vec_len, map, min, unsigned_abs, replicate};
-ghost use Rattle.sgb_simplex.specs.Bounds.{first_of, bounds_of, are_in_range, shown_bound};
+ghost use Rattle.std.specs.Prelude.{◌≡◌, ◌⊎◌, ◌≤◌, ◌<◌, pos, false, get_or, length, All, IfOk, IfErr, vec_len, map, min};
+ghost use Rattle.sgb_simplex.specs.Bounds.{first_of, bounds_of, is_total, shown_bound};
 
 use sgb_graph::Refusal;
 use sgb_plan::{list_of, shown_at};
@@ -20,27 +20,43 @@ pub(crate) fn shown_bound(n: i64, numbers: &[i64], place: usize) -> i64
     shown_at(numbers, place).min(n)
 }
 
-/// The bounds of the coordinates. Refused `BadSpecs` where `n` is no sum, or where they are more than 16.
-pub(crate) fn bounds_of(alloc: Global, n: i64, numbers: &[i64; 5]) -> Result<Vec<u32>, Refusal>
-    ensures list { IfOk result (λ bounds. bounds.items ≡ bounds_of n numbers.now) }
-    ensures range { IfOk result (λ bounds. IsTrue (are_in_range n numbers.now)) }
-    ensures narrow { IfOk result (λ bounds. vec_len bounds ≤ 16) }
-    ensures bounded { IfOk result (λ bounds. All (λ b. b ≤ 65535) bounds.items) }
-    ensures err { IfErr result (λ e. (e ≡ Refusal.NoRoom)
-        ⊎ ((e ≡ Refusal.BadSpecs) × (are_in_range n numbers.now ≡ false))) }
+/// The sum of the coordinates. Refused `BadSpecs` where it is not from 0 to 65,535.
+pub(crate) fn total_of(n: i64) -> Result<u32, Refusal>
+    ensures value { IfOk result (λ total. pos total ≡ n) }
+    ensures small { IfOk result (λ total. total ≤ 65535) }
+    ensures err { IfErr result (λ e. (e ≡ Refusal.BadSpecs) × (is_total n ≡ false)) }
 {
     if n < 0 || n > 65_535 {
         return Err(Refusal::BadSpecs);
     }
-    if numbers[0] < -15 {
+    Ok(n as u32)
+}
+
+/// The bounds of the coordinates. Refused `BadSpecs` where they are more than 16.
+pub(crate) fn bounds_of(
+    alloc: Global,
+    total: u32,
+    first: i64,
+    numbers: &[i64],
+) -> Result<Vec<u32>, Refusal>
+    requires small { total ≤ 65535 }
+    requires first { first ≡ get_or numbers.now 0 (pos 0) }
+    ensures list { IfOk result (λ bounds. bounds.items ≡ bounds_of total numbers.now) }
+    ensures narrow { IfOk result (λ bounds. vec_len bounds ≤ 16) }
+    ensures bounded { IfOk result (λ bounds. All (λ b. b ≤ 65535) bounds.items) }
+    ensures err { IfErr result (λ e. (e ≡ Refusal.NoRoom)
+        ⊎ ((e ≡ Refusal.BadSpecs) × (16 < length (bounds_of total numbers.now)))) }
+{
+    if first < -15 {
         return Err(Refusal::BadSpecs);
     }
-    if numbers[0] < 0 {
-        let count = numbers[0].unsigned_abs() as usize + 1;
-        return Ok(vec![in alloc; n as u32; count]?);
+    if first < 0 {
+        let bounds = vec![in alloc; total; first.unsigned_abs() as usize + 1]?;
+        return Ok(bounds);
     }
     let list = list_of(alloc, numbers, 1, 16)?;
-    Ok(cut_to(alloc, n as u32, &list)?)
+    let bounds = cut_to(alloc, total, &list)?;
+    Ok(bounds)
 }
 
 // The numbers, where none is above n.

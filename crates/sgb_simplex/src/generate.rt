@@ -6,7 +6,7 @@ ghost use Rattle.sgb_simplex.specs.Bounds.{shown_parts, flag_text};
 ghost use Rattle.sgb_simplex.specs.Simplex.{plan_of_simplex};
 ghost use Rattle.sgb_simplex.specs.Subsets.{plan_of_subsets};
 
-use crate::bounds::{bounds_of, first_of, shown_bound};
+use crate::bounds::{bounds_of, first_of, shown_bound, total_of};
 use crate::list::PointList;
 use crate::moves::insert_moves;
 use crate::naming::{name_vertices, point_types};
@@ -25,9 +25,10 @@ pub fn simplex(alloc: Global, spec: &SimplexSpec) -> Result<Graph, Refusal>
     ensures made { IsMade (plan_of_simplex spec.now) result }
 {
     let numbers = [first_of(spec.n0), spec.n1, spec.n2, spec.n3, spec.n4];
-    let bounds = bounds_of(alloc, spec.n, &numbers)?;
+    let total = total_of(spec.n)?;
+    let bounds = bounds_of(alloc, total, numbers[0], &numbers)?;
     let id = simplex_id(alloc, spec.n, &numbers, spec.directed)?;
-    let list = PointList::new(alloc, spec.n as u32, bounds)?;
+    let list = PointList::new(alloc, total, bounds)?;
     let mut builder = Builder::new(alloc, id, point_types(), spec.directed);
     name_vertices(&mut builder, alloc, &list)?;
     insert_moves(&mut builder, &list)?;
@@ -43,9 +44,10 @@ pub fn subsets(alloc: Global, spec: &SubsetsSpec) -> Result<Graph, Refusal>
     ensures made { IsMade (plan_of_subsets spec.now) result }
 {
     let numbers = [first_of(spec.n0), spec.n1, spec.n2, spec.n3, spec.n4];
-    let bounds = bounds_of(alloc, spec.n, &numbers)?;
+    let total = total_of(spec.n)?;
+    let bounds = bounds_of(alloc, total, numbers[0], &numbers)?;
     let id = subsets_id(alloc, spec.n, &numbers, spec.size_bits, spec.directed)?;
-    let list = PointList::new(alloc, spec.n as u32, bounds)?;
+    let list = PointList::new(alloc, total, bounds)?;
     let mut builder = Builder::new(alloc, id, point_types(), spec.directed);
     name_vertices(&mut builder, alloc, &list)?;
     insert_pairs(&mut builder, &list, spec.size_bits)?;
@@ -66,7 +68,8 @@ fn simplex_id(alloc: Global, n: i64, numbers: &[i64], directed: bool) -> Result<
         Part::Number(shown_bound(n, numbers, 4)),
         Part::Flag(directed),
     ];
-    id_of(alloc, "simplex", &parts)
+    let id = id_of(alloc, "simplex", &parts)?;
+    Ok(id)
 }
 
 fn subsets_id(
@@ -90,5 +93,6 @@ fn subsets_id(
         Part::Bits(size_bits),
         Part::Flag(directed),
     ];
-    id_of(alloc, "subsets", &parts)
+    let id = id_of(alloc, "subsets", &parts)?;
+    Ok(id)
 }

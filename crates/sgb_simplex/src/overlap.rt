@@ -1,9 +1,9 @@
 //! Pairs of points by how much they have in common.
-ghost use Rattle.std.specs.Prelude.{◌≡◌, ◌≤◌, ◌<◌, [], get_or, length};
-ghost use Rattle.sgb_graph.specs.Builder.{Inserts};
+ghost use Rattle.std.specs.Prelude.{◌≡◌, ◌≤◌, ◌<◌, ◌∷◌, [], pos, length, if◌then◌else◌};
+ghost use Rattle.sgb_graph.specs.Builder.{Inserts, insertion};
 ghost use Rattle.sgb_graph.specs.Graph.{n_of};
 ghost use Rattle.sgb_simplex.specs.Points.{points};
-ghost use Rattle.sgb_simplex.specs.Overlap.{overlap, has_size, pairs, pairs_to};
+ghost use Rattle.sgb_simplex.specs.Overlap.{overlap, has_size, is_partner, pairs, pairs_to};
 
 use crate::list::PointList;
 use sgb_graph::{Builder, Refusal, VertexNo};
@@ -35,13 +35,30 @@ fn insert_pairs_to(
     ensures { Inserts builder.old builder.new
         (pairs_to (points list.now.total list.now.bounds.items) size_bits v) result }
 {
-    let point = list.point(v);
     for u in 0..v + 1 {
-        if has_size(size_bits, overlap(list.point(u), point)) {
-            builder.insert(VertexNo(u), VertexNo(v), 1)?;
-        }
+        insert_pair(builder, list, u, v, size_bits)?;
     }
     Ok(())
+}
+
+// Inserts the pair of these points, if their overlap has such a size.
+fn insert_pair(
+    builder: &mut Builder,
+    list: &PointList,
+    u: u32,
+    v: u32,
+    size_bits: u64,
+) -> Result<(), Refusal>
+    requires all { n_of builder.old.graph ≡ list.now.count }
+    requires u { u < list.now.count }
+    requires v { v < list.now.count }
+    ensures { Inserts builder.old builder.new (if is_partner (points list.now.total list.now.bounds.items) size_bits v u
+        then insertion u v (pos 1) ∷ [] else []) result }
+{
+    if !has_size(size_bits, overlap(list.point(u), list.point(v))) {
+        return Ok(());
+    }
+    builder.insert(VertexNo(u), VertexNo(v), 1)
 }
 
 // The sum of the smaller coordinates.

@@ -45,7 +45,7 @@ loop-x-preserved t c =
     let prefix : take (place + 1) (set point place x) ≡ take place c.args.point.now ++ x ∷ [] = take_more_set point place x (omega arith) ∙ ap (λ l. l ++ x ∷ []) c.loop-x.invariant.kept in
     record {
       left = left_step c.loop-x.invariant.left (omega arith)
-      (c.in_ok-list_from.ensures.ok ∙ ap (λ p. c.loop-x.list.items ++ written p (points (c.args.left - x) (drop (place + 1) bounds))) prefix);
+          (c.in_ok-list_from.ensures.ok ∙ ap (λ p. c.loop-x.list.items ++ written p (points (c.args.left - x) (drop (place + 1) bounds))) prefix);
       kept = kept_prefix place x point c.list_from.new.point c.args.point.now c.list_from.ensures.kept c.loop-x.invariant.kept;
     }
 
