@@ -12,10 +12,10 @@ use Rattle.sgb_simplex.specs.Overlap.{pairs, pairs_to, is_partner}
 
 -- ---- what is inserted or not
 pub none_inserted : (b : Builder) (t : Bool) (es : List Insertion) → t ≡ false → b ≡ grown b (if t then es else [])
-none_inserted b t es no = sym (ap (grown b) (cond-false t es [] no) ∙ grown-nil b)
+none_inserted b t es off = sym (ap (grown b) (cond-false t es [] off) ∙ grown-nil b)
 
 pub some_inserted : (b new : Builder) (t : Bool) (es fs : List Insertion) (r : Result (Unit {0}) Refusal) → t ≡ true → es ≡ fs → Inserts {T = Unit {0}} b new es r → Inserts {T = Unit {0}} b new (if t then fs else []) r
-some_inserted b new t es fs r yes same = subst (λ l. Inserts {T = Unit {0}} b new l r) (same ∙ sym (cond-true t fs [] yes))
+some_inserted b new t es fs r on same = subst (λ l. Inserts {T = Unit {0}} b new l r) (same ∙ sym (cond-true t fs [] on))
 
 -- ---- runs of them
 abbrev pub pair_of : List (List ℕ) → ℕ → ℕ → ℕ → List Insertion

@@ -1,4 +1,5 @@
 pub mod Fronts
+pub mod Generators
 pub mod Inserted
 pub mod Parts
 pub mod Rows

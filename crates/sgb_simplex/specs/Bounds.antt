@@ -1,9 +1,13 @@
 -- The bounds of coordinates, by the numbers that are given.
-use Rattle.std.specs.Prelude.{◌+◌, ◌&&◌, ℕ, ℤ, pos, negsuc, unsigned_abs, int_lt, int_le, nat_le, min, List, [], ◌∷◌, length, map, replicate, get_or, codes, Bool, if◌then◌else◌}
+use Rattle.std.specs.Prelude.{◌+◌, ◌&&◌, ℕ, ℤ, pos, negsuc, unsigned_abs, int_lt, int_le, nat_le, min, List, [], ◌∷◌, length, map, replicate, get_or, codes, Bool, Result, Ok, Err, if◌then◌else◌}
 use Rattle.std.specs.Fmt.{signed_decimal}
 use Rattle.std.specs.Int.{int_min}
 use Rattle.std.specs.List.{range_with_len}
 use Rattle.std.specs.Ordering.{int_eq}
+use Rattle.sgb_graph.specs.declared.refusal.Refusal.{Refusal}
+use Rattle.sgb_graph.specs.declared.refusal.Refusal.TheVariants.{BadSpecs}
+use Rattle.sgb_plan.specs.Plan.{Plan}
+use Rattle.sgb_simplex.specs.Points.{points}
 use Rattle.sgb_plan.specs.Listing.{listed, shown_at}
 
 -- 0 stands for -2
@@ -24,6 +28,14 @@ is_total n = int_le (pos 0) n && int_le n (pos 65535)
 -- and they have at most 16 coordinates
 abbrev pub are_in_range : ℤ → List ℤ → Bool
 are_in_range n numbers = is_total n && nat_le (length (bounds_of (unsigned_abs n) numbers)) 16
+
+-- else nothing is planned
+abbrev pub plan_within : ℤ → List ℤ → Plan → Result Plan Refusal
+plan_within n numbers p = if are_in_range n numbers then Ok p else Err BadSpecs
+
+-- the points with these bounds
+abbrev pub points_within : ℤ → List ℤ → List (List ℕ)
+points_within n numbers = points (unsigned_abs n) (bounds_of (unsigned_abs n) numbers)
 
 -- the number at this place, as ids show it
 abbrev pub shown_bound : ℤ → List ℤ → ℕ → ℤ

@@ -1,11 +1,12 @@
 -- The points of a simplex, as vertices.
-use Rattle.std.specs.Prelude.{◌+◌, ◌==◌, ℕ, pos, List, [], ◌∷◌, length, map, codes, nat_lt, if◌then◌else◌}
+use Rattle.std.specs.Prelude.{◌+◌, ◌==◌, ℕ, pos, List, [], ◌∷◌, length, map, codes, Bool, nat_lt, if◌then◌else◌}
 use Rattle.std.specs.Cmp.Lexicographic.{pointwise}
 use Rattle.std.specs.List.{flat_map, filter, sum, position_or_len, range_with_len, slice_index}
 use Rattle.sgb_graph.specs.declared.field.Util.{Util}
 use Rattle.sgb_graph.specs.declared.field.Util.TheVariants.{Zero, Int}
+use Rattle.sgb_graph.specs.Builder.{Insertion}
 use Rattle.sgb_plan.specs.Name.{dotted}
-use Rattle.sgb_plan.specs.Plan.{Named}
+use Rattle.sgb_plan.specs.Plan.{Named, Plan}
 
 -- the tuples whose coordinates are below these sizes, in lexicographic order
 unfoldable pub tuples : List ℕ → List (List ℕ)
@@ -33,3 +34,13 @@ point_vertex t = record {
 
 abbrev pub point_types : List ℕ
 point_types = codes "ZZZIIIZZZZZZZZ"
+
+-- a graph of points is planned by its id, its points in order and its insertions
+abbrev pub point_plan : List ℕ → Bool → List (List ℕ) → List Insertion → Plan
+point_plan id directed all insertions = record {
+  id = id;
+  types = point_types;
+  vertices = map point_vertex all;
+  directed = directed;
+  insertions = insertions;
+}

@@ -1,13 +1,12 @@
 -- The graph of a simplex: its points, and the moves of one unit from a coordinate to a later one.
-use Rattle.std.specs.Prelude.{◌++◌, ℕ, ℤ, unsigned_abs, List, [], ◌∷◌, map, codes, Result, Ok, Err, if◌then◌else◌}
+use Rattle.std.specs.Prelude.{◌++◌, ℕ, ℤ, unsigned_abs, List, [], ◌∷◌, codes, Result}
 use Rattle.sgb_graph.specs.declared.refusal.Refusal.{Refusal}
-use Rattle.sgb_graph.specs.declared.refusal.Refusal.TheVariants.{BadSpecs}
 use Rattle.sgb_plan.specs.Id.{id_of}
 use Rattle.sgb_plan.specs.Plan.{Plan}
 use Rattle.sgb_simplex.specs.declared.arguments.SimplexSpec.{SimplexSpec}
-use Rattle.sgb_simplex.specs.Bounds.{first_of, bounds_of, are_in_range, shown_parts, flag_text}
+use Rattle.sgb_simplex.specs.Bounds.{first_of, bounds_of, points_within, plan_within, shown_parts, flag_text}
 use Rattle.sgb_simplex.specs.Moves.{moves}
-use Rattle.sgb_simplex.specs.Points.{points, point_vertex, point_types}
+use Rattle.sgb_simplex.specs.Points.{point_plan}
 
 abbrev pub simplex_numbers : SimplexSpec → List ℤ
 simplex_numbers s = first_of s.n0 ∷ s.n1 ∷ s.n2 ∷ s.n3 ∷ s.n4 ∷ []
@@ -16,16 +15,13 @@ abbrev pub simplex_bounds : SimplexSpec → List ℕ
 simplex_bounds s = bounds_of (unsigned_abs s.n) (simplex_numbers s)
 
 abbrev pub simplex_points : SimplexSpec → List (List ℕ)
-simplex_points s = points (unsigned_abs s.n) (simplex_bounds s)
+simplex_points s = points_within s.n (simplex_numbers s)
 
-unfoldable pub simplex_plan : SimplexSpec → Plan
-simplex_plan s = record {
-  id = id_of (codes "simplex") (shown_parts s.n (simplex_numbers s) ++ flag_text s.directed ∷ []);
-  types = point_types;
-  vertices = map point_vertex (simplex_points s);
-  directed = s.directed;
-  insertions = moves (simplex_points s) (simplex_bounds s);
-}
+abbrev pub simplex_id : SimplexSpec → List ℕ
+simplex_id s = id_of (codes "simplex") (shown_parts s.n (simplex_numbers s) ++ flag_text s.directed ∷ [])
+
+abbrev pub simplex_plan : SimplexSpec → Plan
+simplex_plan s = point_plan (simplex_id s) s.directed (simplex_points s) (moves (simplex_points s) (simplex_bounds s))
 
 unfoldable pub plan_of_simplex : SimplexSpec → Result Plan Refusal
-plan_of_simplex s = if are_in_range s.n (simplex_numbers s) then Ok (simplex_plan s) else Err BadSpecs
+plan_of_simplex s = plan_within s.n (simplex_numbers s) (simplex_plan s)
