@@ -1,7 +1,8 @@
 -- What the generators answer.
-use Rattle.std.proofs.Common.{◌≡◌, ◌<◌, ◌≤◌, ◌+◌, ℕ, ℤ, pos, unsigned_abs, List, [], ◌∷◌, ◌++◌, length, map, Bool, true, false, nat_le, if◌then◌else◌, Result, Ok, Err, ◌⊎◌, inl, inr, refl, sym, ap, ap₂, subst, ◌∙◌, arith}
+use Rattle.std.proofs.Common.{◌≡◌, ◌<◌, ◌≤◌, ◌+◌, ℕ, ℤ, pos, unsigned_abs, List, [], ◌∷◌, ◌++◌, length, map, Bool, true, false, nat_le, FitsSigned, w64, to_z, of_z, if◌then◌else◌, Result, Ok, Err, ◌⊎◌, inl, inr, refl, sym, ap, ap₂, subst, ◌∙◌, arith}
 use Rattle.std.specs.Fmt.{signed_decimal}
 use Rattle.std.proofs.lemmas.Bool.{and_from, and_left, and_right, le-leb, lt-leb}
+use Rattle.std.proofs.lemmas.Int.{to_z-of_z}
 use Rattle.std.proofs.lemmas.List.{length-map}
 use Rattle.sgb_graph.specs.declared.builder.Builder.{Builder}
 use Rattle.sgb_graph.specs.declared.refusal.Refusal.{Refusal}
@@ -12,7 +13,7 @@ use Rattle.sgb_graph.specs.New.{bare_graph}
 use Rattle.sgb_graph.proofs.Inserting.{RefusesInsertions}
 use Rattle.sgb_plan.specs.Plan.{Plan, IsMade, with_named}
 use Rattle.sgb_plan.proofs.Planning.{RefusesNames, n-with_named, many_vertices, refused_before, refused_insertions, made}
-use Rattle.sgb_simplex.specs.Bounds.{bounds_of, is_total, are_in_range, points_within, plan_within, shown_bound, shown_parts}
+use Rattle.sgb_simplex.specs.Bounds.{first_of, bounds_of, is_total, are_in_range, points_within, plan_within, shown_bound, shown_parts}
 use Rattle.sgb_simplex.specs.Points.{points, point_types, point_vertex, point_plan}
 use Rattle.sgb_simplex.specs.Private.Started.{RefusesPoints, started}
 
@@ -59,7 +60,7 @@ names_only_room b id directed all e is few (inr large) =
 
 -- ---- ranges
 pub total_is : (n : ℤ) (total : ℕ) → pos total ≡ n → total ≤ 65535 → (unsigned_abs n ≡ total) × (is_total n ≡ true)
-total_is n total is small = (ap unsigned_abs (sym is), subst (λ z. is_total z ≡ true) is (le-leb total 65535 small))
+total_is n total is small = (ap unsigned_abs (sym is), subst (λ z. is_total z ≡ true) is (and_from (nat_le 0 total) (nat_le total 65535) (le-leb 0 total (omega arith)) (le-leb total 65535 small)))
 
 pub range_of : (n : ℤ) (numbers : List ℤ) (total : ℕ) → pos total ≡ n → total ≤ 65535 → length (bounds_of total numbers) ≤ 16 → are_in_range n numbers ≡ true
 range_of n numbers total is small few =
@@ -71,6 +72,15 @@ pub not_range_of : (n : ℤ) (numbers : List ℤ) (total : ℕ) → pos total �
 not_range_of n numbers total is many =
     and_right (is_total n) (nat_le (length (bounds_of (unsigned_abs n) numbers)) 16)
     (ap (λ z. nat_le (length (bounds_of (unsigned_abs z) numbers)) 16) (sym is) ∙ lt-leb (length (bounds_of total numbers)) 16 many)
+
+-- ---- the numbers as they are read
+pub first_is : (n0 r : ℤ) → FitsSigned w64 n0 → FitsSigned w64 r → r ≡ first_of (to_z w64 (of_z w64 n0)) → to_z w64 (of_z w64 r) ≡ first_of n0
+first_is n0 r fits too is = to_z-of_z w64 r too ∙ (is ∙ ap first_of (to_z-of_z w64 n0 fits))
+
+pub five : (a b n1 n2 n3 n4 : ℤ) → a ≡ b → FitsSigned w64 n1 → FitsSigned w64 n2 → FitsSigned w64 n3 → FitsSigned w64 n4
+    → (a ∷ to_z w64 (of_z w64 n1) ∷ to_z w64 (of_z w64 n2) ∷ to_z w64 (of_z w64 n3) ∷ to_z w64 (of_z w64 n4) ∷ []) ≡ (b ∷ n1 ∷ n2 ∷ n3 ∷ n4 ∷ [])
+five a b n1 n2 n3 n4 same f1 f2 f3 f4 =
+    rw (same, to_z-of_z w64 n1 f1, to_z-of_z w64 n2 f2, to_z-of_z w64 n3 f3, to_z-of_z w64 n4 f4) refl
 
 -- ---- ids
 pub parts_are : (n m a0 a1 a2 a3 a4 : ℤ) (numbers : List ℤ) (rest : List (List ℕ)) → m ≡ n → a0 ≡ shown_bound n numbers 0 → a1 ≡ shown_bound n numbers 1 → a2 ≡ shown_bound n numbers 2 → a3 ≡ shown_bound n numbers 3 → a4 ≡ shown_bound n numbers 4
