@@ -1,12 +1,12 @@
 -- What the generators answer.
-use Rattle.std.proofs.Common.{◌≡◌, ◌<◌, ◌≤◌, ◌+◌, ℕ, ℤ, pos, unsigned_abs, List, [], ◌∷◌, ◌++◌, length, map, Bool, true, false, nat_le, FitsSigned, w64, to_z, of_z, if◌then◌else◌, Result, Ok, Err, ◌⊎◌, inl, inr, refl, sym, ap, ap₂, subst, ◌∙◌, arith}
+use Rattle.std.proofs.Common.{◌≡◌, ◌<◌, ◌≤◌, ℕ, ℤ, pos, unsigned_abs, List, [], ◌∷◌, ◌++◌, length, map, Bool, true, false, nat_le, FitsSigned, w64, to_z, of_z, if◌then◌else◌, Result, Ok, Err, inl, inr, refl, sym, ap, ap₂, subst, ◌∙◌, arith}
 use Rattle.std.specs.Fmt.{signed_decimal}
-use Rattle.std.proofs.lemmas.Bool.{and_from, and_left, and_right, le-leb, lt-leb}
+use Rattle.std.proofs.lemmas.Bool.{and_from, and_right, le-leb, lt-leb}
 use Rattle.std.proofs.lemmas.Int.{to_z-of_z}
 use Rattle.std.proofs.lemmas.List.{length-map}
 use Rattle.sgb_graph.specs.declared.builder.Builder.{Builder}
 use Rattle.sgb_graph.specs.declared.refusal.Refusal.{Refusal}
-use Rattle.sgb_graph.specs.declared.refusal.Refusal.TheVariants.{NoRoom, TooLarge, BadSpecs}
+use Rattle.sgb_graph.specs.declared.refusal.Refusal.TheVariants.{NoRoom, BadSpecs}
 use Rattle.sgb_graph.specs.Graph.{GraphOf, IsGraph, n_of}
 use Rattle.sgb_graph.specs.Builder.{Insertion, grown}
 use Rattle.sgb_graph.specs.New.{bare_graph}
@@ -14,7 +14,7 @@ use Rattle.sgb_graph.proofs.Inserting.{RefusesInsertions}
 use Rattle.sgb_plan.specs.Plan.{Plan, IsMade, with_named}
 use Rattle.sgb_plan.proofs.Planning.{RefusesNames, n-with_named, many_vertices, refused_before, refused_insertions, made}
 use Rattle.sgb_simplex.specs.Bounds.{first_of, bounds_of, is_total, are_in_range, points_within, plan_within, shown_bound, shown_parts}
-use Rattle.sgb_simplex.specs.Points.{points, point_types, point_vertex, point_plan}
+use Rattle.sgb_simplex.specs.Points.{point_types, point_vertex, point_plan}
 use Rattle.sgb_simplex.specs.Private.Started.{RefusesPoints, started}
 
 pub in_range : (n : ℤ) (numbers : List ℤ) → are_in_range n numbers ≡ true → (p : Plan) (r : Result GraphOf Refusal) → IsMade (Ok p) r → IsMade (plan_within n numbers p) r

@@ -7,7 +7,7 @@ use Rattle.sgb_graph.specs.declared.refusal.Refusal.{Refusal}
 use Rattle.sgb_graph.proofs.Growing.{grown-nil}
 use Rattle.std.proofs.lemmas.Bool.{cond-true, cond-false, lt-ltb, le-ltb}
 use Rattle.sgb_graph.proofs.Inserting.{LeftFrom, from_start, from_start_at, flat_map-filter, map-filter}
-use Rattle.sgb_simplex.specs.Moves.{moves, moves_to, moves_from, move_from, rising, falling}
+use Rattle.sgb_simplex.specs.Moves.{moves, moves_to, moves_from, move_from}
 use Rattle.sgb_simplex.specs.Overlap.{pairs, pairs_to, is_partner}
 
 -- ---- what is inserted or not

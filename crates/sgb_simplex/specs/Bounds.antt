@@ -1,5 +1,5 @@
 -- The bounds of coordinates, by the numbers that are given.
-use Rattle.std.specs.Prelude.{◌+◌, ◌&&◌, ℕ, ℤ, pos, negsuc, unsigned_abs, int_lt, int_le, nat_le, min, List, [], ◌∷◌, length, map, replicate, get_or, codes, Bool, Result, Ok, Err, if◌then◌else◌}
+use Rattle.std.specs.Prelude.{◌+◌, ◌&&◌, ℕ, ℤ, pos, negsuc, unsigned_abs, int_lt, int_le, nat_le, min, List, ◌∷◌, length, map, replicate, get_or, codes, Bool, Result, Ok, Err, if◌then◌else◌}
 use Rattle.std.specs.Fmt.{signed_decimal}
 use Rattle.std.specs.Int.{int_min}
 use Rattle.std.specs.List.{range_with_len}

@@ -1,4 +1,4 @@
-use Rattle.std.proofs.Common.{◌≡◌, ◌++◌, ◌∷◌, [], ℕ, ℤ, List, codes, FitsSigned, w64, to_z, of_z, ap, ◌∙◌, rules}
+use Rattle.std.proofs.Common.{◌≡◌, ◌∷◌, [], ℕ, ℤ, List, codes, FitsSigned, w64, to_z, of_z, ap, ◌∙◌, rules}
 use Rattle.std.proofs.lemmas.Int.{to_z-of_z}
 use Rattle.sgb_plan.specs.Id.{id_of, hexadecimal}
 use Rattle.sgb_simplex.specs.Bounds.{shown_bound, flag_text}

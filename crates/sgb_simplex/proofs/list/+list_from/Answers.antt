@@ -1,4 +1,4 @@
-use Rattle.std.proofs.Common.{Result, Ok, Err, is_ok, OnOk, if◌then◌else◌, ◌≡◌, ◌+◌, ◌-◌, ◌∷◌, [], ◌++◌, ℕ, List, get_or, set, take, drop, refl, sym, ap, subst, ◌∙◌, arith}
+use Rattle.std.proofs.Common.{Result, Ok, Err, is_ok, OnOk, if◌then◌else◌, ◌≡◌, ◌+◌, ◌-◌, ◌∷◌, [], ◌++◌, ℕ, List, get_or, set, take, drop, refl, sym, ap, ◌∙◌, arith}
 use Rattle.std.specs.List.{sum}
 use Rattle.std.proofs.lemmas.List.{drop_all, drop_more, take_more_set}
 use Rattle.sgb_simplex.specs.Points.{points}

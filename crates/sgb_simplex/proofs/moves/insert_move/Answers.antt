@@ -1,4 +1,4 @@
-use Rattle.std.proofs.Common.{◌≡◌, ◌∷◌, [], ℕ, pos, List, nat_lt, true, false, ap, arith}
+use Rattle.std.proofs.Common.{◌≡◌, ◌∷◌, [], pos, nat_lt, true, false, ap, arith}
 use Rattle.std.specs.List.{slice_index}
 use Rattle.std.proofs.lemmas.Bool.{lt-ltb, le-ltb}
 use Rattle.std.proofs.lemmas.List.{get_or_read}

@@ -1,9 +1,8 @@
-use Rattle.std.proofs.Common.{◌≡◌, ◌∷◌, [], List, ℕ, sym, ap, ap₂, ◌∙◌, arith}
+use Rattle.std.proofs.Common.{◌≡◌, ◌∷◌, [], List, ℕ, ap₂, ◌∙◌, arith}
 use Rattle.std.proofs.lemmas.Result.{err_from_is_err_and}
 use Rattle.std.proofs.lemmas.List.{get_or_default}
 use Rattle.sgb_graph.specs.declared.field.Util.{Util}
 use Rattle.sgb_graph.specs.declared.field.Util.TheVariants.{Zero}
-use Rattle.sgb_plan.specs.Name.{dotted}
 use Rattle.sgb_plan.specs.Plan.{with_named}
 use Rattle.sgb_plan.proofs.Planning.{pushed, push_refused, names_of_some, names_of_refused, names_of_end}
 use Rattle.sgb_simplex.specs.Points.{points, point_vertex}

@@ -1,5 +1,4 @@
-use Rattle.std.proofs.Common.{◌≡◌, ◌+◌, ◌-◌, ℕ, List, length, arith}
-use Rattle.sgb_simplex.specs.Moves.{lowered, raised}
+use Rattle.std.proofs.Common.{◌+◌, ◌-◌, length, arith}
 use Rattle.sgb_simplex.proofs.Rows.{row_at, read_count}
 use Rattle.sgb_simplex.proofs.Walks.{moved_point, walk_start, walk_step, walk_end}
 use Rattle.sgb_simplex.proofs.list.PointList.number_of_moved.Goals as goal
