@@ -1,6 +1,7 @@
 pub mod Fronts
 pub mod Generators
 pub mod Inserted
+pub mod Ones
 pub mod Parts
 pub mod Rows
 pub mod Runs

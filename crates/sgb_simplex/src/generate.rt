@@ -47,7 +47,7 @@ pub fn subsets(alloc: Global, spec: &SubsetsSpec) -> Result<Graph, Refusal>
     let list = list_points(alloc, spec.n, numbers[0], &numbers)?;
     let id = subsets_id(alloc, spec.n, &numbers, spec.size_bits, spec.directed)?;
     let mut builder = start(alloc, id, spec.directed, &list)?;
-    insert_pairs(&mut builder, &list, spec.size_bits)?;
+    insert_pairs(&mut builder, alloc, &list, spec.size_bits)?;
     Ok(builder.finish())
 }
 

@@ -3,6 +3,7 @@
 
 mod arguments;
 mod bounds;
+mod coded;
 mod counts;
 mod generate;
 mod list;

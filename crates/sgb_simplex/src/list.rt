@@ -52,6 +52,13 @@ impl PointList {
         })
     }
 
+    /// The sum of the bounds.
+    pub(crate) fn room(&self) -> u32
+        ensures { result ≡ sum self.now.bounds.items }
+    {
+        sum_of(&self.bounds)
+    }
+
     /// The point with this number.
     pub(crate) fn point(&self, v: u32) -> &[u32]
         requires { v < self.now.count }

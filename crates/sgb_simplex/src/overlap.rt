@@ -5,11 +5,31 @@ ghost use Rattle.sgb_graph.specs.Graph.{n_of};
 ghost use Rattle.sgb_simplex.specs.Points.{points};
 ghost use Rattle.sgb_simplex.specs.Overlap.{overlap, has_size, is_partner, pairs, pairs_to};
 
+use crate::coded::{insert_coded_pairs, list_codes};
 use crate::list::PointList;
 use sgb_graph::{Builder, Refusal, VertexNo};
+use std::alloc::Global;
 
-/// Inserts the pairs of points whose overlap is one of these sizes.
+/// Inserts the pairs of points whose overlap is one of these sizes: by their codes, where one word has room for them.
 pub(crate) fn insert_pairs(
+    builder: &mut Builder,
+    alloc: Global,
+    list: &PointList,
+    size_bits: u64,
+) -> Result<(), Refusal>
+    requires { n_of builder.old.graph ≡ list.now.count }
+    ensures { Inserts builder.old builder.new (pairs (points list.now.total list.now.bounds.items) size_bits) result }
+{
+    if list.room() < 64 {
+        let codes = list_codes(alloc, list)?;
+        insert_coded_pairs(builder, list, &codes, size_bits)
+    } else {
+        insert_plain_pairs(builder, list, size_bits)
+    }
+}
+
+// Inserts the pairs by their coordinates.
+fn insert_plain_pairs(
     builder: &mut Builder,
     list: &PointList,
     size_bits: u64,
@@ -74,7 +94,7 @@ fn overlap(first: &[u32], second: &[u32]) -> u64
 }
 
 // The size is below 64, and its bit is set.
-fn has_size(size_bits: u64, size: u64) -> bool
+pub(crate) fn has_size(size_bits: u64, size: u64) -> bool
     ensures { result ≡ has_size size_bits size }
 {
     size < 64 && (size_bits >> size) % 2 == 1

@@ -1,13 +1,9 @@
-// A library with one function.
+//! Tests of simplices and of families of subsets.
 #![tactic(auto)]
 
-ghost use Rattle.std.specs.Prelude.{◌≡◌};
-ghost use Rattle.sgb_simplex_tests.specs.Echo.{echo_of};
-
-// The `ensures` clause is the contract: what `echo` returns is `echo_of` of its argument, a definition
-// in `specs/Echo.antt`, which a caller's clause can cite too.
-pub fn echo(x: usize) -> usize
-    ensures { result ≡ echo_of x }
-{
-    x
-}
+#[cfg(test)]
+mod families;
+#[cfg(test)]
+mod looks;
+#[cfg(test)]
+mod simplices;
