@@ -1,12 +1,11 @@
 -- The overlap of two points by their codes.
-use Rattle.std.proofs.Common.{◌≡◌, ◌<◌, ◌≤◌, ◌+◌, ◌-◌, ◌*◌, ◌%◌, ◌^◌, ℕ, zero, suc, List, [], ◌∷◌, length, get_or, take, drop, map, min, bit_and, count_ones, inl, inr, refl, sym, ap, ap₂, subst, ◌∙◌, zero-add, arith}
-use Rattle.std.specs.List.{sum, zip, slice_index}
+use Rattle.std.proofs.Common.{◌≡◌, ◌<◌, ◌≤◌, ◌+◌, ◌-◌, ◌*◌, ◌%◌, ◌^◌, ℕ, suc, List, [], ◌∷◌, length, drop, map, min, bit_and, inl, inr, refl, sym, ap, ap₂, ◌∙◌, zero-add, arith}
+use Rattle.std.specs.List.{zip, slice_index}
 use Rattle.std.specs.Int.Count.{ones, ones-ones}
 use Rattle.std.proofs.Math.Nat.{mod-eq_of_lt}
 use Rattle.std.proofs.Math.Pow.{ones_lt, suc_ones, pow_mono}
 use Rattle.std.proofs.lemmas.Bool.{cases_lt}
 use Rattle.std.proofs.lemmas.List.{drop_more, drop_all}
-use Rattle.std.proofs.lemmas.List.Sums.{sum_by-cons}
 use Rattle.std.proofs.lemmas.Nat.{mul-add-lt, pow-add, and_le_l, and_comm, and_mask, and_block, ones_cat}
 use Rattle.sgb_simplex.specs.Overlap.{overlap}
 use Rattle.sgb_simplex.specs.Private.Codes.{code_from}

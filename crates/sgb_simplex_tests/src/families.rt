@@ -65,28 +65,29 @@ fn all_neighbours(graph: &Graph) -> [u64; 10] {
     all
 }
 
-// How many pairs of different vertices have a common neighbour, and how many have two or more.
+// How many pairs of different vertices have one common neighbour, and how many have more.
 fn common(all: &[u64; 10]) -> (u32, u32) {
     let mut one = 0u32;
     let mut more = 0u32;
     for u in 0..10usize {
         for v in 0..u {
             let both = (all[u] & all[v]).count_ones();
-            one += u32::from(both == 1) & 1;
-            more += u32::from(both > 1) & 1;
+            one = one.wrapping_add(u32::from(both == 1));
+            more = more.wrapping_add(u32::from(both > 1));
         }
     }
     (one, more)
 }
 
-// How many vertices have three neighbours, and how many edges are in a triangle.
+// How many vertices have three neighbours, and how many halves of edges are in a triangle.
 fn triangles(all: &[u64; 10]) -> (u32, u32) {
     let mut cubic = 0u32;
     let mut closed = 0u32;
     for u in 0..10usize {
-        cubic += u32::from(all[u].count_ones() == 3) & 1;
+        cubic = cubic.wrapping_add(u32::from(all[u].count_ones() == 3));
         for v in 0..10usize {
-            closed += u32::from((all[u] >> v) & 1 == 1 && all[u] & all[v] != 0) & 1;
+            let joined = (all[u] >> v) % 2 == 1;
+            closed = closed.wrapping_add(u32::from(joined && all[u] & all[v] != 0));
         }
     }
     (cubic, closed)
@@ -153,6 +154,24 @@ fn large_sizes(rt: HostRuntime) {
     assert_eq!(rt;
         size(alloc, 64, [64, 64, 0, 0, 0], 0x8000_0000_0000_0000, false),
         Ok((65, 128, 128))
+    );
+}
+
+// Exactly 1,000,000 numbers are given out, and more are refused.
+#[test]
+fn most_numbers(rt: HostRuntime) {
+    let alloc = rt.alloc();
+    assert_eq!(rt;
+        size(alloc, 20, [-3, 0, 0, 0, 0], 1_392_235, true),
+        Ok((1_771, 1_000_000, 1_000_000))
+    );
+    assert_eq!(rt;
+        size(alloc, 20, [-3, 0, 0, 0, 0], 1_392_239, true),
+        Err(Refusal::TooLarge)
+    );
+    assert_eq!(rt;
+        size(alloc, 20, [-3, 0, 0, 0, 0], 3_356, false),
+        Ok((1_771, 1_000_000, 1_000_000))
     );
 }
 

@@ -52,7 +52,7 @@ fn triangle_edges(rt: HostRuntime) -> Result<(), Fail> {
     assert!(rt; leads(&graph, 0, 0, 1));
     assert!(rt; leads(&graph, 1, 1, 0));
     assert!(rt; leads(&graph, 6, 0, 3));
-    assert!(rt; leads(&graph, 9, 4, 1));
+    assert!(rt; leads(&graph, 9, 4, 2));
     assert!(rt; leads(&graph, 14, 4, 5));
     assert!(rt; leads(&graph, 17, 5, 3));
     Ok(())

@@ -35,7 +35,7 @@ loop-i-preserved c =
     record {
       same = ap (λ n. code_from n (drop (i + 1) bs) (drop (i + 1) t)) value ∙ (sym (code_more c.loop-i.code bs t i inside (omega arith)) ∙ c.loop-i.invariant.same);
       below = subst (λ e. c.loop-i.code * 2 ^ b % 18446744073709551616 + (1 * 2 ^ slice_index t i % 18446744073709551616 - 1) < 2 ^ e) (sym total)
-      (subst (λ n. n < 2 ^ (sum (take i bs) + b)) (sym new) one.below);
+          (subst (λ n. n < 2 ^ (sum (take i bs) + b)) (sym new) one.below);
     }
 
 pub returns : goal.returns

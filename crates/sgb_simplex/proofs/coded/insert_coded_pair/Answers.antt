@@ -1,4 +1,4 @@
-use Rattle.std.proofs.Common.{◌≡◌, ◌<◌, ◌∷◌, [], ℕ, pos, List, Bool, length, get_or, bit_and, refl, sym, ap, ◌∙◌, arith}
+use Rattle.std.proofs.Common.{◌≡◌, ◌<◌, ◌∷◌, [], ℕ, pos, List, Bool, length, bit_and, refl, sym, ap, ◌∙◌, arith}
 use Rattle.std.specs.Int.Count.{ones}
 use Rattle.std.specs.List.{slice_index}
 use Rattle.sgb_graph.specs.Builder.{insertion}
