@@ -1,0 +1,11 @@
+pub mod Fronts
+pub mod Generators
+pub mod Inserted
+pub mod Ones
+pub mod Parts
+pub mod Rows
+pub mod Runs
+pub mod Simplices
+pub mod Sums
+pub mod Walks
+pub mod Written

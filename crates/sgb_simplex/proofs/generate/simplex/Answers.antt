@@ -1,0 +1,58 @@
+use Rattle.std.proofs.Common.{◌≡◌, ◌++◌, ◌∷◌, [], unsigned_abs, codes, true, w64, to_z, of_z, ap₂, subst, ◌∙◌, rules}
+use Rattle.std.proofs.lemmas.Int.{to_z-of_z}
+use Rattle.std.proofs.lemmas.Result.{err_from_is_err_and}
+use Rattle.sgb_graph.specs.Graph.{IsGraph}
+use Rattle.sgb_plan.specs.Id.{id_of}
+use Rattle.sgb_simplex.specs.Bounds.{first_of, bounds_of, are_in_range, points_within, shown_parts, flag_text}
+use Rattle.sgb_simplex.specs.Moves.{moves}
+use Rattle.sgb_simplex.specs.Points.{points}
+use Rattle.sgb_simplex.specs.Private.Started.{RefusesPoints}
+use Rattle.sgb_simplex.specs.Simplex.{plan_of_simplex, simplex_numbers, simplex_bounds, simplex_points, simplex_id}
+use Rattle.sgb_simplex.proofs.Generators.{points_refused, inserts_refused, graph_made, first_is, five}
+use Rattle.sgb_simplex.proofs.generate.simplex.Goals as goal
+
+pub returns-in_err-list : goal.returns-in_err-list
+unfolding plan_of_simplex
+returns-in_err-list c =
+    let p = err_from_is_err_and c.from_residual.result c.from_residual.ensures.1 in
+    let s = c.args.spec.now in
+    let read : to_z w64 (of_z w64 s.n) ≡ s.n = to_z-of_z w64 s.n (search rules) in
+    let first : to_z w64 (of_z w64 c.first_of.result) ≡ first_of s.n0 = first_is s.n0 c.first_of.result (search rules) (search rules) c.first_of.ensures in
+    let numbers_are = five (to_z w64 (of_z w64 c.first_of.result)) (first_of s.n0) s.n1 s.n2 s.n3 s.n4 first (search rules) (search rules) (search rules) (search rules) in
+    let refused : RefusesPoints s.n (simplex_numbers s) c.in_err-list.field-0.0 =
+    subst (λ z. RefusesPoints z (simplex_numbers s) c.in_err-list.field-0.0) read (subst (λ ns. RefusesPoints (to_z w64 (of_z w64 s.n)) ns c.in_err-list.field-0.0) numbers_are c.in_err-list.ensures.err) in
+    rw (p.1, p.2) (record { made = points_refused s.n (simplex_numbers s) (simplex_id s) s.directed (moves (simplex_points s) (simplex_bounds s)) c.in_err-list.field-0.0 refused })
+
+pub returns-in_err-insert_moves : goal.returns-in_err-insert_moves
+unfolding plan_of_simplex
+returns-in_err-insert_moves c =
+    let p = err_from_is_err_and c.from_residual-in_err-insert_moves.result c.from_residual-in_err-insert_moves.ensures.1 in
+    let s = c.args.spec.now in
+    let read : to_z w64 (of_z w64 s.n) ≡ s.n = to_z-of_z w64 s.n (search rules) in
+    let first : to_z w64 (of_z w64 c.first_of.result) ≡ first_of s.n0 = first_is s.n0 c.first_of.result (search rules) (search rules) c.first_of.ensures in
+    let numbers_are = five (to_z w64 (of_z w64 c.first_of.result)) (first_of s.n0) s.n1 s.n2 s.n3 s.n4 first (search rules) (search rules) (search rules) (search rules) in
+    let list = c.in_ok-list.list in
+    let fits : are_in_range s.n (simplex_numbers s) ≡ true = subst (λ z. are_in_range z (simplex_numbers s) ≡ true) read (subst (λ ns. are_in_range (to_z w64 (of_z w64 s.n)) ns ≡ true) numbers_are c.in_ok-list.ensures.range) in
+    let listed : points list.total list.bounds.items ≡ simplex_points s =
+    ap₂ (λ t bs. points t bs) c.in_ok-list.ensures.total c.in_ok-list.ensures.bounds ∙ ap₂ (λ z ns. points_within z ns) read numbers_are in
+    let named : c.in_ok-id.id ≡ simplex_id s = c.in_ok-id.ensures.value ∙ ap₂ (λ z ns. id_of (codes "simplex") (shown_parts z ns ++ flag_text s.directed ∷ [])) read numbers_are in
+    let inserted : (moves (points list.total list.bounds.items) list.bounds.items) ≡ (moves (simplex_points s) (simplex_bounds s)) = ap₂ (λ ps bs. moves ps bs) listed (c.in_ok-list.ensures.bounds ∙ ap₂ (λ z ns. bounds_of (unsigned_abs z) ns) read numbers_are) in
+    rw (p.1, p.2)
+    (record { made = inserts_refused s.n (simplex_numbers s) (simplex_id s) c.in_ok-id.id s.directed (points list.total list.bounds.items) (moves (simplex_points s) (simplex_bounds s)) (moves (points list.total list.bounds.items) list.bounds.items) c.in_ok-builder.builder c.in_err-insert_moves.field-0.0 fits c.in_ok-builder.ensures.value named listed inserted c.in_err-insert_moves.ensures })
+
+pub returns : goal.returns
+unfolding plan_of_simplex
+returns c =
+    let s = c.args.spec.now in
+    let read : to_z w64 (of_z w64 s.n) ≡ s.n = to_z-of_z w64 s.n (search rules) in
+    let first : to_z w64 (of_z w64 c.first_of.result) ≡ first_of s.n0 = first_is s.n0 c.first_of.result (search rules) (search rules) c.first_of.ensures in
+    let numbers_are = five (to_z w64 (of_z w64 c.first_of.result)) (first_of s.n0) s.n1 s.n2 s.n3 s.n4 first (search rules) (search rules) (search rules) (search rules) in
+    let list = c.in_ok-list.list in
+    let fits : are_in_range s.n (simplex_numbers s) ≡ true = subst (λ z. are_in_range z (simplex_numbers s) ≡ true) read (subst (λ ns. are_in_range (to_z w64 (of_z w64 s.n)) ns ≡ true) numbers_are c.in_ok-list.ensures.range) in
+    let listed : points list.total list.bounds.items ≡ simplex_points s =
+    ap₂ (λ t bs. points t bs) c.in_ok-list.ensures.total c.in_ok-list.ensures.bounds ∙ ap₂ (λ z ns. points_within z ns) read numbers_are in
+    let named : c.in_ok-id.id ≡ simplex_id s = c.in_ok-id.ensures.value ∙ ap₂ (λ z ns. id_of (codes "simplex") (shown_parts z ns ++ flag_text s.directed ∷ [])) read numbers_are in
+    let inserted : (moves (points list.total list.bounds.items) list.bounds.items) ≡ (moves (simplex_points s) (simplex_bounds s)) = ap₂ (λ ps bs. moves ps bs) listed (c.in_ok-list.ensures.bounds ∙ ap₂ (λ z ns. bounds_of (unsigned_abs z) ns) read numbers_are) in
+    let sound : IsGraph c.insert_moves.new.builder.graph = subst IsGraph c.finish.ensures.value c.finish.ensures.sound in
+    rw c.finish.ensures.value
+    (record { made = graph_made s.n (simplex_numbers s) (simplex_id s) c.in_ok-id.id s.directed (points list.total list.bounds.items) (moves (simplex_points s) (simplex_bounds s)) (moves (points list.total list.bounds.items) list.bounds.items) c.in_ok-builder.builder c.insert_moves.new.builder fits c.in_ok-builder.ensures.value named listed inserted c.in_ok-insert_moves.ensures sound })

@@ -1,0 +1,15 @@
+//! Simplices and families of subsets: graphs whose vertices are the points with a given sum.
+#![tactic(auto)]
+
+mod arguments;
+mod bounds;
+mod coded;
+mod counts;
+mod generate;
+mod list;
+mod moves;
+mod naming;
+mod overlap;
+
+pub use arguments::{SimplexSpec, SubsetsSpec};
+pub use generate::{simplex, subsets};
