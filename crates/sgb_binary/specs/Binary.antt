@@ -1,10 +1,10 @@
 -- The graph of binary trees and their rotations.
-use Rattle.std.specs.Prelude.{◌==◌, ◌&&◌, ◌||◌, ℕ, pos, unsigned_abs, int_le, nat_lt, List, [], ◌∷◌, map, replicate, codes, decimal, Bool, Result, Ok, Err, if◌then◌else◌}
+use Rattle.std.specs.Prelude.{◌==◌, ◌&&◌, ◌||◌, ℕ, pos, unsigned_abs, int_le, nat_lt, List, [], ◌∷◌, map, codes, decimal, Bool, Result, Ok, Err, if◌then◌else◌}
 use Rattle.sgb_graph.specs.declared.refusal.Refusal.{Refusal}
 use Rattle.sgb_graph.specs.declared.refusal.Refusal.TheVariants.{BadSpecs}
 use Rattle.sgb_graph.specs.New.{six_zeros}
-use Rattle.sgb_plan.specs.Id.{id_of}
-use Rattle.sgb_plan.specs.Plan.{Named, Plan}
+use Rattle.sgb_plan.specs.Id.{id_of, flag_text}
+use Rattle.sgb_plan.specs.Plan.{Named, Plan, no_letters}
 use Rattle.sgb_binary.specs.declared.spec.BinarySpec.{BinarySpec}
 use Rattle.sgb_binary.specs.Tree.{trees}
 use Rattle.sgb_binary.specs.Rotation.{rotations}
@@ -16,8 +16,8 @@ tree_vertex w = record { label = w; fields = six_zeros }
 -- the rotations among the trees with n dots and at most this height
 abbrev pub binary_plan : ℕ → ℕ → Bool → Plan
 binary_plan n most directed = record {
-  id = id_of (codes "binary") (decimal n ∷ decimal most ∷ (if directed then codes "1" else codes "0") ∷ []);
-  types = replicate 14 90;
+  id = id_of (codes "binary") (decimal n ∷ decimal most ∷ flag_text directed ∷ []);
+  types = no_letters;
   vertices = map tree_vertex (trees n most);
   directed = directed;
   insertions = rotations (trees n most);

@@ -8,7 +8,7 @@ use Rattle.sgb_graph.specs.declared.field.Util.{Util}
 use Rattle.sgb_graph.specs.declared.field.Util.TheVariants.{Zero, Int}
 use Rattle.sgb_graph.specs.declared.refusal.Refusal.{Refusal}
 use Rattle.sgb_graph.specs.declared.refusal.Refusal.TheVariants.{BadSpecs}
-use Rattle.sgb_plan.specs.Id.{id_of}
+use Rattle.sgb_plan.specs.Id.{id_of, flag_text}
 use Rattle.sgb_plan.specs.Listing.{listed, shown}
 use Rattle.sgb_plan.specs.Name.{dotted}
 use Rattle.sgb_plan.specs.Plan.{Named, Plan}
@@ -58,7 +58,7 @@ board_vertex p = record { label = dotted p; fields = coordinate_fields p }
 abbrev pub board_id : BoardSpec → List ℕ
 board_id s =
     id_of (codes "board")
-    (map signed_decimal (shown (sizes_asked s) ++ piece_of s ∷ s.wrap ∷ []) ++ (if s.directed then codes "1" else codes "0") ∷ [])
+    (map signed_decimal (shown (sizes_asked s) ++ piece_of s ∷ s.wrap ∷ []) ++ flag_text s.directed ∷ [])
 
 unfoldable pub board_plan : BoardSpec → List Side → Plan
 board_plan s sides = record {

@@ -1,4 +1,4 @@
-//! Standard graphs: the graphs that stated insertions build.
+//! Standard and random graphs: the graphs that stated insertions build. Boards stand here; the others are handed on.
 #![tactic(auto)]
 
 mod chess;
@@ -14,4 +14,8 @@ mod vector;
 
 pub use chess::board;
 pub use law::ride_law;
+pub use sgb_binary::{BinarySpec, binary, binary_law, rotation_law};
+pub use sgb_perms::{PermsSpec, perms, perms_law};
+pub use sgb_random::{RandomSpec, random, random_graph, random_law};
+pub use sgb_simplex::{SimplexSpec, SubsetsSpec, simplex, subsets};
 pub use spec::BoardSpec;

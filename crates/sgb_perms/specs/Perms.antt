@@ -1,14 +1,14 @@
 -- The graph of the arrangements of a multiset, as it is planned.
-use Rattle.std.specs.Prelude.{◌==◌, ℕ, ℤ, pos, unsigned_abs, int_le, nat_lt, nat_le, List, [], ◌∷◌, ◌++◌, length, map, sum, replicate, slice_index, slice_index_or, flat_map, codes, decimal, Bool, ◌&&◌, ◌||◌, Result, Ok, Err, if◌then◌else◌}
+use Rattle.std.specs.Prelude.{◌==◌, ℕ, ℤ, pos, unsigned_abs, int_le, nat_lt, nat_le, List, [], ◌∷◌, ◌++◌, length, map, sum, slice_index, slice_index_or, flat_map, codes, decimal, Bool, ◌&&◌, ◌||◌, Result, Ok, Err, if◌then◌else◌}
 use Rattle.std.specs.Fmt.{signed_decimal}
 use Rattle.std.specs.List.{position_or_len, range_with_len}
 use Rattle.sgb_graph.specs.declared.refusal.Refusal.{Refusal}
 use Rattle.sgb_graph.specs.declared.refusal.Refusal.TheVariants.{BadSpecs}
 use Rattle.sgb_graph.specs.New.{six_zeros}
 use Rattle.sgb_graph.specs.Builder.{Insertion, insertion}
-use Rattle.sgb_plan.specs.Id.{id_of}
+use Rattle.sgb_plan.specs.Id.{id_of, flag_text}
 use Rattle.sgb_plan.specs.Listing.{listed, shown}
-use Rattle.sgb_plan.specs.Plan.{Named, Plan}
+use Rattle.sgb_plan.specs.Plan.{Named, Plan, no_letters}
 use Rattle.sgb_perms.specs.declared.spec.PermsSpec.{PermsSpec}
 use Rattle.sgb_perms.specs.Arrangement.{same_list, arrangements, greatest_from, descents, exchanged}
 
@@ -61,12 +61,12 @@ exchanges rows = flat_map (λ v. exchanges_of rows v (row_at rows v)) (range_wit
 abbrev pub perms_id : PermsSpec → ℕ → List ℕ
 perms_id s most =
     id_of (codes "perms")
-    (map signed_decimal (shown (numbers_of s)) ++ decimal most ∷ (if s.directed then codes "1" else codes "0") ∷ [])
+    (map signed_decimal (shown (numbers_of s)) ++ decimal most ∷ flag_text s.directed ∷ [])
 
 unfoldable pub perms_plan : PermsSpec → ℕ → List (List ℕ) → Plan
 perms_plan s most rows = record {
   id = perms_id s most;
-  types = replicate 14 90;
+  types = no_letters;
   vertices = map row_vertex rows;
   directed = s.directed;
   insertions = exchanges rows;

@@ -7,7 +7,7 @@ use Rattle.sgb_graph.specs.New.{six_zeros}
 use Rattle.sgb_graph.specs.Builder.{Insertion, insertion}
 use Rattle.sgb_plan.specs.Id.{id_of}
 use Rattle.sgb_plan.specs.Name.{dotted}
-use Rattle.sgb_plan.specs.Plan.{Named, Plan}
+use Rattle.sgb_plan.specs.Plan.{Named, Plan, no_letters}
 
 -- a vertex is named by its number
 abbrev pub path_vertex : ℕ → Named
@@ -21,7 +21,7 @@ path_step v = insertion v (v + 1) (pos 1)
 abbrev pub path_plan : ℕ → Bool → Plan
 path_plan n directed = record {
   id = id_of (codes "path") (decimal n ∷ []);
-  types = replicate 14 90;
+  types = no_letters;
   vertices = map path_vertex (range_with_len 0 n);
   directed = directed;
   insertions = map path_step (range_with_len 0 (n - 1));

@@ -1,5 +1,5 @@
 -- Random graphs: what attempts there are, what comes of each, and the graph of their insertions.
-use Rattle.std.specs.Prelude.{◌≡◌, ◌+◌, ◌*◌, ◌==◌, ◌||◌, ◌&&◌, ℕ, zero, suc, ℤ, pos, List, [], ◌∷◌, ◌++◌, map, replicate, codes, Bool, false, not, nat_lt, nat_le, int_lt, int_le, unsigned_abs, Option, None, Some, Result, Ok, Err, if◌then◌else◌}
+use Rattle.std.specs.Prelude.{◌≡◌, ◌+◌, ◌*◌, ◌==◌, ◌||◌, ◌&&◌, ℕ, zero, suc, ℤ, pos, List, [], ◌∷◌, ◌++◌, map, codes, Bool, false, not, nat_lt, nat_le, int_lt, int_le, unsigned_abs, Option, None, Some, Result, Ok, Err, if◌then◌else◌}
 use Rattle.std.specs.Int.{int_min, int_signum}
 use Rattle.std.specs.List.{range_with_len, list_any, AllPairs}
 use Rattle.std.specs.Option.{option_or}
@@ -14,7 +14,7 @@ use Rattle.sgb_plan.specs.declared.part.Part.TheVariants.{Number, Count, Flag, D
 use Rattle.sgb_plan.specs.Id.{id_of, part_text}
 use Rattle.sgb_plan.specs.Length.{drawn_length, refusal_of_range}
 use Rattle.sgb_plan.specs.Name.{dotted}
-use Rattle.sgb_plan.specs.Plan.{Named, Plan}
+use Rattle.sgb_plan.specs.Plan.{Named, Plan, no_letters}
 use Rattle.sgb_random.specs.declared.spec.RandomSpec.{RandomSpec}
 
 -- how many vertices there are, and how many arcs or edges are to be made
@@ -108,7 +108,7 @@ random_id s seed =
 abbrev pub random_plan : RandomSpec → Seed → List Insertion → Plan
 random_plan s seed insertions = record {
   id = random_id s seed;
-  types = replicate 14 90;
+  types = no_letters;
   vertices = map numbered (range_with_len 0 (size_of s));
   directed = s.directed;
   insertions = insertions;

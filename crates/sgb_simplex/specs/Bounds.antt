@@ -1,5 +1,5 @@
 -- The bounds of coordinates, by the numbers that are given.
-use Rattle.std.specs.Prelude.{◌+◌, ◌&&◌, ℕ, ℤ, pos, negsuc, unsigned_abs, int_lt, int_le, nat_le, min, List, ◌∷◌, length, map, replicate, get_or, codes, Bool, Result, Ok, Err, if◌then◌else◌}
+use Rattle.std.specs.Prelude.{◌+◌, ◌&&◌, ℕ, ℤ, pos, negsuc, unsigned_abs, int_lt, int_le, nat_le, min, List, ◌∷◌, length, map, replicate, get_or, Bool, Result, Ok, Err, if◌then◌else◌}
 use Rattle.std.specs.Fmt.{signed_decimal}
 use Rattle.std.specs.Int.{int_min}
 use Rattle.std.specs.List.{range_with_len}
@@ -44,6 +44,3 @@ shown_bound n numbers i = int_min (shown_at numbers i) n
 -- n and the five numbers, as ids show them
 abbrev pub shown_parts : ℤ → List ℤ → List (List ℕ)
 shown_parts n numbers = signed_decimal n ∷ map (λ i. signed_decimal (shown_bound n numbers i)) (range_with_len 0 5)
-
-abbrev pub flag_text : Bool → List ℕ
-flag_text flag = if flag then codes "1" else codes "0"

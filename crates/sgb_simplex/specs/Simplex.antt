@@ -1,10 +1,10 @@
 -- The graph of a simplex: its points, and the moves of one unit from a coordinate to a later one.
 use Rattle.std.specs.Prelude.{◌++◌, ℕ, ℤ, unsigned_abs, List, [], ◌∷◌, codes, Result}
 use Rattle.sgb_graph.specs.declared.refusal.Refusal.{Refusal}
-use Rattle.sgb_plan.specs.Id.{id_of}
+use Rattle.sgb_plan.specs.Id.{id_of, flag_text}
 use Rattle.sgb_plan.specs.Plan.{Plan}
 use Rattle.sgb_simplex.specs.declared.arguments.SimplexSpec.{SimplexSpec}
-use Rattle.sgb_simplex.specs.Bounds.{first_of, bounds_of, points_within, plan_within, shown_parts, flag_text}
+use Rattle.sgb_simplex.specs.Bounds.{first_of, bounds_of, points_within, plan_within, shown_parts}
 use Rattle.sgb_simplex.specs.Moves.{moves}
 use Rattle.sgb_simplex.specs.Points.{point_plan}
 

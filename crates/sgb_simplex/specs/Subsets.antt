@@ -1,10 +1,10 @@
 -- The graph of points that are joined where their overlap has one of the sizes that are asked for.
 use Rattle.std.specs.Prelude.{◌++◌, ℕ, ℤ, List, [], ◌∷◌, codes, Result}
 use Rattle.sgb_graph.specs.declared.refusal.Refusal.{Refusal}
-use Rattle.sgb_plan.specs.Id.{id_of, hexadecimal}
+use Rattle.sgb_plan.specs.Id.{id_of, hexadecimal, flag_text}
 use Rattle.sgb_plan.specs.Plan.{Plan}
 use Rattle.sgb_simplex.specs.declared.arguments.SubsetsSpec.{SubsetsSpec}
-use Rattle.sgb_simplex.specs.Bounds.{first_of, points_within, plan_within, shown_parts, flag_text}
+use Rattle.sgb_simplex.specs.Bounds.{first_of, points_within, plan_within, shown_parts}
 use Rattle.sgb_simplex.specs.Overlap.{pairs}
 use Rattle.sgb_simplex.specs.Points.{point_plan}
 

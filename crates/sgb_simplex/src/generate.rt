@@ -1,9 +1,9 @@
 //! The two generators.
 ghost use Rattle.std.specs.Prelude.{◌≡◌, ◌≤◌, ◌++◌, ◌∷◌, [], true, length, map, codes, get_or, pos, unsigned_abs, IfOk, IfErr};
 ghost use Rattle.sgb_graph.specs.Graph.{n_of};
-ghost use Rattle.sgb_plan.specs.Id.{id_of, hexadecimal};
+ghost use Rattle.sgb_plan.specs.Id.{id_of, hexadecimal, flag_text};
 ghost use Rattle.sgb_plan.specs.Plan.{IsMade};
-ghost use Rattle.sgb_simplex.specs.Bounds.{bounds_of, are_in_range, shown_parts, flag_text};
+ghost use Rattle.sgb_simplex.specs.Bounds.{bounds_of, are_in_range, shown_parts};
 ghost use Rattle.sgb_simplex.specs.Points.{points};
 ghost use Rattle.sgb_simplex.specs.Private.Started.{RefusesPoints, started};
 ghost use Rattle.sgb_simplex.specs.Simplex.{plan_of_simplex};

@@ -2,8 +2,8 @@ use Rattle.std.proofs.Common.{◌≡◌, ◌++◌, ◌∷◌, [], unsigned_abs, 
 use Rattle.std.proofs.lemmas.Int.{to_z-of_z}
 use Rattle.std.proofs.lemmas.Result.{err_from_is_err_and}
 use Rattle.sgb_graph.specs.Graph.{IsGraph}
-use Rattle.sgb_plan.specs.Id.{id_of}
-use Rattle.sgb_simplex.specs.Bounds.{first_of, bounds_of, are_in_range, points_within, shown_parts, flag_text}
+use Rattle.sgb_plan.specs.Id.{id_of, flag_text}
+use Rattle.sgb_simplex.specs.Bounds.{first_of, bounds_of, are_in_range, points_within, shown_parts}
 use Rattle.sgb_simplex.specs.Moves.{moves}
 use Rattle.sgb_simplex.specs.Points.{points}
 use Rattle.sgb_simplex.specs.Private.Started.{RefusesPoints}

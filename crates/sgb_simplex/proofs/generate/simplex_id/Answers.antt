@@ -1,7 +1,7 @@
 use Rattle.std.proofs.Common.{◌≡◌, ◌∷◌, [], ℕ, ℤ, List, codes, FitsSigned, w64, to_z, of_z, ap, ◌∙◌, rules}
 use Rattle.std.proofs.lemmas.Int.{to_z-of_z}
-use Rattle.sgb_plan.specs.Id.{id_of}
-use Rattle.sgb_simplex.specs.Bounds.{shown_bound, flag_text}
+use Rattle.sgb_plan.specs.Id.{id_of, flag_text}
+use Rattle.sgb_simplex.specs.Bounds.{shown_bound}
 use Rattle.sgb_simplex.proofs.Generators.{parts_are}
 use Rattle.sgb_simplex.proofs.generate.simplex_id.Goals as goal
 
