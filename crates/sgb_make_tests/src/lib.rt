@@ -7,3 +7,5 @@ mod boards;
 mod laws;
 #[cfg(test)]
 mod looks;
+#[cfg(test)]
+mod others;
