@@ -37,5 +37,5 @@ fate_at g v = unwrap_or (fate_of (z_of g v)) (Copies 0)
 abbrev pub have_fates : GraphOf → Bool
 have_fates g = list_all (has_fate g) (range_with_len 0 (n_of g))
 
-abbrev pub fates : GraphOf → List Fate
-fates g = map (fate_at g) (range_with_len 0 (n_of g))
+abbrev pub fates_of : GraphOf → List Fate
+fates_of g = map (fate_at g) (range_with_len 0 (n_of g))

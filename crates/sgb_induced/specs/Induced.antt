@@ -14,7 +14,7 @@ use Rattle.sgb_plan.specs.Id.{id_of_one, part_text}
 use Rattle.sgb_plan.specs.Plan.{Plan}
 use Rattle.sgb_induced.specs.declared.fate.Fate.{Fate}
 use Rattle.sgb_induced.specs.declared.inducing.InducedSpec.{InducedSpec}
-use Rattle.sgb_induced.specs.Fate.{fates, have_fates}
+use Rattle.sgb_induced.specs.Fate.{fates_of, have_fates}
 use Rattle.sgb_induced.specs.Image.{images, leader, named, have_names}
 use Rattle.sgb_induced.specs.Least.{least}
 
@@ -55,9 +55,9 @@ unfoldable pub induced_plan : GraphOf → InducedSpec → Plan
 induced_plan g spec = record {
   id = id_of_one (codes "induced") g.id (words spec);
   types = replicate 14 90;
-  vertices = named g (fates g);
+  vertices = named g (fates_of g);
   directed = spec.directed;
-  insertions = insertions g (fates g) spec.loops spec.multi spec.directed;
+  insertions = insertions g (fates_of g) spec.loops spec.multi spec.directed;
 }
 
 -- the first refusal before the plan: a long description; an arc that leads to no vertex; a field z that does not say
@@ -67,7 +67,7 @@ refusal_of_induced g spec =
     refusal_unless (nat_le (length spec.description.now) 40) BadSpecs
     (option_or (refusal_of_operand g)
     (refusal_unless (have_fates g) BadOperand
-    (refusal_unless (have_names g (fates g)) BadOperand None)))
+    (refusal_unless (have_names g (fates_of g)) BadOperand None)))
 
 abbrev pub plan_unless : Option Refusal → Plan → Result Plan Refusal
 plan_unless None p = Ok p

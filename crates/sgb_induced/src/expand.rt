@@ -18,7 +18,8 @@ pub(crate) fn insert_runs(
     loops: bool,
     directed: bool,
 ) -> Result<(), Refusal>
-    requires { AreWithin (n_of builder.old.graph) images.now }
+    requires within { AreWithin (n_of builder.old.graph) images.now }
+    requires few { n_of builder.old.graph ≤ 65535 }
     ensures { Inserts builder.old builder.new (flat_map (expanded loops directed images.now) runs.now) result }
 {
     for run in runs {
@@ -40,11 +41,11 @@ fn insert_between(
 ) -> Result<(), Refusal>
     requires from { from.start + from.count ≤ n_of builder.old.graph }
     requires to { to.start + to.count ≤ n_of builder.old.graph }
+    requires few { n_of builder.old.graph ≤ 65535 }
     ensures { Inserts builder.old builder.new (between loops directed from to run) result }
 {
-    let alone = run.from == run.to;
     for x in from.start..from.start + from.count {
-        insert_from(builder, x, to, run.len, loops, directed, alone)?;
+        insert_from(builder, x, to, run, loops, directed)?;
     }
     Ok(())
 }
@@ -54,15 +55,17 @@ fn insert_from(
     builder: &mut Builder,
     x: u32,
     to: Image,
-    len: i64,
+    run: Run,
     loops: bool,
     directed: bool,
-    alone: bool,
 ) -> Result<(), Refusal>
     requires from { x < n_of builder.old.graph }
     requires to { to.start + to.count ≤ n_of builder.old.graph }
-    ensures { Inserts builder.old builder.new (from_one loops directed alone to len x) result }
+    requires few { n_of builder.old.graph ≤ 65535 }
+    ensures { Inserts builder.old builder.new (from_one loops directed to run x) result }
 {
+    let alone = run.from == run.to;
+    let len = run.length();
     for y in to.start..to.start + to.count {
         if !is_wanted(x, y, loops, directed, alone) {
             continue;

@@ -1,6 +1,6 @@
 //! What becomes of each vertex of a graph.
 ghost use Rattle.std.specs.Prelude.{◌≡◌, ◌⊎◌, true, false, IfErr, IfOk};
-ghost use Rattle.sgb_induced.specs.Fate.{fate_of, fate_of_number, fates, have_fates};
+ghost use Rattle.sgb_induced.specs.Fate.{fate_of, fate_of_number, fates_of, have_fates};
 
 use sgb_graph::{Graph, Refusal, Util, VertexField, VertexNo};
 use std::alloc::Global;
@@ -15,7 +15,7 @@ pub(crate) enum Fate {
 // What becomes of each vertex, by its number. Refused `BadOperand` where the field z of one is a vertex, an arc or a
 // text.
 pub(crate) fn read_fates(alloc: Global, graph: &Graph) -> Result<Vec<Fate>, Refusal>
-    ensures value { IfOk result (λ fs. fs.items ≡ fates graph.now) }
+    ensures value { IfOk result (λ fs. fs.items ≡ fates_of graph.now) }
     ensures all { IfOk result (λ fs. have_fates graph.now ≡ true) }
     ensures err { IfErr result
         (λ e. (e ≡ Refusal.NoRoom) ⊎ ((e ≡ Refusal.BadOperand) × (have_fates graph.now ≡ false))) }

@@ -1,7 +1,7 @@
 //! Induced graphs.
 ghost use Rattle.std.specs.Prelude.{◌≡◌, ◌≤◌, Ok, true, length};
 ghost use Rattle.sgb_plan.specs.Plan.{IsMade};
-ghost use Rattle.sgb_induced.specs.Fate.{fates};
+ghost use Rattle.sgb_induced.specs.Fate.{fates_of};
 ghost use Rattle.sgb_induced.specs.Image.{have_names};
 ghost use Rattle.sgb_induced.specs.Induced.{induced_plan, plan_of_induced};
 
@@ -63,7 +63,7 @@ fn build_induced(
     fates: &[Fate],
 ) -> Result<Graph, Refusal>
     requires short { length spec.now.description.now ≤ 40 }
-    requires fates { fates.now ≡ fates graph.now }
+    requires fates { fates.now ≡ fates_of graph.now }
     requires names { have_names graph.now fates.now ≡ true }
     ensures { IsMade (Ok (induced_plan graph.now spec.now)) result }
 {

@@ -4,7 +4,7 @@ ghost use Rattle.std.specs.List.{range_with_len};
 ghost use Rattle.sgb_graph.specs.Graph.{n_of};
 ghost use Rattle.sgb_graph.specs.Text.{IsText};
 ghost use Rattle.sgb_plan.specs.Plan.{Names};
-ghost use Rattle.sgb_induced.specs.Fate.{fates};
+ghost use Rattle.sgb_induced.specs.Fate.{fates_of};
 ghost use Rattle.sgb_induced.specs.Image.{copy, copy_name, count_of, have_names, named};
 ghost use Rattle.sgb_induced.specs.Private.Run.{image_of};
 
@@ -17,7 +17,7 @@ use std::alloc::{AllocError, Global};
 
 // The name of each copy has at most 4,095 bytes.
 pub(crate) fn have_names(graph: &Graph, fates: &[Fate]) -> bool
-    requires { fates.now ≡ fates graph.now }
+    requires { fates.now ≡ fates_of graph.now }
     ensures { result ≡ have_names graph.now fates.now }
 {
     for v in 0..graph.n() {
@@ -49,9 +49,9 @@ pub(crate) fn name_vertices(
     graph: &Graph,
     images: &[Image],
 ) -> Result<(), Refusal>
-    requires images { images.now ≡ map (image_of (fates graph.now)) (range_with_len 0 (n_of graph.now)) }
-    requires names { have_names graph.now (fates graph.now) ≡ true }
-    ensures { Names builder.old builder.new (named graph.now (fates graph.now)) result }
+    requires images { images.now ≡ map (image_of (fates_of graph.now)) (range_with_len 0 (n_of graph.now)) }
+    requires names { have_names graph.now (fates_of graph.now) ≡ true }
+    ensures { Names builder.old builder.new (named graph.now (fates_of graph.now)) result }
 {
     let mut name = Vec::new(alloc);
     for v in 0..graph.n() {

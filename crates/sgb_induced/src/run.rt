@@ -1,6 +1,7 @@
 //! Runs: insertions from each image of one vertex to each of another.
-ghost use Rattle.std.specs.Prelude.{◌≡◌, IfOk, OnOk};
-ghost use Rattle.sgb_induced.specs.Private.Run.{IsIndexed, key_of, merge, merged};
+ghost use Rattle.std.specs.Prelude.{◌≡◌, FitsSigned, IfOk, OnOk};
+ghost use Rattle.std.specs.Int.{w64};
+ghost use Rattle.sgb_induced.specs.Private.Run.{IsIndexed, key_of, lowered_run, merge, merged};
 
 use std::alloc::{AllocError, Global};
 use std::collections::HashMap;
@@ -12,6 +13,17 @@ pub(crate) struct Run {
     pub(crate) from: u32,
     pub(crate) to: u32,
     pub(crate) len: i64,
+}
+
+impl Run {
+    // The length of each insertion.
+    #[inline]
+    pub(crate) fn length(self) -> i64
+        ensures value { result ≡ self.len }
+        ensures fits { FitsSigned w64 result }
+    {
+        self.len
+    }
 }
 
 // The runs of which each pair of ends has only the first, with the least length.
@@ -44,8 +56,7 @@ fn merge_run(
     let key = key_of(run, directed);
     match places.get(&key).copied() {
         Some(place) => {
-            let len = kept[place].len.min(run.len);
-            kept[place].len = len;
+            kept[place] = lowered_run(kept[place], run);
         }
         None => {
             places.insert(key, kept.len())?;
@@ -53,6 +64,18 @@ fn merge_run(
         }
     }
     Ok(())
+}
+
+// A run with the smaller length of the two.
+#[inline]
+fn lowered_run(kept: Run, run: Run) -> Run
+    ensures { result ≡ lowered_run kept run }
+{
+    Run {
+        from: kept.from,
+        to: kept.to,
+        len: kept.len.min(run.len),
+    }
 }
 
 // The ends of a run; without a direction the smaller is named first.

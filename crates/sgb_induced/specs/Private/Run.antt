@@ -1,5 +1,5 @@
 -- Images as they are kept, and runs: the insertions from each image of one vertex to each of another.
-use Rattle.std.specs.Prelude.{◌≡◌, ◌≤◌, ◌+◌, ◌×◌, ◌==◌, ◌||◌, ◌&&◌, not, ℕ, ℤ, List, [], ◌∷◌, map, fold, Bool, min, max, nat_eq, nat_le, slice_index_or, if◌then◌else◌}
+use Rattle.std.specs.Prelude.{◌≡◌, ◌≤◌, ◌+◌, ◌==◌, ◌||◌, ◌&&◌, not, ℕ, List, [], ◌∷◌, map, fold, Bool, min, max, nat_eq, nat_le, slice_index_or, if◌then◌else◌}
 use Rattle.std.specs.HashMap.{HashMap, get}
 use Rattle.std.specs.Int.{int_min}
 use Rattle.std.specs.List.{filter, flat_map, position, range_with_len}
@@ -66,11 +66,11 @@ abbrev pub IsIndexed : {S : Type 0} → Bool → HashMap Key ℕ S → List Run 
 IsIndexed directed places rs = (q : Key) → get key_eq places q ≡ position (has_key directed q) rs
 
 -- ---- the insertions of a run
-abbrev pub from_one : Bool → Bool → Bool → Image → ℤ → ℕ → List Insertion
-from_one loops directed alone to len x = map (λ y. insertion x y len) (filter (is_wanted loops directed alone x) (numbers to))
+abbrev pub from_one : Bool → Bool → Image → Run → ℕ → List Insertion
+from_one loops directed to r x = map (λ y. insertion x y r.len) (filter (is_wanted loops directed (r.from == r.to) x) (numbers to))
 
 unfoldable pub between : Bool → Bool → Image → Image → Run → List Insertion
-between loops directed from to r = flat_map (from_one loops directed (r.from == r.to) to r.len) (numbers from)
+between loops directed from to r = flat_map (from_one loops directed to r) (numbers from)
 
 unfoldable pub expanded : Bool → Bool → List Image → Run → List Insertion
 expanded loops directed is r = between loops directed (image_at is r.from) (image_at is r.to) r
