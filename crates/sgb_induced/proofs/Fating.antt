@@ -1,7 +1,7 @@
 -- Lemmas on what becomes of the vertices of a graph, as a loop reads it.
 use Rattle.std.proofs.Common.{◌≡◌, ◌<◌, ◌+◌, ℕ, List, [], ◌∷◌, ◌++◌, get_or, length, map, Option, Some, None, is_some, unwrap_or, true, false, refl, sym, ap, ◌∙◌, arith}
 use Rattle.std.specs.List.{list_all, range_with_len}
-use Rattle.std.proofs.lemmas.List.{get_or_read_under}
+use Rattle.std.proofs.lemmas.List.{get_or_default}
 use Rattle.std.proofs.lemmas.List.Elements.{All-get_or}
 use Rattle.std.proofs.lemmas.List.FromFn.{map-range_with_len_more}
 use Rattle.sgb_graph.specs.declared.field.Util.{Util}
@@ -13,10 +13,10 @@ use Rattle.sgb_induced.specs.Fate.{fate_of, fate_at, has_fate, have_fates, fates
 use Rattle.sgb_induced.proofs.Ranges.{all_range_more, all_range_fails}
 
 -- the value that was read is that of the field z
-pub z_read : (g : GraphOf) (v : ℕ) (fields : List Util) (z : Util) {place : ℕ} → fields ≡ (vertex_at g v).fields → place ≡ 5 → z ≡ get_or fields place z → IsGraph g → v < n_of g → z ≡ z_of g v
-z_read g v fields z {place} whose at is sound h =
+pub z_read : (g : GraphOf) (v : ℕ) (fields : List Util) (d : Util) {place : ℕ} → fields ≡ (vertex_at g v).fields → place ≡ 5 → IsGraph g → v < n_of g → get_or fields place d ≡ z_of g v
+z_read g v fields d {place} whose at sound h =
     let six : length fields ≡ 6 = ap length whose ∙ (All-get_or (IsVertex (n_of g) g.entries) g.vertices v no_vertex h sound.vertices).six in
-    get_or_read_under fields place (length fields) z Zero is (omega (arith, at, six)) refl ∙ (ap (λ k. get_or fields k Zero) at ∙ ap (λ fs. get_or fs 5 Zero) whose)
+    get_or_default fields place d Zero (omega (arith, at, six)) ∙ (ap (λ k. get_or fields k Zero) at ∙ ap (λ fs. get_or fs 5 Zero) whose)
 
 pub fate_missing : (g : GraphOf) (n v : ℕ) (z : Util) (o : Option Fate) → v < n → o ≡ fate_of z → z ≡ z_of g v → o ≡ None → list_all (has_fate g) (range_with_len 0 n) ≡ false
 fate_missing g n v z o h said read none =

@@ -5,3 +5,5 @@ pub mod Fating
 pub mod Gathering
 pub mod Leading
 pub mod Merging
+pub mod Naming
+pub mod Placing

@@ -6,6 +6,7 @@ use Rattle.std.specs.Option.{option_map}
 use Rattle.std.proofs.lemmas.Bool.{cases_Bool, eqb-true}
 use Rattle.std.proofs.lemmas.List.{take_more}
 use Rattle.std.proofs.lemmas.List.Quantifiers.{position-Some}
+use Rattle.std.proofs.lemmas.List.Sums.{fold_push}
 use Rattle.sgb_induced.specs.declared.run.Run.{Run}
 use Rattle.sgb_induced.specs.Private.Run.{IsIndexed, Key, has_key, key_eq, key_of, lowered_run, merge, merged, same_run}
 use Rattle.sgb_induced.proofs.Positions.{position-cons, position_push, position-set, or_next}
@@ -72,3 +73,8 @@ indexed_pushed directed m n rs s indexed absent puts =
 
 pub place_within : (directed : Bool) (rs : List Run) (q : Key) (i : ℕ) (d : Run) → position (has_key directed q) rs ≡ Some i → i < length rs
 place_within directed rs q i d is = (position-Some (has_key directed q) rs i d is).0
+
+pub merged_more : (directed : Bool) (rs : List Run) (i : ℕ) (d : Run) {ts : List Run} → i < length rs → ts ≡ merged directed (take i rs) → merge directed ts (get_or rs i d) ≡ merged directed (take (i + 1) rs)
+merged_more directed rs i d h so =
+    ap (λ ts. merge directed ts (get_or rs i d)) so
+    ∙ sym (ap (merged directed) (take_more rs i d h) ∙ fold_push (merge directed) [] (take i rs) (get_or rs i d))

@@ -1,7 +1,7 @@
 -- Lemmas on the numbers from one on.
 use Rattle.std.proofs.Common.{◌≡◌, ◌<◌, ◌≤◌, ◌+◌, ◌-◌, ℕ, zero, suc, List, [], ◌∷◌, ◌++◌, map, Bool, true, false, ◌&&◌, inl, inr, refl, sym, ap, ◌∙◌, arith}
 use Rattle.std.specs.List.{flat_map, list_all, range_with_len, sum_by}
-use Rattle.std.proofs.lemmas.Bool.{cases_eq}
+use Rattle.std.proofs.lemmas.Bool.{cases_Bool, cases_eq}
 use Rattle.std.proofs.lemmas.List.{append-nil}
 use Rattle.std.proofs.lemmas.List.Folds.{list_all-append}
 use Rattle.std.proofs.lemmas.List.Sums.{sum_by_push}
@@ -48,3 +48,10 @@ all_fails_from p a (suc n) v low high fails =
 
 pub all_range_fails : (p : ℕ → Bool) (n v : ℕ) → v < n → p v ≡ false → list_all p (range_with_len 0 n) ≡ false
 all_range_fails p n v h fails = all_fails_from p 0 n v (omega arith) (omega (arith, h)) fails
+
+pub all_range_at : (p : ℕ → Bool) (n v : ℕ) → v < n → list_all p (range_with_len 0 n) ≡ true → p v ≡ true
+all_range_at p n v h all =
+    elim (cases_Bool (p v)) [
+      | inl holds ↦ holds
+      | inr fails ↦ absurd (let wrong : false ≡ true = sym (all_range_fails p n v h fails) ∙ all in cc)
+    ]

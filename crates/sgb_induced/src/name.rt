@@ -56,9 +56,10 @@ pub(crate) fn name_vertices(
     let mut name = Vec::new(alloc);
     for v in 0..graph.n() {
         let image = images[v as usize];
-        if image.leader == v {
-            name_copies(builder, &mut name, graph.label(VertexNo(v)), image.count)?;
+        if image.leader != v {
+            continue;
         }
+        name_copies(builder, &mut name, graph.label(VertexNo(v)), image.count)?;
     }
     Ok(())
 }

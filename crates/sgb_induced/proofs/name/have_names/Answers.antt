@@ -10,10 +10,10 @@ bounds-fates-v c = omega (arith, long_enough c.args.graph.now c.requires)
 
 pub returns-then-not-has_name : goal.returns-then-not-has_name
 returns-then-not-has_name c =
-    let here = name_fits c.args.graph.now c.args.fates.now c.loop-v.v c.requires (omega arith) c.label.ensures.text c.label.ensures.value c.has_name.ensures in
+    let here = name_fits c.args.graph.now c.args.fates.now c.loop-v.v c.label.ensures.value c.has_name.ensures in
     sym (all_range_fails (has_name c.args.graph.now c.args.fates.now) (n_of c.args.graph.now) c.loop-v.v (omega arith) (sym here ∙ c.if-not-has_name.true))
 
 pub loop-v-preserved : goal.loop-v-preserved
 loop-v-preserved c =
-    let here = name_fits c.args.graph.now c.args.fates.now c.loop-v.v c.requires (omega arith) c.label.ensures.text c.label.ensures.value c.has_name.ensures in
+    let here = name_fits c.args.graph.now c.args.fates.now c.loop-v.v c.label.ensures.value c.has_name.ensures in
     all_range_more (has_name c.args.graph.now c.args.fates.now) c.loop-v.v c.loop-v.invariant (sym here ∙ c.if-not-has_name.false)
