@@ -7,3 +7,5 @@ pub mod Leading
 pub mod Merging
 pub mod Naming
 pub mod Placing
+pub mod Planned
+pub mod Expansion

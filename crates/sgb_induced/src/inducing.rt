@@ -1,9 +1,10 @@
 //! Induced graphs.
-ghost use Rattle.std.specs.Prelude.{◌≡◌, ◌≤◌, Ok, true, length};
+ghost use Rattle.std.specs.Prelude.{◌≡◌, ◌≤◌, Ok, IfErr, IfOk, true, codes, length};
+ghost use Rattle.sgb_plan.specs.Id.{id_of_one};
 ghost use Rattle.sgb_plan.specs.Plan.{IsMade};
 ghost use Rattle.sgb_induced.specs.Fate.{fates_of};
 ghost use Rattle.sgb_induced.specs.Image.{have_names};
-ghost use Rattle.sgb_induced.specs.Induced.{induced_plan, plan_of_induced};
+ghost use Rattle.sgb_induced.specs.Induced.{induced_plan, plan_of_induced, words};
 
 use crate::expand::insert_runs;
 use crate::fate::{Fate, read_fates};
@@ -67,17 +68,28 @@ fn build_induced(
     requires names { have_names graph.now fates.now ≡ true }
     ensures { IsMade (Ok (induced_plan graph.now spec.now)) result }
 {
+    let _ = graph.n();
     let images = place_images(alloc, fates)?;
+    let id = induced_id(alloc, graph, spec)?;
+    let mut builder = Builder::new(alloc, id, Types::none(), spec.directed);
+    name_vertices(&mut builder, alloc, graph, &images)?;
+    let runs = gather_runs(alloc, graph, &images, spec.multi, spec.directed)?;
+    insert_runs(&mut builder, &images, &runs, spec.loops, spec.directed)?;
+    Ok(builder.finish())
+}
+
+// The id of the graph.
+fn induced_id(alloc: Global, graph: &Graph, spec: &InducedSpec<'_>) -> Result<Text, Refusal>
+    requires { length spec.now.description.now ≤ 40 }
+    ensures value { IfOk result (λ id. id ≡ id_of_one (codes "induced") graph.now.id (words spec.now)) }
+    ensures short { IfOk result (λ id. length id ≤ 160) }
+    ensures err { IfErr result (λ e. e ≡ Refusal.NoRoom) }
+{
     let parts = [
         Part::Word(spec.description),
         Part::Flag(spec.loops),
         Part::Flag(spec.multi),
         Part::Flag(spec.directed),
     ];
-    let id = id_of_one(alloc, "induced", graph.id(), &parts)?;
-    let mut builder = Builder::new(alloc, id, Types::none(), spec.directed);
-    name_vertices(&mut builder, alloc, graph, &images)?;
-    let runs = gather_runs(alloc, graph, &images, spec.multi, spec.directed)?;
-    insert_runs(&mut builder, &images, &runs, spec.loops, spec.directed)?;
-    Ok(builder.finish())
+    id_of_one(alloc, "induced", graph.id(), &parts)
 }
