@@ -81,11 +81,11 @@ pub led_class : {S : Type 0} (m n : HashMap ℕ ℕ S) (fs : List Fate) (v d u :
 led_class m n fs v d u led is h found puts =
     λ c. elim (cases_Bool (d == c)) [
       | inl same ↦ (let there : d ≡ c = eqb-true d c same in
-        let left : get nat_eq n c ≡ Some u = puts c ∙ rw same refl in
-        let value : u ≡ unwrap_or (position (is_member c) (take v fs)) v = found ∙ ap (λ o. unwrap_or o v) (ap (get nat_eq m) there ∙ led c) in
-        left ∙ (ap (λ k. Some k) value ∙ sym (led_push fs v c (Class d) is h ∙ (ap (λ b. or_next (position (is_member c) (take v fs)) b v) same ∙ or_next-yes (position (is_member c) (take v fs)) v))))
+          let left : get nat_eq n c ≡ Some u = puts c ∙ rw same refl in
+          let value : u ≡ unwrap_or (position (is_member c) (take v fs)) v = found ∙ ap (λ o. unwrap_or o v) (ap (get nat_eq m) there ∙ led c) in
+          left ∙ (ap (λ k. Some k) value ∙ sym (led_push fs v c (Class d) is h ∙ (ap (λ b. or_next (position (is_member c) (take v fs)) b v) same ∙ or_next-yes (position (is_member c) (take v fs)) v))))
       | inr apart ↦ (let left : get nat_eq n c ≡ get nat_eq m c = puts c ∙ rw apart refl in
-        left ∙ (led c ∙ sym (led_push fs v c (Class d) is h ∙ (ap (λ b. or_next (position (is_member c) (take v fs)) b v) apart ∙ or_next-no (position (is_member c) (take v fs)) v))))
+          left ∙ (led c ∙ sym (led_push fs v c (Class d) is h ∙ (ap (λ b. or_next (position (is_member c) (take v fs)) b v) apart ∙ or_next-no (position (is_member c) (take v fs)) v))))
     ]
 
 pub leader_of_led : {S : Type 0} (m : HashMap ℕ ℕ S) (fs : List Fate) (v d u : ℕ) → IsLed m (take v fs) → fate fs v ≡ Class d → v < length fs → u ≡ unwrap_or (get nat_eq m d) v → u ≡ leader fs v

@@ -4,7 +4,10 @@ pub mod Expanding
 pub mod Fating
 pub mod Gathering
 pub mod Leading
+pub mod Lowering
+pub mod Covering
 pub mod Merging
+pub mod Pairing
 pub mod Naming
 pub mod Placing
 pub mod Planned

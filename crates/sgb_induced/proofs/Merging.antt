@@ -26,11 +26,11 @@ merge_found directed [] s d i is = absurd (let wrong : None ≡ Some i = is in c
 merge_found directed (r ∷ rs) s d i is =
     elim (cases_Bool (same_run directed r s)) [
       | inl same ↦ (let here : Some 0 ≡ Some i = sym (position-cons (has_key directed (key_of directed s)) r rs ∙ rw same refl) ∙ is in
-        let first : i ≡ 0 = cc in
-        rw (same, first) refl)
+          let first : i ≡ 0 = cc in
+          rw (same, first) refl)
       | inr other ↦ (let there : option_map (λ k. suc k) (position (has_key directed (key_of directed s)) rs) ≡ Some i = sym (position-cons (has_key directed (key_of directed s)) r rs ∙ rw other refl) ∙ is in
-        let found = none_is_some (position (has_key directed (key_of directed s)) rs) i there in
-        rw (other, found.1.1) (ap (λ ts. r ∷ ts) (merge_found directed rs s d found.0 found.1.0)))
+          let found = none_is_some (position (has_key directed (key_of directed s)) rs) i there in
+          rw (other, found.1.1) (ap (λ ts. r ∷ ts) (merge_found directed rs s d found.0 found.1.0)))
     ]
 
 -- or it comes last
@@ -41,7 +41,7 @@ merge_new directed (r ∷ rs) s is =
     elim (cases_Bool (same_run directed r s)) [
       | inl same ↦ absurd (let wrong : Some 0 ≡ None = sym (position-cons (has_key directed (key_of directed s)) r rs ∙ rw same refl) ∙ is in cc)
       | inr other ↦ (let there : option_map (λ k. suc k) (position (has_key directed (key_of directed s)) rs) ≡ None = sym (position-cons (has_key directed (key_of directed s)) r rs ∙ rw other refl) ∙ is in
-        rw other (ap (λ ts. r ∷ ts) (merge_new directed rs s (none_is_none (position (has_key directed (key_of directed s)) rs) there))))
+          rw other (ap (λ ts. r ∷ ts) (merge_new directed rs s (none_is_none (position (has_key directed (key_of directed s)) rs) there))))
     ]
 
 -- ---- the map of places
@@ -64,11 +64,11 @@ pub indexed_pushed : {S : Type 0} (directed : Bool) (m n : HashMap Key ℕ S) (r
 indexed_pushed directed m n rs s indexed absent puts =
     λ q. elim (cases_Bool (key_eq (key_of directed s) q)) [
       | inl same ↦ (let there : key_of directed s ≡ q = key_is (key_of directed s).0 (key_of directed s).1 q.0 q.1 same in
-        let none : position (has_key directed q) rs ≡ None = sym (indexed q) ∙ (ap (get key_eq m) (sym there) ∙ absent) in
-        let left : get key_eq n q ≡ Some (length rs) = puts q ∙ rw same refl in
-        left ∙ sym (position_push (has_key directed q) rs s ∙ (ap (λ o. or_next o (has_key directed q s) (length rs)) none ∙ rw same refl)))
+          let none : position (has_key directed q) rs ≡ None = sym (indexed q) ∙ (ap (get key_eq m) (sym there) ∙ absent) in
+          let left : get key_eq n q ≡ Some (length rs) = puts q ∙ rw same refl in
+          left ∙ sym (position_push (has_key directed q) rs s ∙ (ap (λ o. or_next o (has_key directed q s) (length rs)) none ∙ rw same refl)))
       | inr apart ↦ (let left : get key_eq n q ≡ get key_eq m q = puts q ∙ rw apart refl in
-        left ∙ (indexed q ∙ sym (position_push (has_key directed q) rs s ∙ (ap (λ b. or_next (position (has_key directed q) rs) b (length rs)) apart ∙ or_next-no (position (has_key directed q) rs) (length rs)))))
+          left ∙ (indexed q ∙ sym (position_push (has_key directed q) rs s ∙ (ap (λ b. or_next (position (has_key directed q) rs) b (length rs)) apart ∙ or_next-no (position (has_key directed q) rs) (length rs)))))
     ]
 
 pub place_within : (directed : Bool) (rs : List Run) (q : Key) (i : ℕ) (d : Run) → position (has_key directed q) rs ≡ Some i → i < length rs

@@ -63,9 +63,9 @@ digits-le =
     decimal_by_steps (λ j ds. (k : ℕ) → j ≤ k → k < 2 ^ 64 → length ds ≤ length (decimal k))
     (λ j low k h small. omega (arith, decimal_nonempty k small))
     (λ j ds high more k h small.
-      let tenth : j / 10 ≤ k / 10 = omega (arith, h) in
-      let step : length (decimal k) ≡ length (decimal (k / 10)) + 1 = ap length (decimal_step k (omega (arith, high, h)) small) ∙ length-append (decimal (k / 10)) ((48 + k % 10) ∷ []) in
-      omega (arith, step, more (k / 10) tenth (omega (arith, small)), length-append ds ((48 + j % 10) ∷ [])))
+    let tenth : j / 10 ≤ k / 10 = omega (arith, h) in
+    let step : length (decimal k) ≡ length (decimal (k / 10)) + 1 = ap length (decimal_step k (omega (arith, high, h)) small) ∙ length-append (decimal (k / 10)) ((48 + k % 10) ∷ []) in
+    omega (arith, step, more (k / 10) tenth (omega (arith, small)), length-append ds ((48 + j % 10) ∷ [])))
 
 -- so no copy has a longer name than the last
 pub shorter : (label : List ℕ) (j k : ℕ) → j ≤ k → k < 2 ^ 64 → length label ≤ length (copy_name label k) → length (copy_name label j) ≤ length (copy_name label k)
@@ -73,8 +73,8 @@ shorter label j k h small long =
     elim (cases_lt 1 j) [
       | inr first ↦ omega (arith, ap length (first_name label j first), long)
       | inl other ↦ (let named_j : length (copy_name label j) ≡ length (label ++ codes ":") + length (decimal j) = ap length (other_name label j other) ∙ length-append (label ++ codes ":") (decimal j) in
-        let named_k : length (copy_name label k) ≡ length (label ++ codes ":") + length (decimal k) = ap length (other_name label k (omega (arith, other, h))) ∙ length-append (label ++ codes ":") (decimal k) in
-        omega (arith, named_j, named_k, digits-le j (omega (arith, h, small)) k h small))
+          let named_k : length (copy_name label k) ≡ length (label ++ codes ":") + length (decimal k) = ap length (other_name label k (omega (arith, other, h))) ∙ length-append (label ++ codes ":") (decimal k) in
+          omega (arith, named_j, named_k, digits-le j (omega (arith, h, small)) k h small))
     ]
 
 longer_by : (label : List ℕ) (k : ℕ) → length label ≤ length (copy_name label k)
@@ -82,7 +82,7 @@ longer_by label k =
     elim (cases_lt 1 k) [
       | inr first ↦ omega (arith, ap length (first_name label k first))
       | inl other ↦ (let named_k : length (copy_name label k) ≡ length (label ++ codes ":") + length (decimal k) = ap length (other_name label k other) ∙ length-append (label ++ codes ":") (decimal k) in
-        omega (arith, named_k, length-append label (codes ":")))
+          omega (arith, named_k, length-append label (codes ":")))
     ]
 
 pub name_is_text : (label : List ℕ) (j k : ℕ) → IsText label → j ≤ k → k < 2 ^ 32 → length (copy_name label k) ≤ 4095 → IsText (copy_name label j)
@@ -91,7 +91,7 @@ name_is_text label j k text h small fits =
     elim (cases_lt 1 j) [
       | inr first ↦ subst IsText (sym (first_name label j first)) text
       | inl other ↦ (let whole : IsShort ((length label + 1) + 10) (copy_name label j) = subst (IsShort ((length label + 1) + 10)) (sym (other_name label j other)) (IsShort-append (IsShort-append (IsShort-from_text text) (IsShort-byte 58 refl)) (IsShort-decimal j (omega (arith, h, small)))) in
-        text_from_short short (IsShort-exact whole))
+          text_from_short short (IsShort-exact whole))
     ]
 
 -- ---- the copies of one vertex, as a loop makes them

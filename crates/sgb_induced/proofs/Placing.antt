@@ -76,11 +76,11 @@ pub all_within : (fs : List Fate) (n : ℕ) {is : List Image} → is ≡ map (im
 all_within fs n {is} known long =
     λ v. elim (cases_lt v n) [
       | inl below ↦ (let here = known_image fs n v known below in
-        let same : (image_at is v).start + (image_at is v).count ≡ start fs (leader fs v) + count_of (fate fs v) = ap (λ (i : Image). i.start + i.count) here in
-        omega (arith, same, within_one fs v n below long))
+          let same : (image_at is v).start + (image_at is v).count ≡ start fs (leader fs v) + count_of (fate fs v) = ap (λ (i : Image). i.start + i.count) here in
+          omega (arith, same, within_one fs v n below long))
       | inr past ↦ (let none : image_at is v ≡ no_image = get_or-eq_default is no_image (omega (arith, past, ap length known ∙ length-map-range_with_len (image_of fs) 0 n)) in
-        let same : (image_at is v).start + (image_at is v).count ≡ 0 = ap (λ (i : Image). i.start + i.count) none in
-        omega (arith, same))
+          let same : (image_at is v).start + (image_at is v).count ≡ 0 = ap (λ (i : Image). i.start + i.count) none in
+          omega (arith, same))
     ]
 
 -- the leader as it was read, and when there are too many images

@@ -37,9 +37,9 @@ unfolding place_if
 position-cons p x xs =
     elim (cases_Bool (p x)) [
       | inl passes ↦ (let first : position_or_len p (x ∷ xs) ≡ 0 = rw passes refl in
-        (ap (λ k. place_if k (suc (length xs))) first ∙ place_if-zero (length xs)) ∙ sym (ap (λ b. cond b (Some 0) (option_map (λ i. suc i) (position p xs))) passes))
+          (ap (λ k. place_if k (suc (length xs))) first ∙ place_if-zero (length xs)) ∙ sym (ap (λ b. cond b (Some 0) (option_map (λ i. suc i) (position p xs))) passes))
       | inr fails ↦ (let later : position_or_len p (x ∷ xs) ≡ suc (position_or_len p xs) = rw fails (one_more (position_or_len p xs)) in
-        (ap (λ k. place_if k (suc (length xs))) later ∙ place_if-suc (position_or_len p xs) (length xs)) ∙ sym (ap (λ b. cond b (Some 0) (option_map (λ i. suc i) (position p xs))) fails))
+          (ap (λ k. place_if k (suc (length xs))) later ∙ place_if-suc (position_or_len p xs) (length xs)) ∙ sym (ap (λ b. cond b (Some 0) (option_map (λ i. suc i) (position p xs))) fails))
     ]
 
 place_yes : {X : Type 0} (p : X → Bool) (x : X) (xs : List X) → p x ≡ true → position p (x ∷ xs) ≡ Some 0
@@ -81,9 +81,9 @@ first_or_here p (x ∷ xs) zero d h passes = rw passes refl
 first_or_here p (x ∷ xs) (suc w) d h passes =
     elim (cases_Bool (p x)) [
       | inl now ↦ (let left : position_or_len p (x ∷ xs) ≡ 0 = rw now refl in
-        left ∙ sym (ap (λ o. unwrap_or o (suc w)) (place_yes p x (take w xs) now)))
+          left ∙ sym (ap (λ o. unwrap_or o (suc w)) (place_yes p x (take w xs) now)))
       | inr later ↦ (let left : position_or_len p (x ∷ xs) ≡ suc (position_or_len p xs) = rw later (one_more (position_or_len p xs)) in
-        left ∙ (ap (λ i. suc i) (first_or_here p xs w d (omega (arith, h)) passes) ∙ (sym (unwrap-suc (position p (take w xs)) w) ∙ sym (ap (λ o. unwrap_or o (suc w)) (place_no p x (take w xs) later)))))
+          left ∙ (ap (λ i. suc i) (first_or_here p xs w d (omega (arith, h)) passes) ∙ (sym (unwrap-suc (position p (take w xs)) w) ∙ sym (ap (λ o. unwrap_or o (suc w)) (place_no p x (take w xs) later)))))
     ]
 
 pub position-set : {X : Type 0} (p : X → Bool) (xs : List X) (i : ℕ) (y d : X) → p y ≡ p (get_or xs i d) → position p (set xs i y) ≡ position p xs

@@ -21,13 +21,13 @@ loop-v-preserved c =
     let leads = leader_read c.args.fates.now c.loop-v.v c.index-leader.result.now c.in_ok-leaders.ensures (omega arith) c.index-leader.ensures in
     elim c.if-leader-v.branch [
       | then-leader-v+else-count-next+in_ok-push w ↦ record {
-          images = ap (λ (is : Vec Image _). is.items) w.images-is ∙ map_range_push (image_of c.args.fates.now) c.loop-v.v _ c.loop-v.invariant.images w.in_ok-push.ensures.items (leading_image c.args.fates.now c.loop-v.v c.loop-v.next leads w.if-leader-v.true c.loop-v.invariant.next c.count_of-count.ensures);
-          next = w.next-is ∙ count_leading c.args.fates.now c.loop-v.v leads w.if-leader-v.true c.loop-v.invariant.next c.count_of-count.ensures;
-          few = omega (arith, w.next-is, c.loop-v.invariant.few, w.if-count-next.false);
-        }
+        images = ap (λ (is : Vec Image _). is.items) w.images-is ∙ map_range_push (image_of c.args.fates.now) c.loop-v.v _ c.loop-v.invariant.images w.in_ok-push.ensures.items (leading_image c.args.fates.now c.loop-v.v c.loop-v.next leads w.if-leader-v.true c.loop-v.invariant.next c.count_of-count.ensures);
+        next = w.next-is ∙ count_leading c.args.fates.now c.loop-v.v leads w.if-leader-v.true c.loop-v.invariant.next c.count_of-count.ensures;
+        few = omega (arith, w.next-is, c.loop-v.invariant.few, w.if-count-next.false);
+      }
       | else-leader-v+in_ok-push-2 w ↦ record {
-          images = ap (λ (is : Vec Image _). is.items) w.images-is ∙ map_range_push (image_of c.args.fates.now) c.loop-v.v _ c.loop-v.invariant.images w.in_ok-push-2.ensures.items (following_image c.args.fates.now c.loop-v.v (omega arith) c.loop-v.invariant.images leads w.if-leader-v.false (ap (λ (i : Image). i.start) (w.image_at.ensures ∙ ap (λ is. image_at is c.index-leader.result.now) w.deref.ensures.value)));
-          next = w.next-is ∙ count_following c.args.fates.now c.loop-v.v leads w.if-leader-v.false c.loop-v.invariant.next;
-          few = omega (arith, w.next-is, c.loop-v.invariant.few);
-        }
+        images = ap (λ (is : Vec Image _). is.items) w.images-is ∙ map_range_push (image_of c.args.fates.now) c.loop-v.v _ c.loop-v.invariant.images w.in_ok-push-2.ensures.items (following_image c.args.fates.now c.loop-v.v (omega arith) c.loop-v.invariant.images leads w.if-leader-v.false (ap (λ (i : Image). i.start) (w.image_at.ensures ∙ ap (λ is. image_at is c.index-leader.result.now) w.deref.ensures.value)));
+        next = w.next-is ∙ count_following c.args.fates.now c.loop-v.v leads w.if-leader-v.false c.loop-v.invariant.next;
+        few = omega (arith, w.next-is, c.loop-v.invariant.few);
+      }
     ]
