@@ -1,17 +1,15 @@
 -- Lemmas on the insertions of one run, and of two.
-use Rattle.std.proofs.Common.{◌≡◌, ◌≢◌, ◌==◌, ◌+◌, ◌<◌, ◌≤◌, ℕ, ℤ, zero, suc, List, [], ◌∷◌, ◌++◌, length, map, min, max, Bool, true, false, not, cond, ◌&&◌, ◌||◌, nat_le, All, inl, inr, refl, sym, ap, ap₂, subst, ◌∙◌, arith}
+use Rattle.std.proofs.Common.{◌≡◌, ◌==◌, ◌+◌, ◌<◌, ◌≤◌, ℕ, zero, suc, List, [], ◌∷◌, ◌++◌, map, Bool, true, false, ◌||◌, All, inl, inr, refl, ap, ◌∙◌, arith}
 use Rattle.std.specs.List.{filter, flat_map, list_any, range_with_len}
-use Rattle.std.proofs.lemmas.Bool.{cases_Bool, cases_eq, eqb-true, eq-eqb}
-use Rattle.std.proofs.lemmas.List.Elements.{All-cons, All-filter, All-head, All-map, All-nil, All-tail}
+use Rattle.std.proofs.lemmas.Bool.{cases_Bool, cases_eq}
+use Rattle.std.proofs.lemmas.List.Elements.{All-cons, All-head, All-map, All-nil, All-tail}
 use Rattle.sgb_graph.specs.Builder.{Insertion, insertion}
 use Rattle.sgb_plan.specs.Distinct.{Distinct}
 use Rattle.sgb_plan.proofs.Distincts.{All-flat_map, Distinct-filter, Distinct-flat_map_range, Distinct-map, Distinct-range_with_len}
 use Rattle.sgb_induced.specs.declared.image.Image.{Image}
 use Rattle.sgb_induced.specs.declared.run.Run.{Run}
 use Rattle.sgb_induced.specs.Induced.{is_wanted}
-use Rattle.sgb_induced.specs.Least.{first_end, last_end, same_ends}
-use Rattle.sgb_induced.specs.Private.Run.{between, expanded, from_one, image_at, key_eq, key_of, numbers, same_run}
-use Rattle.sgb_induced.proofs.Lowering.{Joined, joined_from, same_from}
+use Rattle.sgb_induced.specs.Private.Run.{between, expanded, from_one, image_at, numbers}
 
 -- a number of an image
 pub record In (i : Image) (x : ℕ) : Type 0 where

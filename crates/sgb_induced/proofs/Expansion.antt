@@ -1,11 +1,10 @@
 -- Lemmas on the insertions between images: those of runs that are merged first are the ones that are asked for.
-use Rattle.std.proofs.Common.{◌≡◌, ◌==◌, ◌<◌, ◌≤◌, ◌+◌, ℕ, ℤ, zero, suc, List, [], ◌∷◌, ◌++◌, Bool, true, false, not, ◌&&◌, length, map, get_or, All, inl, inr, refl, sym, ap, ap₂, ◌∙◌, arith, append_assoc}
+use Rattle.std.proofs.Common.{◌≡◌, ◌==◌, ◌<◌, ◌≤◌, ◌+◌, ℕ, ℤ, zero, suc, List, [], ◌∷◌, ◌++◌, Bool, true, false, length, map, All, inl, inr, refl, sym, ap, ap₂, ◌∙◌, arith}
 use Rattle.std.specs.List.{filter, flat_map, range_with_len}
 use Rattle.std.proofs.Math.ListN.{get_or-eq_default}
-use Rattle.std.proofs.lemmas.Bool.{cases_Bool, cases_lt, cases_order, eqb-true, eq-eqb}
+use Rattle.std.proofs.lemmas.Bool.{cases_Bool, cases_lt, cases_order, eqb-true}
 use Rattle.std.proofs.lemmas.Grind.{flat_map-append}
-use Rattle.std.proofs.lemmas.List.{append-nil}
-use Rattle.std.proofs.lemmas.List.Elements.{All-cons, All-nil, All-map}
+use Rattle.std.proofs.lemmas.List.Elements.{All-cons, All-nil}
 use Rattle.std.proofs.lemmas.List.FromFn.{length-map-range_with_len}
 use Rattle.sgb_graph.specs.Builder.{Insertion, insertion}
 use Rattle.sgb_graph.specs.Graph.{GraphOf, n_of}
@@ -15,12 +14,11 @@ use Rattle.sgb_plan.proofs.Distincts.{All-flat_map}
 use Rattle.sgb_induced.specs.declared.fate.Fate.{Fate}
 use Rattle.sgb_induced.specs.declared.fate.Fate.TheVariants.{Copies}
 use Rattle.sgb_induced.specs.declared.image.Image.{Image}
-use Rattle.sgb_induced.specs.declared.run.Run.{Run}
 use Rattle.sgb_induced.specs.Image.{count_of, fate, images, leader, made_at, start}
 use Rattle.sgb_induced.specs.Induced as public
 use Rattle.sgb_induced.specs.Induced.{asked, asked_at, insertions, is_met, is_wanted}
 use Rattle.sgb_induced.specs.Least.{least}
-use Rattle.sgb_induced.specs.Private.Run.{all_runs, between, expanded, from_one, image_at, image_of, is_run, merged, no_image, numbers, run_at, runs_at, runs_of}
+use Rattle.sgb_induced.specs.Private.Run.{all_runs, between, expanded, image_at, image_of, is_run, no_image, numbers, run_at, runs_at, runs_of}
 use Rattle.sgb_induced.proofs.Covering.{Apart, In}
 use Rattle.sgb_induced.proofs.Leading.{fate_of_leader, leader-le, leader_of_leader}
 use Rattle.sgb_induced.proofs.Naming.{made_leading}

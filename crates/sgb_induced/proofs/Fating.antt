@@ -1,5 +1,5 @@
 -- Lemmas on what becomes of the vertices of a graph, as a loop reads it.
-use Rattle.std.proofs.Common.{◌≡◌, ◌<◌, ◌+◌, ℕ, List, [], ◌∷◌, ◌++◌, get_or, length, map, Option, Some, None, is_some, unwrap_or, true, false, refl, sym, ap, ◌∙◌, arith}
+use Rattle.std.proofs.Common.{◌≡◌, ◌<◌, ◌+◌, ℕ, List, [], ◌∷◌, ◌++◌, get_or, length, map, Option, Some, None, is_some, unwrap_or, true, false, sym, ap, ◌∙◌, arith}
 use Rattle.std.specs.List.{list_all, range_with_len}
 use Rattle.std.proofs.lemmas.List.{get_or_default}
 use Rattle.std.proofs.lemmas.List.Elements.{All-get_or}
@@ -9,8 +9,8 @@ use Rattle.sgb_graph.specs.declared.field.Util.TheVariants.{Zero}
 use Rattle.sgb_graph.specs.Graph.{GraphOf, IsGraph, IsVertex, n_of, no_vertex, vertex_at}
 use Rattle.sgb_induced.specs.declared.fate.Fate.{Fate}
 use Rattle.sgb_induced.specs.declared.fate.Fate.TheVariants.{Copies}
-use Rattle.sgb_induced.specs.Fate.{fate_of, fate_at, has_fate, have_fates, fates_of, z_of}
-use Rattle.sgb_induced.proofs.Ranges.{all_range_more, all_range_fails}
+use Rattle.sgb_induced.specs.Fate.{fate_of, fate_at, has_fate, z_of}
+use Rattle.sgb_induced.proofs.Ranges.{all_range_fails}
 
 -- the value that was read is that of the field z
 pub z_read : (g : GraphOf) (v : ℕ) (fields : List Util) (d : Util) {place : ℕ} → fields ≡ (vertex_at g v).fields → place ≡ 5 → IsGraph g → v < n_of g → get_or fields place d ≡ z_of g v

@@ -1,5 +1,5 @@
 -- Lemmas on leaders: the vertices in whose place the images of others stand.
-use Rattle.std.proofs.Common.{◌≡◌, ◌==◌, ◌<◌, ◌≤◌, ◌+◌, ℕ, suc, List, [], ◌∷◌, ◌++◌, length, get_or, take, Option, Some, None, unwrap_or, Bool, true, false, cond, nat_eq, inl, inr, refl, sym, ap, subst, ◌∙◌, arith}
+use Rattle.std.proofs.Common.{◌≡◌, ◌==◌, ◌<◌, ◌≤◌, ◌+◌, ℕ, List, length, take, Option, Some, None, unwrap_or, Bool, true, false, cond, nat_eq, inl, inr, refl, sym, ap, ◌∙◌, arith}
 use Rattle.std.specs.HashMap.{HashMap, get}
 use Rattle.std.specs.List.{position, position_or_len}
 use Rattle.std.proofs.lemmas.Bool.{cases_Bool, eqb-true, eq-eqb}
@@ -8,7 +8,7 @@ use Rattle.std.proofs.lemmas.List.Quantifiers.{position-Some}
 use Rattle.std.proofs.lemmas.List.Sums.{passes_at_first}
 use Rattle.sgb_induced.specs.declared.fate.Fate.{Fate}
 use Rattle.sgb_induced.specs.declared.fate.Fate.TheVariants.{Copies, Class}
-use Rattle.sgb_induced.specs.Image.{fate, is_member, leader, leader_by, count_of}
+use Rattle.sgb_induced.specs.Image.{fate, is_member, leader, leader_by}
 use Rattle.sgb_induced.specs.Private.Run.{IsLed}
 use Rattle.sgb_induced.proofs.Positions.{position_push, or_next, first_or_here}
 

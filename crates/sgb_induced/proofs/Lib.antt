@@ -2,6 +2,7 @@ pub mod Ranges
 pub mod Positions
 pub mod Expanding
 pub mod Fating
+pub mod Firsts
 pub mod Gathering
 pub mod Leading
 pub mod Lowering

@@ -1,15 +1,14 @@
 -- Lemmas on insertions of which each pair of ends keeps the first, with the least length.
-use Rattle.std.proofs.Common.{◌≡◌, ◌≢◌, ◌==◌, ◌+◌, ◌<◌, ℕ, ℤ, List, [], ◌∷◌, ◌++◌, length, map, fold, Bool, true, false, not, cond, ◌&&◌, ◌||◌, int_lt, All, inl, inr, refl, sym, ap, ap₂, ◌∙◌, arith, append_assoc}
+use Rattle.std.proofs.Common.{◌≡◌, ◌≢◌, ◌==◌, ℤ, List, [], ◌∷◌, ◌++◌, map, fold, Bool, true, false, not, cond, ◌&&◌, int_lt, All, inl, inr, refl, sym, ap, ap₂, ◌∙◌}
 use Rattle.std.specs.Int.{int_min}
 use Rattle.std.specs.List.{filter, list_any}
 use Rattle.std.proofs.lemmas.Bool.{cases_Bool, eqb-true, eq-eqb}
-use Rattle.std.proofs.lemmas.List.{append-nil}
 use Rattle.std.proofs.lemmas.List.Elements.{All-cons, All-filter, All-head, All-nil, All-tail}
 use Rattle.std.proofs.lemmas.Map.Views.{any-filter_same}
 use Rattle.sgb_graph.specs.Builder.{Insertion, insertion}
 use Rattle.sgb_plan.specs.Distinct.{Distinct}
 use Rattle.sgb_plan.proofs.Distincts.{Distinct-head, Distinct-tail}
-use Rattle.sgb_induced.specs.Least.{add_or_lower, first_end, last_end, least, lowered, same_ends}
+use Rattle.sgb_induced.specs.Least.{add_or_lower, first_end, last_end, lowered, same_ends}
 
 -- ---- ends
 -- two insertions have the same ends
@@ -54,7 +53,7 @@ fold_past d xs ys (e ∷ es) apart =
     ap (λ zs. fold (add_or_lower d) zs es) one ∙ fold_past d xs (add_or_lower d ys e) es (All-tail (λ e. All (λ x. same_ends d x e ≡ false) xs) e es apart)
 
 -- what becomes of the first element, and of the others
-bucket : (d : Bool) (x : Insertion) (ys es : List Insertion) → fold (add_or_lower d) (x ∷ ys) es ≡ fold lowered x (filter (same_ends d x) es) ∷ fold (add_or_lower d) ys (filter (λ e. not (same_ends d x e)) es)
+pub bucket : (d : Bool) (x : Insertion) (ys es : List Insertion) → fold (add_or_lower d) (x ∷ ys) es ≡ fold lowered x (filter (same_ends d x) es) ∷ fold (add_or_lower d) ys (filter (λ e. not (same_ends d x e)) es)
 unfolding add_or_lower
 bucket d x ys [] = refl
 bucket d x ys (e ∷ es) =
@@ -97,7 +96,7 @@ fold_fresh d P (e ∷ es) tell kind distinct =
     ∙ ap (λ zs. e ∷ zs) (fold_fresh d P es tell (All-tail P e es kind) (Distinct-tail e es distinct))
 
 -- ---- insertions that meet all of those before
-min_self : (b : ℤ) (r : Bool) → cond r b b ≡ b
+pub min_self : (b : ℤ) (r : Bool) → cond r b b ≡ b
 min_self b true = refl
 min_self b false = refl
 

@@ -1,5 +1,5 @@
 -- Lemmas on runs that are merged by their ends.
-use Rattle.std.proofs.Common.{◌≡◌, ◌==◌, ◌<◌, ◌≤◌, ◌+◌, ℕ, zero, suc, List, [], ◌∷◌, ◌++◌, length, get_or, take, set, fold, Option, Some, None, Bool, true, false, ◌&&◌, cond, inl, inr, refl, sym, ap, ap₂, ◌∙◌, arith}
+use Rattle.std.proofs.Common.{◌≡◌, ◌==◌, ◌<◌, ◌+◌, ℕ, suc, List, [], ◌∷◌, ◌++◌, length, get_or, take, set, Option, Some, None, Bool, true, false, cond, inl, inr, refl, sym, ap, ap₂, ◌∙◌}
 use Rattle.std.specs.HashMap.{HashMap, get}
 use Rattle.std.specs.List.{position}
 use Rattle.std.specs.Option.{option_map}

@@ -1,6 +1,6 @@
 -- Lemmas on the names of copies, and on loops that make vertices.
-use Rattle.std.proofs.Common.{◌≡◌, ◌<◌, ◌≤◌, ◌+◌, ◌-◌, ◌/◌, ◌%◌, ◌^◌, ◌==◌, ℕ, zero, suc, List, [], ◌∷◌, ◌++◌, get_or, length, map, codes, decimal, Bool, true, false, nat_le, inl, inr, refl, sym, ap, subst, ◌∙◌, arith, length-append}
-use Rattle.std.specs.List.{flat_map, list_all, range_with_len, sum_by}
+use Rattle.std.proofs.Common.{◌≡◌, ◌<◌, ◌≤◌, ◌+◌, ◌-◌, ◌/◌, ◌%◌, ◌^◌, ◌==◌, ℕ, zero, suc, List, [], ◌∷◌, ◌++◌, length, map, codes, decimal, Bool, true, false, nat_le, inl, inr, refl, sym, ap, subst, ◌∙◌, arith, length-append}
+use Rattle.std.specs.List.{flat_map, range_with_len}
 use Rattle.std.proofs.lemmas.Bool.{cases_lt, eq-eqb, ne_eqb, le-leb, lt-leb}
 use Rattle.std.proofs.lemmas.Fmt.{decimal_by_steps, decimal_nonempty, decimal_step}
 use Rattle.std.proofs.lemmas.List.{length-map}
@@ -11,12 +11,12 @@ use Rattle.sgb_graph.specs.Graph.{GraphOf, n_of, label_of}
 use Rattle.sgb_graph.specs.Text.{IsText}
 use Rattle.sgb_plan.specs.Plan.{Named, with_named}
 use Rattle.sgb_plan.specs.Private.Bytes.{IsShort}
-use Rattle.sgb_plan.proofs.Planning.{NamesFrom, NamesLeft, RefusesNames, names_as, names_end, names_from_start, names_refused, names_some, names_start}
+use Rattle.sgb_plan.proofs.Planning.{NamesFrom, NamesLeft, RefusesNames, names_as, names_end, names_from_start, names_refused, names_some}
 use Rattle.sgb_plan.proofs.Shorts.{IsShort-append, IsShort-byte, IsShort-decimal, IsShort-exact, IsShort-from_text, text_from_short}
 use Rattle.sgb_induced.specs.declared.fate.Fate.{Fate}
 use Rattle.sgb_induced.specs.declared.fate.Fate.TheVariants.{Copies, Class}
 use Rattle.sgb_induced.specs.Fate.{fate_at, fates_of}
-use Rattle.sgb_induced.specs.Image.{copy, copy_name, count_of, fate, has_name, have_names, leader, leader_by, made_at, named, named_at, start}
+use Rattle.sgb_induced.specs.Image.{copy, copy_name, count_of, fate, has_name, leader, made_at, named, named_at, start}
 use Rattle.sgb_induced.proofs.Leading.{leader_of_copies}
 use Rattle.sgb_induced.proofs.Ranges.{flat_map_range_more, sum_range_more}
 

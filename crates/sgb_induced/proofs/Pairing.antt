@@ -1,7 +1,7 @@
 -- Lemmas on two runs: their insertions have the same ends exactly where the runs have.
-use Rattle.std.proofs.Common.{◌≡◌, ◌≢◌, ◌==◌, ◌+◌, ◌<◌, ◌≤◌, ◌⊎◌, ℕ, ℤ, List, [], ◌∷◌, ◌++◌, map, min, max, fold, Bool, true, false, not, cond, ◌&&◌, ◌||◌, nat_le, All, inl, inr, refl, sym, ap, ap₂, subst, ◌∙◌, arith}
+use Rattle.std.proofs.Common.{◌≡◌, ◌==◌, ◌≤◌, ◌⊎◌, ℕ, ℤ, List, [], ◌∷◌, ◌++◌, map, min, max, fold, Bool, true, false, not, ◌&&◌, ◌||◌, nat_le, All, inl, inr, refl, sym, ap, ap₂, subst, ◌∙◌, arith}
 use Rattle.std.specs.Int.{int_min}
-use Rattle.std.specs.List.{filter, flat_map, list_any, range_with_len}
+use Rattle.std.specs.List.{filter, flat_map, list_any}
 use Rattle.std.proofs.lemmas.Bool.{cases_Bool, cases_eq, eqb-true, eq-eqb, ne_eqb, leb-true}
 use Rattle.std.proofs.lemmas.List.{append-nil, map-append}
 use Rattle.std.proofs.lemmas.List.Elements.{All-cons, All-head, All-nil, All-tail}
@@ -10,8 +10,8 @@ use Rattle.sgb_graph.specs.Builder.{Insertion, insertion}
 use Rattle.sgb_induced.specs.declared.image.Image.{Image}
 use Rattle.sgb_induced.specs.declared.run.Run.{Run}
 use Rattle.sgb_induced.specs.Induced.{is_wanted}
-use Rattle.sgb_induced.specs.Least.{add_or_lower, first_end, last_end, least, same_ends}
-use Rattle.sgb_induced.specs.Private.Run.{between, expanded, from_one, image_at, key_eq, key_of, lowered_run, merge, merged, numbers, same_run}
+use Rattle.sgb_induced.specs.Least.{add_or_lower, least, same_ends}
+use Rattle.sgb_induced.specs.Private.Run.{between, expanded, from_one, image_at, key_of, lowered_run, merge, merged, numbers, same_run}
 use Rattle.sgb_induced.proofs.Covering.{Apart, In, Made, distinct_all, found, made_all}
 use Rattle.sgb_induced.proofs.Lowering.{Joined, fold_fresh, fold_met, fold_past, joined_from, same_from, with_least}
 

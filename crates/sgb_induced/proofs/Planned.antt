@@ -1,5 +1,5 @@
 -- Lemmas on the plan of an induced graph: its refusals, and what is made of it.
-use Rattle.std.proofs.Common.{◌≡◌, ◌<◌, ◌≤◌, ℕ, List, [], length, map, Option, Some, None, Ok, Err, true, false, nat_le, ◌⊎◌, inl, inr, refl, sym, ap, ap₂, subst, ◌∙◌, arith}
+use Rattle.std.proofs.Common.{◌≡◌, ◌<◌, ◌≤◌, ℕ, List, [], length, map, Option, Some, None, Ok, Err, true, false, ◌⊎◌, inl, inr, refl, sym, ap, ap₂, subst, ◌∙◌, arith}
 use Rattle.std.specs.List.{flat_map, range_with_len}
 use Rattle.std.specs.Option.{option_or}
 use Rattle.std.proofs.lemmas.Bool.{le-leb, lt-leb}
@@ -7,12 +7,11 @@ use Rattle.sgb_graph.specs.declared.builder.Builder.{Builder}
 use Rattle.sgb_graph.specs.declared.refusal.Refusal.{Refusal}
 use Rattle.sgb_graph.specs.declared.refusal.Refusal.TheVariants.{BadSpecs, BadOperand, NoRoom, TooLarge}
 use Rattle.sgb_graph.specs.Edit.{refusal_unless}
-use Rattle.sgb_graph.specs.Graph.{GraphOf, IsGraph, n_of}
+use Rattle.sgb_graph.specs.Graph.{GraphOf, n_of}
 use Rattle.sgb_graph.specs.New.{bare_graph}
-use Rattle.sgb_graph.specs.Builder.{grown, IsTooMany}
 use Rattle.sgb_operand.specs.Operand.{refusal_of_operand}
-use Rattle.sgb_plan.specs.Plan.{IsMade, Plan, with_named}
-use Rattle.sgb_plan.proofs.Planning.{RefusesNames, begun, made, many_vertices, n-with_named, refused_before, refused_insertions, refused_names}
+use Rattle.sgb_plan.specs.Plan.{IsMade, with_named}
+use Rattle.sgb_plan.proofs.Planning.{RefusesNames, begun, many_vertices, n-with_named, refused_before, refused_names}
 use Rattle.sgb_induced.specs.declared.fate.Fate.{Fate}
 use Rattle.sgb_induced.specs.declared.image.Image.{Image}
 use Rattle.sgb_induced.specs.declared.inducing.InducedSpec.{InducedSpec}

@@ -1,5 +1,5 @@
 -- Induced graphs: which vertices they have, and which arcs or edges between them.
-use Rattle.std.specs.Prelude.{◌==◌, ◌||◌, ◌&&◌, ◌∷◌, ◌≤◌, [], ℕ, ℤ, List, length, map, replicate, codes, Option, Some, None, Bool, not, nat_le, Result, Ok, Err, if◌then◌else◌}
+use Rattle.std.specs.Prelude.{◌==◌, ◌||◌, ◌&&◌, ◌∷◌, [], ℕ, ℤ, List, length, map, replicate, codes, Option, Some, None, Bool, not, nat_le, Result, Ok, Err, if◌then◌else◌}
 use Rattle.std.specs.List.{filter, flat_map, range_with_len}
 use Rattle.std.specs.Option.{option_or}
 use Rattle.sgb_graph.specs.declared.refusal.Refusal.{Refusal}

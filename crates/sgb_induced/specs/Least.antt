@@ -1,6 +1,7 @@
 -- Insertions of which each pair of ends keeps the first, with the least length.
-use Rattle.std.specs.Prelude.{◌==◌, ◌&&◌, ℕ, List, [], ◌∷◌, fold, Bool, min, max, if◌then◌else◌}
+use Rattle.std.specs.Prelude.{◌≡◌, ◌==◌, ◌&&◌, not, ℕ, ℤ, List, [], ◌∷◌, map, fold, Bool, min, max, if◌then◌else◌}
 use Rattle.std.specs.Int.{int_min}
+use Rattle.std.specs.List.{filter}
 use Rattle.sgb_graph.specs.Builder.{Insertion, insertion}
 
 -- the vertices that an insertion joins; of an edge the smaller is named first
@@ -25,3 +26,18 @@ add_or_lower directed (e ∷ es) f = if same_ends directed e f then lowered e f 
 -- one insertion for each pair of ends
 abbrev pub least : Bool → List Insertion → List Insertion
 least directed = fold (add_or_lower directed) []
+
+-- what `least` gives, without its steps: each insertion with no earlier one of its ends, with the least length of those
+-- with its ends; so it does not matter in which order lengths come at the same ends
+unfoldable pub firsts : Bool → List Insertion → List Insertion
+firsts directed [] = []
+firsts directed (e ∷ es) = e ∷ filter (λ f. not (same_ends directed e f)) (firsts directed es)
+
+abbrev pub lengths_at : Bool → List Insertion → Insertion → List ℤ
+lengths_at directed es e = map (λ f. f.len) (filter (same_ends directed e) es)
+
+abbrev pub shortest : Bool → List Insertion → Insertion → Insertion
+shortest directed es e = insertion e.from e.to (fold int_min e.len (lengths_at directed es e))
+
+abbrev pub LeastLaw : Bool → Type 0
+LeastLaw directed = (es : List Insertion) → least directed es ≡ map (shortest directed es) (firsts directed es)

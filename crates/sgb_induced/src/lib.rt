@@ -2,6 +2,7 @@
 #![tactic(auto)]
 
 mod expand;
+mod facts;
 mod fate;
 mod gather;
 mod image;
@@ -9,4 +10,5 @@ mod inducing;
 mod name;
 mod run;
 
+pub use facts::least_law;
 pub use inducing::{InducedSpec, induced};

@@ -1,5 +1,5 @@
 -- Images as they are kept, and runs: the insertions from each image of one vertex to each of another.
-use Rattle.std.specs.Prelude.{◌≡◌, ◌≤◌, ◌+◌, ◌==◌, ◌||◌, ◌&&◌, not, ℕ, List, [], ◌∷◌, map, fold, Bool, min, max, nat_eq, nat_le, slice_index_or, if◌then◌else◌}
+use Rattle.std.specs.Prelude.{◌≡◌, ◌≤◌, ◌+◌, ◌==◌, ◌&&◌, not, ℕ, List, [], ◌∷◌, map, fold, Bool, min, max, nat_eq, slice_index_or, if◌then◌else◌}
 use Rattle.std.specs.HashMap.{HashMap, get}
 use Rattle.std.specs.Int.{int_min}
 use Rattle.std.specs.List.{filter, flat_map, position, range_with_len}

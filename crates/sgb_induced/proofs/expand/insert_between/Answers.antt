@@ -1,7 +1,7 @@
-use Rattle.std.proofs.Common.{ap, ◌∙◌, arith}
+use Rattle.std.proofs.Common.{arith}
 use Rattle.std.proofs.lemmas.Result.{err_from_is_err_and}
 use Rattle.sgb_graph.proofs.Inserting.{from_some, from_refused, from_end, from_n}
-use Rattle.sgb_induced.specs.Private.Run.{between, from_one}
+use Rattle.sgb_induced.specs.Private.Run.{between}
 use Rattle.sgb_induced.proofs.Expanding.{begin_at}
 use Rattle.sgb_induced.proofs.expand.insert_between.Goals as goal
 

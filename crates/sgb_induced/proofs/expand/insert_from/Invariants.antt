@@ -1,4 +1,3 @@
-use Rattle.std.proofs.Common.{◌==◌}
 use Rattle.sgb_graph.specs.Builder.{insertion}
 use Rattle.sgb_graph.proofs.Inserting.{LeftFrom}
 use Rattle.sgb_induced.specs.Induced.{is_wanted}

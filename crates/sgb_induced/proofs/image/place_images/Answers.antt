@@ -1,7 +1,7 @@
 use Rattle.std.proofs.Common.{Vec, length, ap, inr, refl, ◌∙◌, arith}
-use Rattle.std.proofs.lemmas.List.FromFn.{length-map-range_with_len, get_or-map-range_with_len}
+use Rattle.std.proofs.lemmas.List.FromFn.{length-map-range_with_len}
 use Rattle.sgb_induced.specs.declared.image.Image.{Image}
-use Rattle.sgb_induced.specs.Image.{leader, start}
+use Rattle.sgb_induced.specs.Image.{leader}
 use Rattle.sgb_induced.specs.Private.Run.{image_at, image_of}
 use Rattle.sgb_induced.proofs.Fating.{map_range_push}
 use Rattle.sgb_induced.proofs.Placing.{count_following, count_leading, following_image, leader_read, leading_image, too_many}

@@ -1,15 +1,11 @@
-use Rattle.std.proofs.Common.{◌≡◌, length, map, sym, ap, subst, ◌∙◌, arith}
+use Rattle.std.proofs.Common.{◌≡◌, map, sym, ap, subst, ◌∙◌, arith}
 use Rattle.std.specs.List.{range_with_len}
 use Rattle.std.proofs.lemmas.Result.{err_from_is_err_and}
-use Rattle.sgb_graph.specs.declared.builder.Builder.{Builder}
 use Rattle.sgb_graph.specs.Builder.{grown}
 use Rattle.sgb_graph.specs.Graph.{IsGraph, n_of}
-use Rattle.sgb_plan.specs.Plan.{Plan}
 use Rattle.sgb_plan.proofs.Planning.{begun, made, refused_insertions}
 use Rattle.sgb_graph.proofs.Inserting.{RefusesInsertions}
-use Rattle.sgb_induced.specs.declared.image.Image.{Image}
 use Rattle.sgb_induced.specs.Fate.{fates_of}
-use Rattle.sgb_induced.specs.Image.{have_names}
 use Rattle.sgb_induced.specs.Induced.{induced_plan}
 use Rattle.sgb_induced.specs.Private.Run.{image_of, runs_of}
 use Rattle.sgb_induced.proofs.Naming.{long_enough}

@@ -1,7 +1,7 @@
 use Rattle.std.proofs.Common.{length, sym, ap, ◌∙◌, arith}
 use Rattle.std.proofs.lemmas.Result.{err_from_is_err_and}
 use Rattle.sgb_induced.specs.Image.{have_names}
-use Rattle.sgb_induced.proofs.Planned.{accepted, refused_fates, refused_long, refused_long_names, refused_operand}
+use Rattle.sgb_induced.proofs.Planned.{refused_fates, refused_long, refused_long_names, refused_operand}
 use Rattle.sgb_induced.proofs.inducing.induced.Goals as goal
 
 pub returns-then-bytes-gt40 : goal.returns-then-bytes-gt40

@@ -1,5 +1,4 @@
-use Rattle.std.proofs.Common.{sym, ap, ◌∙◌, arith}
-use Rattle.sgb_induced.specs.Private.Run.{merge, merged}
+use Rattle.std.proofs.Common.{◌∙◌, arith}
 use Rattle.sgb_induced.proofs.Expanding.{no_run}
 use Rattle.sgb_induced.proofs.Merging.{merged_more}
 use Rattle.sgb_induced.proofs.run.merge_runs.Goals as goal
