@@ -8,6 +8,8 @@ mod copies;
 #[cfg(test)]
 mod edits;
 #[cfg(test)]
+mod growths;
+#[cfg(test)]
 mod laws;
 #[cfg(test)]
 mod looks;
