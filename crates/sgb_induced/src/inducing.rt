@@ -74,6 +74,7 @@ fn build_induced(
     let mut builder = Builder::new(alloc, id, Types::none(), spec.directed);
     name_vertices(&mut builder, alloc, graph, &images)?;
     let runs = gather_runs(alloc, graph, &images, spec.multi, spec.directed)?;
+    builder.reserve(runs.len())?;
     insert_runs(&mut builder, &images, &runs, spec.loops, spec.directed)?;
     Ok(builder.finish())
 }

@@ -34,13 +34,13 @@ pub insert_runs-requires-clause-within : goal.insert_runs-requires-clause-within
 unfolding induced_plan
 insert_runs-requires-clause-within c =
     let begun_so : c.new-builder.result ≡ begun (induced_plan c.args.graph.now c.args.spec.now) = begins c.args.graph.now c.args.spec.now c.new-builder.ensures c.in_ok-id.ensures.value c.none.ensures.value in
-    within_all c.args.graph.now (c.deref-3.ensures.value ∙ known_all c.args.graph.now c.requires.fates c.in_ok-images.ensures.value) (n-named_all c.args.graph.now c.args.spec.now begun_so c.in_ok-name_vertices.ensures)
+    within_all c.args.graph.now (c.deref-3.ensures.value ∙ known_all c.args.graph.now c.requires.fates c.in_ok-images.ensures.value) (n-named_all c.args.graph.now c.args.spec.now begun_so (c.reserve.ensures.same ∙ c.in_ok-name_vertices.ensures))
 
 pub insert_runs-requires-clause-few : goal.insert_runs-requires-clause-few
 unfolding induced_plan
 insert_runs-requires-clause-few c =
     let begun_so : c.new-builder.result ≡ begun (induced_plan c.args.graph.now c.args.spec.now) = begins c.args.graph.now c.args.spec.now c.new-builder.ensures c.in_ok-id.ensures.value c.none.ensures.value in
-    omega (arith, n-named_all c.args.graph.now c.args.spec.now begun_so c.in_ok-name_vertices.ensures, few_all c.args.graph.now c.requires.fates c.in_ok-images.ensures.few)
+    omega (arith, n-named_all c.args.graph.now c.args.spec.now begun_so (c.reserve.ensures.same ∙ c.in_ok-name_vertices.ensures), few_all c.args.graph.now c.requires.fates c.in_ok-images.ensures.few)
 
 pub returns-in_err-insert_runs : goal.returns-in_err-insert_runs
 unfolding induced_plan
@@ -49,7 +49,7 @@ returns-in_err-insert_runs c =
     let begun_so : c.new-builder.result ≡ begun (induced_plan c.args.graph.now c.args.spec.now) = begins c.args.graph.now c.args.spec.now c.new-builder.ensures c.in_ok-id.ensures.value c.none.ensures.value in
     let known : c.deref-3.result.now ≡ map (image_of (fates_of c.args.graph.now)) (range_with_len 0 (n_of c.args.graph.now)) = c.deref-3.ensures.value ∙ known_all c.args.graph.now c.requires.fates c.in_ok-images.ensures.value in
     let same = inserted_all c.args.graph.now c.args.spec.now known (c.deref-4.ensures.value ∙ (c.in_ok-runs.ensures ∙ ap (runs_of c.args.spec.now.multi c.args.spec.now.directed c.args.graph.now) (c.deref-2.ensures.value ∙ sym c.deref-3.ensures.value))) in
-    rw (p.1, p.2) (refused_insertions (induced_plan c.args.graph.now c.args.spec.now) (named_all c.args.graph.now c.args.spec.now begun_so c.in_ok-name_vertices.ensures) (subst (λ es. RefusesInsertions c.name_vertices.new.builder es c.in_err-insert_runs.field-0.0) same c.in_err-insert_runs.ensures))
+    rw (p.1, p.2) (refused_insertions (induced_plan c.args.graph.now c.args.spec.now) (named_all c.args.graph.now c.args.spec.now begun_so (c.reserve.ensures.same ∙ c.in_ok-name_vertices.ensures)) (subst (λ es. RefusesInsertions c.reserve.new.self es c.in_err-insert_runs.field-0.0) same c.in_err-insert_runs.ensures))
 
 pub returns : goal.returns
 unfolding induced_plan
@@ -57,4 +57,4 @@ returns c =
     let begun_so : c.new-builder.result ≡ begun (induced_plan c.args.graph.now c.args.spec.now) = begins c.args.graph.now c.args.spec.now c.new-builder.ensures c.in_ok-id.ensures.value c.none.ensures.value in
     let known : c.deref-3.result.now ≡ map (image_of (fates_of c.args.graph.now)) (range_with_len 0 (n_of c.args.graph.now)) = c.deref-3.ensures.value ∙ known_all c.args.graph.now c.requires.fates c.in_ok-images.ensures.value in
     let same = inserted_all c.args.graph.now c.args.spec.now known (c.deref-4.ensures.value ∙ (c.in_ok-runs.ensures ∙ ap (runs_of c.args.spec.now.multi c.args.spec.now.directed c.args.graph.now) (c.deref-2.ensures.value ∙ sym c.deref-3.ensures.value))) in
-    rw c.finish.ensures.value (made (induced_plan c.args.graph.now c.args.spec.now) (named_all c.args.graph.now c.args.spec.now begun_so c.in_ok-name_vertices.ensures) (c.in_ok-insert_runs.ensures ∙ ap (grown c.name_vertices.new.builder) same) (subst IsGraph c.finish.ensures.value c.finish.ensures.sound))
+    rw c.finish.ensures.value (made (induced_plan c.args.graph.now c.args.spec.now) (named_all c.args.graph.now c.args.spec.now begun_so (c.reserve.ensures.same ∙ c.in_ok-name_vertices.ensures)) (c.in_ok-insert_runs.ensures ∙ ap (grown c.reserve.new.self) same) (subst IsGraph c.finish.ensures.value c.finish.ensures.sound))
