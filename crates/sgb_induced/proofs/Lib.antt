@@ -1,0 +1,15 @@
+pub mod Ranges
+pub mod Positions
+pub mod Expanding
+pub mod Fating
+pub mod Firsts
+pub mod Gathering
+pub mod Leading
+pub mod Lowering
+pub mod Covering
+pub mod Merging
+pub mod Pairing
+pub mod Naming
+pub mod Placing
+pub mod Planned
+pub mod Expansion

@@ -1,0 +1,5 @@
+use Rattle.sgb_induced.proofs.Firsts.{least_is}
+use Rattle.sgb_induced.proofs.facts.least_law.Goals as goal
+
+pub returns : goal.returns
+returns c = least_is

@@ -1,0 +1,77 @@
+-- Induced graphs: which vertices they have, and which arcs or edges between them.
+use Rattle.std.specs.Prelude.{◌==◌, ◌||◌, ◌&&◌, ◌∷◌, [], ℕ, ℤ, List, length, map, replicate, codes, Option, Some, None, Bool, not, nat_le, Result, Ok, Err, if◌then◌else◌}
+use Rattle.std.specs.List.{filter, flat_map, range_with_len}
+use Rattle.std.specs.Option.{option_or}
+use Rattle.sgb_graph.specs.declared.refusal.Refusal.{Refusal}
+use Rattle.sgb_graph.specs.declared.refusal.Refusal.TheVariants.{BadSpecs, BadOperand}
+use Rattle.sgb_graph.specs.Builder.{Insertion, insertion}
+use Rattle.sgb_graph.specs.Edit.{refusal_unless}
+use Rattle.sgb_graph.specs.Graph.{GraphOf, n_of}
+use Rattle.sgb_operand.specs.declared.spoke.Spoke.{Spoke}
+use Rattle.sgb_operand.specs.Operand.{refusal_of_operand, spokes}
+use Rattle.sgb_plan.specs.declared.part.Part.TheVariants.{Flag, Word}
+use Rattle.sgb_plan.specs.Id.{id_of_one, part_text}
+use Rattle.sgb_plan.specs.Plan.{Plan}
+use Rattle.sgb_induced.specs.declared.fate.Fate.{Fate}
+use Rattle.sgb_induced.specs.declared.inducing.InducedSpec.{InducedSpec}
+use Rattle.sgb_induced.specs.Fate.{fates_of, have_fates}
+use Rattle.sgb_induced.specs.Image.{images, leader, named, have_names}
+use Rattle.sgb_induced.specs.Least.{least}
+
+-- without a direction only the spokes of v that lead to v or to a later vertex count
+abbrev pub is_met : Bool → ℕ → Spoke → Bool
+is_met directed v s = directed || nat_le v s.to
+
+-- an insertion from x to y is made: from a vertex to itself only with loops, and an edge among the images of one
+-- vertex only from the earlier to the later
+abbrev pub is_wanted : Bool → Bool → Bool → ℕ → ℕ → Bool
+is_wanted loops directed alone x y = (loops || not (x == y)) && (directed || (not alone || nat_le x y))
+
+-- from each image of v to each image of w
+unfoldable pub between : Bool → Bool → List Fate → ℕ → ℕ → ℤ → List Insertion
+between loops directed fs v w len =
+    let alone = leader fs v == leader fs w in
+    flat_map (λ x. map (λ y. insertion x y len) (filter (is_wanted loops directed alone x) (images fs w))) (images fs v)
+
+-- those that the spokes of v ask for, in their order
+unfoldable pub asked_at : GraphOf → List Fate → Bool → Bool → ℕ → List Insertion
+asked_at g fs loops directed v =
+    flat_map (λ s. between loops directed fs v s.to s.len) (filter (is_met directed v) (spokes directed g v))
+
+abbrev pub asked : GraphOf → List Fate → Bool → Bool → List Insertion
+asked g fs loops directed = flat_map (asked_at g fs loops directed) (range_with_len 0 (n_of g))
+
+-- all of them with multi; else one for each pair of vertices
+unfoldable pub insertions : GraphOf → List Fate → Bool → Bool → Bool → List Insertion
+insertions g fs loops multi directed =
+    if multi then asked g fs loops directed else least directed (asked g fs loops directed)
+
+-- the words of the heading behind the graph's id
+abbrev pub words : InducedSpec → List (List ℕ)
+words spec =
+    map part_text (Word spec.description ∷ Flag spec.loops ∷ Flag spec.multi ∷ Flag spec.directed ∷ [])
+
+unfoldable pub induced_plan : GraphOf → InducedSpec → Plan
+induced_plan g spec = record {
+  id = id_of_one (codes "induced") g.id (words spec);
+  types = replicate 14 90;
+  vertices = named g (fates_of g);
+  directed = spec.directed;
+  insertions = insertions g (fates_of g) spec.loops spec.multi spec.directed;
+}
+
+-- the first refusal before the plan: a long description; an arc that leads to no vertex; a field z that does not say
+-- what becomes of its vertex; the name of a copy that is too long
+abbrev pub refusal_of_induced : GraphOf → InducedSpec → Option Refusal
+refusal_of_induced g spec =
+    refusal_unless (nat_le (length spec.description.now) 40) BadSpecs
+    (option_or (refusal_of_operand g)
+    (refusal_unless (have_fates g) BadOperand
+    (refusal_unless (have_names g (fates_of g)) BadOperand None)))
+
+abbrev pub plan_unless : Option Refusal → Plan → Result Plan Refusal
+plan_unless None p = Ok p
+plan_unless (Some e) p = Err e
+
+abbrev pub plan_of_induced : GraphOf → InducedSpec → Result Plan Refusal
+plan_of_induced g spec = plan_unless (refusal_of_induced g spec) (induced_plan g spec)

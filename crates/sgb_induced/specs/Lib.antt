@@ -1,0 +1,5 @@
+pub mod Fate
+pub mod Image
+pub mod Induced
+pub mod Least
+pub mod Private
