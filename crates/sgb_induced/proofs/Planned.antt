@@ -10,7 +10,7 @@ use Rattle.sgb_graph.specs.Edit.{refusal_unless}
 use Rattle.sgb_graph.specs.Graph.{GraphOf, n_of}
 use Rattle.sgb_graph.specs.New.{bare_graph}
 use Rattle.sgb_operand.specs.Operand.{refusal_of_operand}
-use Rattle.sgb_plan.specs.Plan.{IsMade, with_named}
+use Rattle.sgb_plan.specs.Plan.{IsMade, with_named, plan_unless}
 use Rattle.sgb_plan.proofs.Planning.{RefusesNames, begun, many_vertices, n-with_named, refused_before, refused_names}
 use Rattle.sgb_induced.specs.declared.fate.Fate.{Fate}
 use Rattle.sgb_induced.specs.declared.image.Image.{Image}
@@ -18,7 +18,7 @@ use Rattle.sgb_induced.specs.declared.inducing.InducedSpec.{InducedSpec}
 use Rattle.sgb_induced.specs.declared.run.Run.{Run}
 use Rattle.sgb_induced.specs.Fate.{fates_of, have_fates}
 use Rattle.sgb_induced.specs.Image.{have_names, named, start}
-use Rattle.sgb_induced.specs.Induced.{induced_plan, plan_of_induced, plan_unless, refusal_of_induced}
+use Rattle.sgb_induced.specs.Induced.{induced_plan, plan_of_induced, refusal_of_induced}
 use Rattle.sgb_induced.specs.Private.Run.{AreWithin, expanded, image_of, runs_of}
 use Rattle.sgb_induced.proofs.Expansion.{expanded_all}
 use Rattle.sgb_induced.proofs.Naming.{length-named, long_enough}

@@ -1,5 +1,5 @@
 -- Induced graphs: which vertices they have, and which arcs or edges between them.
-use Rattle.std.specs.Prelude.{◌==◌, ◌||◌, ◌&&◌, ◌∷◌, [], ℕ, ℤ, List, length, map, replicate, codes, Option, Some, None, Bool, not, nat_le, Result, Ok, Err, if◌then◌else◌}
+use Rattle.std.specs.Prelude.{◌==◌, ◌||◌, ◌&&◌, ◌∷◌, [], ℕ, ℤ, List, length, map, codes, Option, None, Bool, not, nat_le, Result, if◌then◌else◌}
 use Rattle.std.specs.List.{filter, flat_map, range_with_len}
 use Rattle.std.specs.Option.{option_or}
 use Rattle.sgb_graph.specs.declared.refusal.Refusal.{Refusal}
@@ -11,7 +11,7 @@ use Rattle.sgb_operand.specs.declared.spoke.Spoke.{Spoke}
 use Rattle.sgb_operand.specs.Operand.{refusal_of_operand, spokes}
 use Rattle.sgb_plan.specs.declared.part.Part.TheVariants.{Flag, Word}
 use Rattle.sgb_plan.specs.Id.{id_of_one, part_text}
-use Rattle.sgb_plan.specs.Plan.{Plan}
+use Rattle.sgb_plan.specs.Plan.{Plan, no_letters, plan_unless}
 use Rattle.sgb_induced.specs.declared.fate.Fate.{Fate}
 use Rattle.sgb_induced.specs.declared.inducing.InducedSpec.{InducedSpec}
 use Rattle.sgb_induced.specs.Fate.{fates_of, have_fates}
@@ -54,7 +54,7 @@ words spec =
 unfoldable pub induced_plan : GraphOf → InducedSpec → Plan
 induced_plan g spec = record {
   id = id_of_one (codes "induced") g.id (words spec);
-  types = replicate 14 90;
+  types = no_letters;
   vertices = named g (fates_of g);
   directed = spec.directed;
   insertions = insertions g (fates_of g) spec.loops spec.multi spec.directed;
@@ -68,10 +68,6 @@ refusal_of_induced g spec =
     (option_or (refusal_of_operand g)
     (refusal_unless (have_fates g) BadOperand
     (refusal_unless (have_names g (fates_of g)) BadOperand None)))
-
-abbrev pub plan_unless : Option Refusal → Plan → Result Plan Refusal
-plan_unless None p = Ok p
-plan_unless (Some e) p = Err e
 
 abbrev pub plan_of_induced : GraphOf → InducedSpec → Result Plan Refusal
 plan_of_induced g spec = plan_unless (refusal_of_induced g spec) (induced_plan g spec)
