@@ -1,0 +1,13 @@
+-- Spokes to distinct vertices, and where the one to a vertex stands.
+use Rattle.std.specs.Prelude.{◌≡◌, ◌≢◌, ◌<◌, ℕ, List, length, All, Option, Some, None, slice_index_or}
+use Rattle.sgb_operand.specs.declared.spoke.Spoke.{Spoke}
+
+-- for each spoke its place stands at the number of the vertex to which it leads
+pub record IsMarked (places : List ℕ) (ss : List Spoke) : Type 0 where
+  pub within : (i : ℕ) (d : Spoke) → i < length ss → (slice_index_or ss i d).to < length places
+  pub place : (i : ℕ) (d : Spoke) → i < length ss → slice_index_or places (slice_index_or ss i d).to 0 ≡ i
+
+-- this is the place of the spoke that leads to the vertex, or there is none
+abbrev pub StandsAt : List Spoke → ℕ → Option ℕ → Type 0
+StandsAt ss to (Some i) = (i < length ss) × ((d : Spoke) → (slice_index_or ss i d).to ≡ to)
+StandsAt ss to None = All (λ s. s.to ≢ to) ss
