@@ -1,0 +1,4 @@
+pub mod Beginning
+pub mod Least
+pub mod Reached
+pub mod Unions

@@ -1,4 +1,6 @@
 //! Spokes to distinct vertices, each with the least length that was met.
+ghost use Rattle.std.specs.Prelude.{◌≡◌};
+ghost use Rattle.sgb_combine.specs.Lowest.{lowered};
 ghost use Rattle.sgb_combine.specs.Private.Targets.{IsMarked};
 
 use sgb_operand::Spoke;
@@ -70,7 +72,7 @@ impl Lowest {
     {
         match self.place_of(spoke.to) {
             Some(place) => {
-                self.spokes[place].len = self.spokes[place].len.min(spoke.len);
+                self.spokes[place] = lowered(self.spokes[place], spoke);
                 Ok(())
             }
             None => self.add_new(spoke),
@@ -88,5 +90,16 @@ impl Lowest {
         self.spokes.push(spoke)?;
         self.places[spoke.to as usize] = place;
         Ok(())
+    }
+}
+
+// The spoke, with the other's length where that is less.
+#[inline]
+fn lowered(spoke: Spoke, other: Spoke) -> Spoke
+    ensures { result ≡ lowered spoke other }
+{
+    Spoke {
+        to: spoke.to,
+        len: spoke.len.min(other.len),
     }
 }

@@ -1,12 +1,13 @@
-//! Insertions from one vertex.
-ghost use Rattle.std.specs.Prelude.{◌<◌, All, map};
+//! Spokes that are read and inserted, for one vertex.
+ghost use Rattle.std.specs.Prelude.{◌≡◌, ◌<◌, ◌++◌, ◌∷◌, [], All, map, OnOk};
 ghost use Rattle.sgb_graph.specs.Graph.{n_of};
 ghost use Rattle.sgb_graph.specs.Builder.{Inserts};
-ghost use Rattle.sgb_operand.specs.Operand.{IsWithin};
+ghost use Rattle.sgb_operand.specs.Operand.{IsWithin, spokes};
 ghost use Rattle.sgb_combine.specs.Combined.{along};
 
-use sgb_graph::{Builder, Refusal, VertexNo};
-use sgb_operand::Spoke;
+use sgb_graph::{Builder, Graph, Refusal, VertexNo};
+use sgb_operand::{Spoke, read_spokes};
+use std::alloc::AllocError;
 
 // Inserts an arc or an edge from the vertex for each spoke.
 pub(crate) fn insert_spokes(
@@ -19,7 +20,32 @@ pub(crate) fn insert_spokes(
     ensures { Inserts builder.old builder.new (map (along from.0) spokes.now) result }
 {
     for spoke in spokes {
-        builder.insert(from, VertexNo(spoke.to), spoke.len)?;
+        insert_spoke(builder, from, *spoke)?;
     }
     Ok(())
+}
+
+// Inserts an arc or an edge from the vertex along the spoke.
+#[inline]
+fn insert_spoke(builder: &mut Builder, from: VertexNo, spoke: Spoke) -> Result<(), Refusal>
+    requires from { from.0 < n_of builder.old.graph }
+    requires to { spoke.to < n_of builder.old.graph }
+    ensures { Inserts builder.old builder.new (along from.0 spoke ∷ []) result }
+{
+    builder.insert(from, VertexNo(spoke.to), spoke.len)
+}
+
+// Writes the spokes of a vertex, which the graph may lack, behind those in the buffer.
+pub(crate) fn read_if_there(
+    into: &mut Vec<Spoke>,
+    graph: &Graph,
+    vertex: VertexNo,
+    directed: bool,
+) -> Result<(), AllocError>
+    ensures { OnOk result (into.new.items ≡ into.old.items ++ spokes directed graph.now vertex.0) }
+{
+    if vertex.0 >= graph.n() {
+        return Ok(());
+    }
+    read_spokes(into, graph, vertex, directed)
 }

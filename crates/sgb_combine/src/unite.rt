@@ -1,6 +1,6 @@
 //! Unions.
 ghost use Rattle.std.specs.Prelude.{◌≡◌, ◌<◌, length, map, All, OnOk};
-ghost use Rattle.std.specs.List.{flat_map, range_with_len};
+ghost use Rattle.std.specs.List.{flat_map, filter, range_with_len};
 ghost use Rattle.sgb_graph.specs.Graph.{n_of};
 ghost use Rattle.sgb_graph.specs.Builder.{Inserts};
 ghost use Rattle.sgb_operand.specs.Operand.{IsWithin};
@@ -11,7 +11,7 @@ ghost use Rattle.sgb_combine.specs.Gunion.{candidates, is_candidate, run_of, uni
 use crate::GunionSpec;
 use crate::begin::begin_as;
 use crate::lowest::Lowest;
-use crate::run::insert_spokes;
+use crate::run::{insert_spokes, read_if_there};
 use sgb_graph::{Builder, Graph, Refusal, VertexNo};
 use sgb_operand::{Spoke, check_operand, read_spokes};
 use sgb_plan::{Part, id_of_two};
@@ -29,7 +29,7 @@ pub fn gunion(
     second: &Graph,
     spec: &GunionSpec,
 ) -> Result<Graph, Refusal>
-    ensures made { IsMade (plan_of_gunion first.now second.now spec.now) result }
+    ensures { IsMade (plan_of_gunion first.now second.now spec.now) result }
 {
     check_operand(first)?;
     check_operand(second)?;
@@ -54,20 +54,8 @@ fn insert_unions(
     let mut candidates = Vec::new(alloc);
     let mut lowest = Lowest::new(alloc, first.n())?;
     for v in 0..first.n() {
-        read_candidates(
-            &mut candidates,
-            first,
-            second,
-            VertexNo(v),
-            spec.directed,
-        )?;
-        insert_run(
-            builder,
-            &mut lowest,
-            VertexNo(v),
-            &candidates,
-            spec.multi,
-        )?;
+        read_candidates(&mut candidates, first, second, VertexNo(v), spec.directed)?;
+        insert_run(builder, &mut lowest, VertexNo(v), &candidates, spec.multi)?;
     }
     Ok(())
 }
@@ -81,17 +69,19 @@ fn read_candidates(
     directed: bool,
 ) -> Result<(), AllocError>
     requires { vertex.0 < n_of first.now }
-    ensures ok { OnOk result (into.new.items ≡ candidates directed first.now second.now vertex.0) }
-    ensures within { All (IsWithin (n_of first.now)) (candidates directed first.now second.now vertex.0) }
+    ensures { OnOk result (into.new.items ≡ candidates directed first.now second.now vertex.0) }
 {
     into.clear();
     read_spokes(into, first, vertex, directed)?;
-    if vertex.0 < second.n() {
-        read_spokes(into, second, vertex, directed)?;
-    }
-    let n = first.n();
-    into.retain(|spoke| is_candidate(directed, n, vertex, *spoke));
+    read_if_there(into, second, vertex, directed)?;
+    keep_candidates(into, directed, first.n(), vertex);
     Ok(())
+}
+
+fn keep_candidates(spokes: &mut Vec<Spoke>, directed: bool, n: u32, vertex: VertexNo)
+    ensures { spokes.new.items ≡ filter (is_candidate directed n vertex.0) spokes.old.items }
+{
+    spokes.retain(|spoke| is_candidate(directed, n, vertex, *spoke));
 }
 
 // It leads to one of n vertices, and not below the vertex where edges are made.
