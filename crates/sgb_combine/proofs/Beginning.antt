@@ -1,12 +1,12 @@
 -- How a combination begins and ends: its refusals, its builder, and what it answers.
-use Rattle.std.proofs.Common.{◌≡◌, ℕ, List, [], Option, Some, None, Bool, Ok, Err, inl, inr, refl, sym, ap, ap₂, subst, ◌∙◌, arith}
+use Rattle.std.proofs.Common.{◌≡◌, ℕ, List, Option, Some, None, Bool, Ok, Err, refl, sym, ap, ap₂, subst, ◌∙◌, arith}
 use Rattle.std.proofs.lemmas.List.FromFn.{length-map-range_with_len}
 use Rattle.sgb_graph.specs.declared.builder.Builder.{Builder}
 use Rattle.sgb_graph.specs.declared.refusal.Refusal.{Refusal}
 use Rattle.sgb_graph.specs.Graph.{GraphOf, IsGraph, n_of}
 use Rattle.sgb_graph.specs.Builder.{grown}
 use Rattle.sgb_graph.proofs.Inserting.{RefusesInsertions}
-use Rattle.sgb_plan.specs.Plan.{Plan, Named, IsMade, with_named}
+use Rattle.sgb_plan.specs.Plan.{Plan, IsMade, with_named}
 use Rattle.sgb_plan.proofs.Planning.{begun, n-with_named, RefusesNames, made, refused_before, refused_names, refused_insertions}
 use Rattle.sgb_combine.specs.Combined.{first_refusal, planned, no_letters, named_as, vertices_of}
 use Rattle.sgb_combine.specs.Private.Begin.{bare_builder, Begins}

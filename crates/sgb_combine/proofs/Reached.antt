@@ -1,16 +1,14 @@
 -- Lemmas on the spokes of vertices that a graph may lack, and on those that lead below a number.
-use Rattle.std.proofs.Common.{◌≡◌, ◌<◌, ◌≤◌, ℕ, pos, List, [], ◌++◌, length, get_or, map, Bool, true, false, All, ◌&&◌, nat_lt, refl, sym, ap, subst, ◌∙◌, arith}
-use Rattle.std.specs.List.{filter}
+use Rattle.std.proofs.Common.{◌≡◌, ◌<◌, ◌≤◌, ℕ, pos, List, [], ◌++◌, get_or, map, Bool, true, false, All, sym, ap, subst, ◌∙◌, arith}
 use Rattle.std.proofs.lemmas.Bool.{and_parts, ltb-true}
 use Rattle.std.proofs.lemmas.List.{append-nil}
-use Rattle.std.proofs.lemmas.List.Elements.{filter_passes}
-use Rattle.sgb_graph.specs.Graph.{GraphOf, n_of, arcs_of}
+use Rattle.std.proofs.lemmas.List.Elements.{All-nil, filter_passes}
+use Rattle.sgb_graph.specs.Graph.{GraphOf, n_of}
 use Rattle.sgb_graph.specs.Edit.{entry_at}
 use Rattle.sgb_graph.specs.Paired.{walk, without_halves}
 use Rattle.sgb_graph.proofs.Graphs.{no_arcs_past}
 use Rattle.sgb_operand.specs.declared.spoke.Spoke.{Spoke}
 use Rattle.sgb_operand.specs.Operand.{spokes, spoke_of, IsWithin}
-use Rattle.sgb_combine.specs.Combined.{is_upward}
 use Rattle.sgb_combine.specs.Gunion.{candidates, is_candidate}
 
 -- the spoke at a place, and what stands where none does
@@ -42,3 +40,13 @@ unfolding candidates
 candidates_within directed g h v k d low =
     let all = spokes directed g v ++ spokes directed h v in
     ltb-true _ (n_of g) (and_parts _ _ (filter_passes (is_candidate directed (n_of g) v) all k d low)).0
+
+pub none_within : (directed : Bool) (g : GraphOf) (v : ℕ) → n_of g ≤ v → All (IsWithin (n_of g)) (spokes directed g v)
+none_within directed g v past = subst (All (IsWithin (n_of g))) (sym (spokes_past directed g v past)) (All-nil (IsWithin (n_of g)))
+
+-- a number below the count of a graph that is another's
+pub below_n : {w n : ℕ} {g h : GraphOf} → w < n → n ≡ n_of g → g ≡ h → w < n_of h
+below_n {g = g} low is same = omega (arith, low, is, ap n_of same)
+
+pub past_n : {w n : ℕ} {g h : GraphOf} → n ≤ w → n ≡ n_of g → g ≡ h → n_of h ≤ w
+past_n {g = g} past is same = omega (arith, past, is, ap n_of same)

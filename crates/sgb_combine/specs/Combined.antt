@@ -1,5 +1,5 @@
 -- What all combinations share: their refusals, their vertices and their insertions.
-use Rattle.std.specs.Prelude.{ℕ, List, ◌∷◌, [], map, replicate, codes, Option, Some, None, Bool, ◌||◌, nat_le, Result, Ok, Err, if◌then◌else◌}
+use Rattle.std.specs.Prelude.{ℕ, List, map, replicate, codes, Option, Some, None, Bool, ◌||◌, nat_le, Result, Ok, Err, if◌then◌else◌}
 use Rattle.std.specs.List.{range_with_len}
 use Rattle.sgb_graph.specs.declared.refusal.Refusal.{Refusal}
 use Rattle.sgb_graph.specs.Graph.{GraphOf, n_of, label_of}

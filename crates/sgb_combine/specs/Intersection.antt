@@ -4,25 +4,29 @@ use Rattle.std.specs.List.{flat_map, filter, range_with_len}
 use Rattle.std.specs.Int.{int_max}
 use Rattle.sgb_graph.specs.declared.refusal.Refusal.{Refusal}
 use Rattle.sgb_graph.specs.Graph.{GraphOf, n_of}
-use Rattle.sgb_graph.specs.Builder.{Insertion, insertion}
+use Rattle.sgb_graph.specs.Builder.{Insertion}
 use Rattle.sgb_operand.specs.declared.spoke.Spoke.{Spoke}
 use Rattle.sgb_operand.specs.Operand.{spokes}
 use Rattle.sgb_plan.specs.Id.{id_of_two}
 use Rattle.sgb_plan.specs.Plan.{Plan}
-use Rattle.sgb_combine.specs.Combined.{refusal_of_operands, planned, flag_text, no_letters, vertices_of, is_upward}
+use Rattle.sgb_combine.specs.Combined.{refusal_of_operands, planned, flag_text, no_letters, vertices_of, is_upward, along}
 use Rattle.sgb_combine.specs.Lowest.{lowest}
 
 -- for each vertex to which v is joined, the first and least arc, where edges are not looked at from their larger end
 unfoldable pub firsts : Bool → GraphOf → ℕ → List Spoke
 firsts directed g v = lowest (filter (is_upward directed v) (spokes true g v))
 
--- both lead from v to the same vertex, by the larger of their lengths
-abbrev pub joint : ℕ → Spoke → Spoke → Insertion
-joint v r s = insertion v r.to (int_max r.len s.len)
+-- the spoke, with the other's length where that is more
+abbrev pub longer : Spoke → Spoke → Spoke
+longer r s = record r { len = int_max r.len s.len }
 
--- the spoke with the one of these that leads to the same vertex, if there is one
+-- those of the spokes that lead to w
+abbrev pub leading_to : ℕ → List Spoke → List Spoke
+leading_to w ss = filter (λ s. s.to == w) ss
+
+-- from v along the spoke, where one of these leads to the same vertex, by the larger of the two lengths
 abbrev pub joints : ℕ → List Spoke → Spoke → List Insertion
-joints v ss r = map (joint v r) (filter (λ s. s.to == r.to) ss)
+joints v ss r = map (λ s. along v (longer r s)) (leading_to r.to ss)
 
 unfoldable pub intersection_at : Bool → GraphOf → GraphOf → ℕ → List Insertion
 intersection_at directed g h v = flat_map (joints v (lowest (spokes true h v))) (firsts directed g v)

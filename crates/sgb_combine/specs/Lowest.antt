@@ -1,5 +1,5 @@
 -- Spokes to distinct vertices: of those to the same vertex the first, with the least of their lengths.
-use Rattle.std.specs.Prelude.{ℕ, List, [], ◌∷◌, fold, ◌==◌, if◌then◌else◌}
+use Rattle.std.specs.Prelude.{List, [], ◌∷◌, fold, ◌==◌, if◌then◌else◌}
 use Rattle.std.specs.Int.{int_min}
 use Rattle.sgb_operand.specs.declared.spoke.Spoke.{Spoke}
 

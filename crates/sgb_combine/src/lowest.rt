@@ -19,7 +19,9 @@ impl Lowest {
     ghost use Rattle.std.specs.Prelude.{◌≡◌, ◌<◌, ◌∷◌, ◌++◌, [], length, All, OnOk, IfOk};
     ghost use Rattle.sgb_operand.specs.Operand.{IsWithin};
     ghost use Rattle.sgb_combine.specs.Lowest.{lowest, add_or_lower};
-    ghost use Rattle.sgb_combine.specs.Private.Targets.{StandsAt};
+    ghost use Rattle.sgb_combine.specs.Private.Targets.{StandsAt, found};
+    ghost use Rattle.sgb_combine.specs.Complement.{leads_to};
+    ghost use Rattle.sgb_combine.specs.Intersection.{leading_to};
 
     // No spokes to n vertices.
     pub(crate) fn new(alloc: Global, n: u32) -> Result<Lowest, AllocError>
@@ -61,6 +63,25 @@ impl Lowest {
         let place = *self.places.get(to as usize)?;
         let spoke = self.spokes.get(place)?;
         if spoke.to == to { Some(place) } else { None }
+    }
+
+    // Whether a spoke leads to this vertex.
+    #[inline]
+    pub(crate) fn leads_to(&self, to: u32) -> bool
+        ensures { result ≡ leads_to self.now.spokes.items to }
+    {
+        self.place_of(to).is_some()
+    }
+
+    // The spoke to this vertex.
+    #[inline]
+    pub(crate) fn find(&self, to: u32) -> Option<Spoke>
+        ensures { leading_to to self.now.spokes.items ≡ found result }
+    {
+        match self.place_of(to) {
+            Some(place) => Some(self.spokes[place]),
+            None => None,
+        }
     }
 
     // A spoke more, or a shorter length of the one to the same vertex.

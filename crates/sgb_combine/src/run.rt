@@ -27,7 +27,11 @@ pub(crate) fn insert_spokes(
 
 // Inserts an arc or an edge from the vertex along the spoke.
 #[inline]
-fn insert_spoke(builder: &mut Builder, from: VertexNo, spoke: Spoke) -> Result<(), Refusal>
+pub(crate) fn insert_spoke(
+    builder: &mut Builder,
+    from: VertexNo,
+    spoke: Spoke,
+) -> Result<(), Refusal>
     requires from { from.0 < n_of builder.old.graph }
     requires to { spoke.to < n_of builder.old.graph }
     ensures { Inserts builder.old builder.new (along from.0 spoke ∷ []) result }
@@ -42,7 +46,8 @@ pub(crate) fn read_if_there(
     vertex: VertexNo,
     directed: bool,
 ) -> Result<(), AllocError>
-    ensures { OnOk result (into.new.items ≡ into.old.items ++ spokes directed graph.now vertex.0) }
+    ensures ok { OnOk result (into.new.items ≡ into.old.items ++ spokes directed graph.now vertex.0) }
+    ensures within { All (IsWithin (n_of graph.now)) (spokes directed graph.now vertex.0) }
 {
     if vertex.0 >= graph.n() {
         return Ok(());

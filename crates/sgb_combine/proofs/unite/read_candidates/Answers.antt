@@ -12,7 +12,7 @@ returns c =
     let h = c.args.second.now in
     let v = c.args.vertex.0 in
     let first = c.in_ok-read_spokes.ensures.ok ∙ ap (λ ss. ss ++ spokes d g v) c.clear.ensures.items in
-    let both = c.in_ok-read_if_there.ensures ∙ ap (λ ss. ss ++ spokes d h v) first in
+    let both = c.in_ok-read_if_there.ensures.ok ∙ ap (λ ss. ss ++ spokes d h v) first in
     c.keep_candidates.ensures
     ∙ (ap (λ n. filter (is_candidate d n v) c.read_if_there.new.into.items) c.n.ensures.value
     ∙ candidates_are d g h v c.read_if_there.new.into.items both)

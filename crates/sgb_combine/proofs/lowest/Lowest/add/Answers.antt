@@ -1,7 +1,5 @@
-use Rattle.std.proofs.Common.{◌≡◌, sym, ap, ◌∙◌}
-use Rattle.std.proofs.lemmas.List.{get_or_default}
+use Rattle.std.proofs.Common.{sym, ap, ◌∙◌}
 use Rattle.sgb_operand.specs.declared.spoke.Spoke.{Spoke}
-use Rattle.sgb_combine.specs.Lowest.{lowered}
 use Rattle.sgb_combine.proofs.Least.{added, marked_lowered, marked_set, lowered_is}
 use Rattle.sgb_combine.proofs.lowest.Lowest.add.Goals as goal
 
