@@ -2,7 +2,12 @@ pub mod Beginning
 pub mod Joined
 pub mod Joint
 pub mod Least
+pub mod Named
+pub mod Products
+pub mod Pruning
 pub mod Reached
 pub mod Rising
+pub mod Rowed
 pub mod Unions
+pub mod Upward
 pub mod Wanted

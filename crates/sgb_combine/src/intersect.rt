@@ -1,17 +1,16 @@
 //! Intersections.
 ghost use Rattle.std.specs.Prelude.{◌≡◌, ◌<◌, length, All, OnOk, true};
-ghost use Rattle.std.specs.List.{flat_map, filter, range_with_len};
+ghost use Rattle.std.specs.List.{flat_map, range_with_len};
 ghost use Rattle.sgb_graph.specs.Graph.{n_of};
 ghost use Rattle.sgb_graph.specs.Builder.{Inserts};
 ghost use Rattle.sgb_operand.specs.Operand.{IsWithin, spokes};
 ghost use Rattle.sgb_plan.specs.Plan.{IsMade};
-ghost use Rattle.sgb_combine.specs.Combined.{is_upward};
 ghost use Rattle.sgb_combine.specs.Lowest.{lowest};
 ghost use Rattle.sgb_combine.specs.Intersection.{firsts, longer, joints, intersection_at, plan_of_intersection};
 
 use crate::begin::begin_as;
 use crate::lowest::Lowest;
-use crate::run::{insert_spoke, read_if_there};
+use crate::run::{insert_spoke, keep_upward, read_if_there};
 use sgb_graph::{Builder, Graph, Refusal, VertexNo};
 use sgb_operand::{Spoke, check_operand};
 use sgb_plan::{Part, id_of_two};
@@ -95,12 +94,6 @@ fn read_others(
     buffer.clear();
     read_if_there(buffer, graph, vertex, true)?;
     theirs.keep(buffer)
-}
-
-fn keep_upward(spokes: &mut Vec<Spoke>, directed: bool, vertex: VertexNo)
-    ensures { spokes.new.items ≡ filter (is_upward directed vertex.0) spokes.old.items }
-{
-    spokes.retain(|spoke| directed || vertex.0 <= spoke.to);
 }
 
 fn insert_joints(

@@ -4,12 +4,16 @@
 mod begin;
 mod intersect;
 mod lowest;
+mod multiply;
 mod negate;
+mod pairs;
+mod rows;
 mod run;
 mod spec;
 mod unite;
 
 pub use intersect::intersection;
 pub use negate::complement;
+pub use pairs::product;
 pub use spec::{ComplementSpec, GunionSpec, ProductSpec};
 pub use unite::gunion;

@@ -1,9 +1,10 @@
 //! Spokes that are read and inserted, for one vertex.
 ghost use Rattle.std.specs.Prelude.{◌≡◌, ◌<◌, ◌++◌, ◌∷◌, [], All, map, OnOk};
+ghost use Rattle.std.specs.List.{filter};
 ghost use Rattle.sgb_graph.specs.Graph.{n_of};
 ghost use Rattle.sgb_graph.specs.Builder.{Inserts};
 ghost use Rattle.sgb_operand.specs.Operand.{IsWithin, spokes};
-ghost use Rattle.sgb_combine.specs.Combined.{along};
+ghost use Rattle.sgb_combine.specs.Combined.{along, is_upward};
 
 use sgb_graph::{Builder, Graph, Refusal, VertexNo};
 use sgb_operand::{Spoke, read_spokes};
@@ -53,4 +54,11 @@ pub(crate) fn read_if_there(
         return Ok(());
     }
     read_spokes(into, graph, vertex, directed)
+}
+
+// Drops what leads below the vertex where edges are made.
+pub(crate) fn keep_upward(spokes: &mut Vec<Spoke>, directed: bool, vertex: VertexNo)
+    ensures { spokes.new.items ≡ filter (is_upward directed vertex.0) spokes.old.items }
+{
+    spokes.retain(|spoke| directed || vertex.0 <= spoke.to);
 }
