@@ -1,6 +1,8 @@
 //! Graphs to combine, and questions that promise nothing, so that the proof of a test stays short.
 
-use sgb_combine::{ComplementSpec, GunionSpec, complement, gunion, intersection};
+use sgb_combine::{
+    ComplementSpec, GunionSpec, ProductSpec, complement, gunion, intersection, product,
+};
 use sgb_graph::{
     ArcNo, ArcPart, ArcView, Graph, Items, Label, Parts, Refusal, Text, Tip, Types, Util, VertexNo,
     VertexPart,
@@ -114,6 +116,16 @@ pub fn intersection_of(
     directed: bool,
 ) -> Result<Graph, Refusal> {
     intersection(alloc, first, second, directed)
+}
+
+pub fn product_of(
+    alloc: Global,
+    first: &Graph,
+    second: &Graph,
+    kind: i64,
+    directed: bool,
+) -> Result<Graph, Refusal> {
+    product(alloc, first, second, &ProductSpec { kind, directed })
 }
 
 /// Whether the arcs are these, by their numbers.
