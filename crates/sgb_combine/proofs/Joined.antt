@@ -44,7 +44,7 @@ or_met true b = refl
 or_met false true = refl
 or_met false false = refl
 
-leads-added : (rs : List Spoke) (s : Spoke) (w : ℕ) → leads_to (add_or_lower rs s) w ≡ (leads_to rs w || (s.to == w))
+pub leads-added : (rs : List Spoke) (s : Spoke) (w : ℕ) → leads_to (add_or_lower rs s) w ≡ (leads_to rs w || (s.to == w))
 unfolding add_or_lower
 leads-added [] s w =
     elim (s.to == w) as (λ b. (b || false) ≡ b) [

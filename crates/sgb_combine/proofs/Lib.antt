@@ -1,3 +1,4 @@
+pub mod Apart
 pub mod Beginning
 pub mod Joined
 pub mod Joint

@@ -2,6 +2,7 @@
 #![tactic(auto)]
 
 mod begin;
+mod facts;
 mod intersect;
 mod lowest;
 mod multiply;
@@ -12,6 +13,7 @@ mod run;
 mod spec;
 mod unite;
 
+pub use facts::lowest_law;
 pub use intersect::intersection;
 pub use negate::complement;
 pub use pairs::product;

@@ -1,0 +1,12 @@
+use Rattle.sgb_combine.proofs.Joined.{leads-lowest}
+use Rattle.sgb_combine.proofs.Apart.{once-lowest, least-lowest}
+use Rattle.sgb_combine.proofs.facts.lowest_law.Goals as goal
+
+pub returns-clause-same : goal.returns-clause-same
+returns-clause-same c = leads-lowest
+
+pub returns-clause-once : goal.returns-clause-once
+returns-clause-once c = once-lowest
+
+pub returns-clause-least : goal.returns-clause-least
+returns-clause-least c = least-lowest

@@ -1,0 +1,14 @@
+//! Laws of combinations. Each function does nothing: its clauses are the law.
+ghost use Rattle.std.specs.Prelude.{◌≡◌, ◌≢◌, ℕ, List};
+ghost use Rattle.std.specs.List.{AllPairs};
+ghost use Rattle.sgb_operand.specs.declared.spoke.Spoke.{Spoke};
+ghost use Rattle.sgb_combine.specs.Complement.{leads_to};
+ghost use Rattle.sgb_combine.specs.Lowest.{lowest, least_to};
+
+/// What is made of spokes where each vertex is joined once: they lead to the same vertices, to each once, and by the
+/// least of the lengths.
+pub fn lowest_law()
+    ensures same { (ss : List Spoke) (w : ℕ) → leads_to (lowest ss) w ≡ leads_to ss w }
+    ensures once { (ss : List Spoke) → AllPairs (λ r s. r.to ≢ s.to) (lowest ss) }
+    ensures least { (ss : List Spoke) (w : ℕ) → least_to (lowest ss) w ≡ least_to ss w }
+{}
