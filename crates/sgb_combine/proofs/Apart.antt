@@ -1,15 +1,17 @@
 -- Lemmas on what is made of spokes where each vertex is joined once.
-use Rattle.std.proofs.Common.{◌≡◌, ◌≢◌, ◌==◌, ℕ, ℤ, List, [], ◌∷◌, get_or, Option, Some, None, true, false, ◌||◌, cond, fold, inl, inr, refl, sym, ap, ap₂, ◌∙◌, arith}
+use Rattle.std.proofs.Common.{◌≡◌, ◌≢◌, ◌==◌, ℕ, ℤ, List, [], ◌∷◌, get_or, Option, Some, None, true, false, ◌||◌, cond, fold, inl, inr, refl, sym, ap, ap₂, ◌∙◌, arith, map, ◌++◌}
 use Rattle.std.specs.Int.{int_min}
 use Rattle.std.specs.List.{AllPairs}
 use Rattle.std.proofs.lemmas.Bool.{cases_Bool, eq-eqb, eqb-true, ne_eqb}
 use Rattle.std.proofs.lemmas.Int.{ints, int_min_is}
+use Rattle.std.proofs.lemmas.List.{append-nil}
+use Rattle.std.proofs.lemmas.List.Sums.{fold-append}
 use Rattle.std.proofs.lemmas.List.Folds.{list_any_at}
 use Rattle.std.proofs.lemmas.List.Kept.{AllPairs-cons}
 use Rattle.sgb_operand.specs.declared.spoke.Spoke.{Spoke}
 use Rattle.sgb_combine.specs.Complement.{leads_to}
 use Rattle.sgb_combine.specs.Lowest.{add_or_lower, lowest, lesser, least_to}
-use Rattle.sgb_combine.proofs.Joined.{leads-added}
+use Rattle.sgb_combine.proofs.Joined.{leads-added, leads-lowest}
 
 -- ---- each vertex once
 abbrev Apart : List Spoke → Type 0
@@ -98,3 +100,19 @@ least-fold rs (s ∷ ss) w =
 pub least-lowest : (ss : List Spoke) (w : ℕ) → least_to (lowest ss) w ≡ least_to ss w
 unfolding lowest least_to
 least-lowest ss w = least-fold [] ss w
+
+-- ---- where each vertex stands
+places-added : (rs : List Spoke) (s : Spoke) → map (λ r. r.to) (add_or_lower rs s) ≡ map (λ r. r.to) rs ++ cond (leads_to rs s.to) [] (s.to ∷ [])
+unfolding add_or_lower
+places-added [] s = refl
+places-added (r ∷ rs) s =
+    elim (cases_Bool (r.to == s.to)) [
+      | inl same ↦ rw same (sym (append-nil (r.to ∷ map (λ q. q.to) rs)))
+      | inr other ↦ rw other (ap (λ ns. r.to ∷ ns) (places-added rs s))
+    ]
+
+pub places-lowest : (ss : List Spoke) (s : Spoke) → map (λ r. r.to) (lowest (ss ++ s ∷ [])) ≡ map (λ r. r.to) (lowest ss) ++ cond (leads_to ss s.to) [] (s.to ∷ [])
+unfolding lowest
+places-lowest ss s =
+    ap (map (λ (r : Spoke). r.to)) (fold-append add_or_lower [] ss (s ∷ []))
+    ∙ (places-added (lowest ss) s ∙ ap (λ b. map (λ (r : Spoke). r.to) (lowest ss) ++ cond b [] (s.to ∷ [])) (leads-lowest ss s.to))
