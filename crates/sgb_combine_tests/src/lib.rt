@@ -1,4 +1,4 @@
-//! Tests of complements, unions, intersections and products.
+//! Tests of operands, complements, unions, intersections and products.
 #![tactic(auto)]
 
 #[cfg(test)]
@@ -7,6 +7,8 @@ mod complements;
 mod graphs;
 #[cfg(test)]
 mod intersections;
+#[cfg(test)]
+mod operands;
 #[cfg(test)]
 mod products;
 #[cfg(test)]
