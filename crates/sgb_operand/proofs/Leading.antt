@@ -11,7 +11,8 @@ use Rattle.sgb_graph.specs.Graph.{GraphOf, ArcOf, made_of, arc_at, has_arc}
 use Rattle.sgb_graph.specs.Edit.{owner_of, entry_at, arc_or, no_arc, refusal_unless}
 use Rattle.sgb_graph.proofs.Graphs.{made_of_live}
 use Rattle.sgb_graph.specs.Read.{entry_view, arc_view}
-use Rattle.sgb_operand.specs.Operand.{is_vertex_tip, leads_on, leads_on_view, refusal_of_operand, tip_number}
+use Rattle.sgb_operand.specs.Private.Views.{leads_on_view}
+use Rattle.sgb_operand.specs.Operand.{is_vertex_tip, leads_on, refusal_of_operand, tip_number}
 
 leads_on_shown : (v : ℕ) (o : Option ArcOf) → leads_on_view (entry_view v o) ≡ leads_on o
 leads_on_shown v None = refl

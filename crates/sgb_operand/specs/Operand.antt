@@ -3,7 +3,6 @@ use Rattle.std.specs.Prelude.{◌<◌, ℕ, List, map, Option, Some, None, Bool,
 use Rattle.std.specs.List.{list_all}
 use Rattle.sgb_graph.specs.declared.field.Tip.{Tip}
 use Rattle.sgb_graph.specs.declared.field.Tip.TheVariants.{Zero, One, To}
-use Rattle.sgb_graph.specs.declared.graph.read.ArcView.{ArcView}
 use Rattle.sgb_graph.specs.declared.refusal.Refusal.{Refusal}
 use Rattle.sgb_graph.specs.declared.refusal.Refusal.TheVariants.{BadOperand}
 use Rattle.sgb_graph.specs.Graph.{GraphOf, ArcOf}
@@ -21,11 +20,6 @@ is_vertex_tip (To v) = true
 abbrev pub leads_on : Option ArcOf → Bool
 leads_on None = true
 leads_on (Some e) = is_vertex_tip e.tip
-
--- the same of an arc as it is read
-abbrev pub leads_on_view : Option ArcView → Bool
-leads_on_view None = true
-leads_on_view (Some a) = is_vertex_tip a.tip
 
 -- the first refusal of an operand: an arc leads to no vertex
 abbrev pub refusal_of_operand : GraphOf → Option Refusal

@@ -1,7 +1,8 @@
 //! The refusal of graphs whose arcs do not all lead to vertices.
 ghost use Rattle.std.specs.Prelude.{◌≡◌, IfErr, OnOk, Some, None};
 ghost use Rattle.std.specs.List.{list_all};
-ghost use Rattle.sgb_operand.specs.Operand.{leads_on, leads_on_view, refusal_of_operand};
+ghost use Rattle.sgb_operand.specs.Operand.{leads_on, refusal_of_operand};
+ghost use Rattle.sgb_operand.specs.Private.Views.{leads_on_view};
 
 use sgb_graph::{ArcNo, ArcView, Graph, Refusal, Tip};
 

@@ -1,0 +1,14 @@
+pub mod Apart
+pub mod Beginning
+pub mod Joined
+pub mod Joint
+pub mod Least
+pub mod Named
+pub mod Products
+pub mod Pruning
+pub mod Reached
+pub mod Rising
+pub mod Rowed
+pub mod Unions
+pub mod Upward
+pub mod Wanted

@@ -1,0 +1,43 @@
+use Rattle.std.proofs.Common.{◌∷◌, [], sym, ap, subst, ◌∙◌, arith}
+use Rattle.std.proofs.lemmas.List.{get_or_default}
+use Rattle.std.proofs.lemmas.Simd.{map-map}
+use Rattle.std.proofs.lemmas.Result.{err_from_is_err_and}
+use Rattle.sgb_graph.specs.Builder.{Insertion, grown}
+use Rattle.sgb_graph.proofs.Inserting.{LeftOf, RefusesInsertions, of_start_map, of_some, of_refused, of_end, of_n}
+use Rattle.sgb_operand.specs.declared.spoke.Spoke.{Spoke}
+use Rattle.sgb_combine.specs.Combined.{along}
+use Rattle.sgb_combine.specs.Private.Pruned.{scaled}
+use Rattle.sgb_combine.proofs.Reached.{spoke_in, no_spoke}
+use Rattle.sgb_combine.proofs.multiply.insert_scaled.Goals as goal
+
+pub loop-spoke-init : goal.loop-spoke-init
+loop-spoke-init c =
+    let b = c.args.builder.now in
+    let ss = c.args.spokes.now in
+    let f : Spoke → Insertion = λ s. along c.args.number.0 (scaled c.args.scale c.args.offset s) in
+    subst (λ all. LeftOf b all b (λ s. f s ∷ []) ss 0) (sym (map-map (along c.args.number.0) (scaled c.args.scale c.args.offset) ss)) (of_start_map b f ss)
+
+pub insert_spoke-requires-clause-from : goal.insert_spoke-requires-clause-from
+insert_spoke-requires-clause-from c = let low = c.requires.number in omega (arith, of_n c.loop-spoke.invariant)
+
+pub insert_spoke-requires-clause-to : goal.insert_spoke-requires-clause-to
+insert_spoke-requires-clause-to c =
+    omega (arith, ap (λ (s : Spoke). s.to) c.scaled.ensures, of_n c.loop-spoke.invariant, c.requires.to c.loop-spoke.spoke-index no_spoke (omega arith))
+
+pub returns-in_err-insert_spoke : goal.returns-in_err-insert_spoke
+returns-in_err-insert_spoke c =
+    let p = err_from_is_err_and c.from_residual.result c.from_residual.ensures.1 in
+    let i = c.loop-spoke.spoke-index in
+    let ss = c.args.spokes.now in
+    rw (p.1, p.2) (of_refused (omega arith) (get_or_default ss i no_spoke (spoke_in ss i) (omega arith)) c.loop-spoke.invariant
+    (subst (λ s. RefusesInsertions c.loop-spoke.builder (along c.args.number.0 s ∷ []) c.in_err-insert_spoke.field-0.0) c.scaled.ensures c.in_err-insert_spoke.ensures))
+
+pub loop-spoke-preserved : goal.loop-spoke-preserved
+loop-spoke-preserved c =
+    let i = c.loop-spoke.spoke-index in
+    let ss = c.args.spokes.now in
+    of_some (omega arith) (get_or_default ss i no_spoke (spoke_in ss i) (omega arith)) c.loop-spoke.invariant
+    (c.in_ok-insert_spoke.ensures ∙ ap (λ s. grown c.loop-spoke.builder (along c.args.number.0 s ∷ [])) c.scaled.ensures)
+
+pub returns : goal.returns
+returns c = of_end (omega arith) c.loop-spoke.invariant

@@ -1,0 +1,5 @@
+pub mod Begin
+pub mod Pairs
+pub mod Pruned
+pub mod Rows
+pub mod Targets

@@ -1,0 +1,19 @@
+-- The builder that a combination begins with.
+use Rattle.std.specs.Prelude.{◌≡◌, ◌⊎◌, ◌<◌, ℕ, List, [], Bool, Result, Ok, Err}
+use Rattle.sgb_graph.specs.declared.builder.Builder.{Builder}
+use Rattle.sgb_graph.specs.declared.refusal.Refusal.{Refusal}
+use Rattle.sgb_graph.specs.declared.refusal.Refusal.TheVariants.{NoRoom, TooLarge}
+use Rattle.sgb_graph.specs.Graph.{n_of}
+use Rattle.sgb_graph.specs.New.{bare_graph}
+use Rattle.sgb_plan.specs.Plan.{Named, with_named}
+use Rattle.sgb_combine.specs.Combined.{no_letters}
+
+-- a builder with this id and no vertices
+abbrev pub bare_builder : List ℕ → Bool → Builder
+bare_builder id directed = record { graph = bare_graph id no_letters []; directed = directed }
+
+-- it has these vertices, or is refused for want of memory or because they are too many
+abbrev pub Begins : List ℕ → Bool → List Named → Result Builder Refusal → Type 0
+Begins id directed vs (Ok b) = b ≡ with_named (bare_builder id directed) vs
+Begins id directed vs (Err e) =
+    (e ≡ NoRoom) ⊎ ((e ≡ TooLarge) × (65535 < n_of (with_named (bare_builder id directed) vs).graph))

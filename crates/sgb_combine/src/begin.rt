@@ -1,0 +1,50 @@
+//! The builder that a combination begins with: its id, and vertices that are named as those of a graph.
+ghost use Rattle.std.specs.Prelude.{◌≡◌, ◌≤◌, length};
+ghost use Rattle.sgb_graph.specs.New.{six_zeros};
+ghost use Rattle.sgb_plan.specs.Plan.{Names};
+ghost use Rattle.sgb_combine.specs.Combined.{vertices_of};
+ghost use Rattle.sgb_combine.specs.Private.Begin.{Begins};
+
+use sgb_graph::{Builder, Graph, Label, Refusal, Text, Types, Util, VertexNo};
+use sgb_plan::text_of;
+use std::alloc::Global;
+
+// A builder with this id and the vertices of the graph, by their names alone.
+pub(crate) fn begin_as(
+    alloc: Global,
+    id: Text,
+    graph: &Graph,
+    directed: bool,
+) -> Result<Builder, Refusal>
+    requires { length id ≤ 160 }
+    ensures { Begins id directed (vertices_of graph.now) result }
+{
+    let mut builder = Builder::new(alloc, id, Types::none(), directed);
+    name_vertices(&mut builder, alloc, graph)?;
+    Ok(builder)
+}
+
+fn name_vertices(builder: &mut Builder, alloc: Global, graph: &Graph) -> Result<(), Refusal>
+    ensures { Names builder.old builder.new (vertices_of graph.now) result }
+{
+    builder.reserve_vertices(graph.n() as usize)?;
+    for v in 0..graph.n() {
+        let label = text_of(alloc, graph.label(VertexNo(v)))?;
+        builder.push_vertex(Label::new(label), no_fields())?;
+    }
+    Ok(())
+}
+
+// The fields of a vertex without values.
+pub(crate) fn no_fields() -> [Util; 6]
+    ensures { result ≡ six_zeros }
+{
+    [
+        Util::Zero,
+        Util::Zero,
+        Util::Zero,
+        Util::Zero,
+        Util::Zero,
+        Util::Zero,
+    ]
+}

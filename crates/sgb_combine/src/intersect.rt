@@ -1,0 +1,141 @@
+//! Intersections.
+ghost use Rattle.std.specs.Prelude.{◌≡◌, ◌<◌, length, All, OnOk, true};
+ghost use Rattle.std.specs.List.{flat_map, range_with_len};
+ghost use Rattle.sgb_graph.specs.Graph.{n_of};
+ghost use Rattle.sgb_graph.specs.Builder.{Inserts};
+ghost use Rattle.sgb_operand.specs.Operand.{IsWithin, spokes};
+ghost use Rattle.sgb_plan.specs.Plan.{IsMade};
+ghost use Rattle.sgb_combine.specs.Lowest.{lowest};
+ghost use Rattle.sgb_combine.specs.Intersection.{firsts, longer, joints, intersection_at, plan_of_intersection};
+
+use crate::begin::begin_as;
+use crate::lowest::Lowest;
+use crate::run::{insert_spoke, keep_upward, read_if_there};
+use sgb_graph::{Builder, Graph, Refusal, VertexNo};
+use sgb_operand::{Spoke, check_operand};
+use sgb_plan::{Part, id_of_two};
+use std::alloc::{AllocError, Global};
+
+/// The intersection of two graphs: the vertices of the first, and for each pair of them that both graphs join one arc
+/// or edge, in the first graph's order. Its length is the larger of the least length in the first graph and the least
+/// in the second. Edges are made from their smaller end on. This is `intersection` of the GraphBase, without its
+/// question for several arcs.
+///
+/// Refused `BadOperand` where an arc of a graph leads to no vertex, and then `TooLarge` where the intersection would
+/// give out more than 1,000,000 arc numbers.
+pub fn intersection(
+    alloc: Global,
+    first: &Graph,
+    second: &Graph,
+    directed: bool,
+) -> Result<Graph, Refusal>
+    ensures { IsMade (plan_of_intersection first.now second.now directed) result }
+{
+    check_operand(first)?;
+    check_operand(second)?;
+    let flags = [Part::Flag(false), Part::Flag(directed)];
+    let id = id_of_two(alloc, "intersection", first.id(), second.id(), &flags)?;
+    let mut builder = begin_as(alloc, id, first, directed)?;
+    insert_intersections(&mut builder, alloc, first, second, directed)?;
+    Ok(builder.finish())
+}
+
+fn insert_intersections(
+    builder: &mut Builder,
+    alloc: Global,
+    first: &Graph,
+    second: &Graph,
+    directed: bool,
+) -> Result<(), Refusal>
+    requires { n_of builder.old.graph ≡ n_of first.now }
+    ensures { Inserts builder.old builder.new
+        (flat_map (intersection_at directed first.now second.now) (range_with_len 0 (n_of first.now))) result }
+{
+    let mut buffer = Vec::new(alloc);
+    let mut mine = Lowest::new(alloc, first.n())?;
+    let mut theirs = Lowest::new(alloc, second.n())?;
+    for v in 0..first.n() {
+        read_firsts(&mut mine, &mut buffer, first, VertexNo(v), directed)?;
+        read_others(&mut theirs, &mut buffer, second, VertexNo(v))?;
+        insert_joints(builder, VertexNo(v), mine.spokes(), &theirs)?;
+    }
+    Ok(())
+}
+
+// The first arcs of a vertex to each other, where edges are not looked at from their larger end.
+fn read_firsts(
+    mine: &mut Lowest,
+    buffer: &mut Vec<Spoke>,
+    graph: &Graph,
+    vertex: VertexNo,
+    directed: bool,
+) -> Result<(), AllocError>
+    requires { length mine.old.places.items ≡ n_of graph.now }
+    ensures ok { OnOk result (mine.new.spokes.items ≡ firsts directed graph.now vertex.0) }
+    ensures width { length mine.new.places.items ≡ length mine.old.places.items }
+{
+    buffer.clear();
+    read_if_there(buffer, graph, vertex, true)?;
+    keep_upward(buffer, directed, vertex);
+    mine.keep(buffer)
+}
+
+// The same of a graph that may lack the vertex, wherever its arcs lead.
+fn read_others(
+    theirs: &mut Lowest,
+    buffer: &mut Vec<Spoke>,
+    graph: &Graph,
+    vertex: VertexNo,
+) -> Result<(), AllocError>
+    requires { length theirs.old.places.items ≡ n_of graph.now }
+    ensures ok { OnOk result (theirs.new.spokes.items ≡ lowest (spokes true graph.now vertex.0)) }
+    ensures width { length theirs.new.places.items ≡ length theirs.old.places.items }
+{
+    buffer.clear();
+    read_if_there(buffer, graph, vertex, true)?;
+    theirs.keep(buffer)
+}
+
+fn insert_joints(
+    builder: &mut Builder,
+    vertex: VertexNo,
+    firsts: &[Spoke],
+    others: &Lowest,
+) -> Result<(), Refusal>
+    requires from { vertex.0 < n_of builder.old.graph }
+    requires to { All (IsWithin (n_of builder.old.graph)) firsts.now }
+    ensures { Inserts builder.old builder.new (flat_map (joints vertex.0 others.now.spokes.items) firsts.now) result }
+{
+    for spoke in firsts {
+        insert_joint(builder, vertex, *spoke, others)?;
+    }
+    Ok(())
+}
+
+// Inserts along the spoke, where one of the others leads to the same vertex.
+fn insert_joint(
+    builder: &mut Builder,
+    vertex: VertexNo,
+    spoke: Spoke,
+    others: &Lowest,
+) -> Result<(), Refusal>
+    requires from { vertex.0 < n_of builder.old.graph }
+    requires to { spoke.to < n_of builder.old.graph }
+    ensures { Inserts builder.old builder.new (joints vertex.0 others.now.spokes.items spoke) result }
+{
+    match others.find(spoke.to) {
+        Some(other) => insert_spoke(builder, vertex, longer(spoke, other)),
+        None => Ok(()),
+    }
+}
+
+// The spoke, with the other's length where that is more.
+#[inline]
+fn longer(spoke: Spoke, other: Spoke) -> Spoke
+    ensures { result ≡ longer spoke other }
+{
+    Spoke {
+        to: spoke.to,
+        len: spoke.len.max(other.len),
+    }
+}

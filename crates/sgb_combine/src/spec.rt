@@ -1,0 +1,30 @@
+//! What a combination is asked for beside its graphs.
+
+/// What a complement is asked for.
+#[derive(Clone, Copy, Debug, PartialEq, Eq)]
+pub struct ComplementSpec {
+    /// Whether arcs are copied, each pair once, instead of turned into their absence.
+    pub copy: bool,
+    /// Whether a vertex may be joined to itself.
+    pub loops: bool,
+    /// Whether the result has arcs; else it has edges.
+    pub directed: bool,
+}
+
+/// What a union is asked for.
+#[derive(Clone, Copy, Debug, PartialEq, Eq)]
+pub struct GunionSpec {
+    /// Whether a pair of vertices may be joined more than once.
+    pub multi: bool,
+    /// Whether the result has arcs; else it has edges.
+    pub directed: bool,
+}
+
+/// What a product is asked for.
+#[derive(Clone, Copy, Debug, PartialEq, Eq)]
+pub struct ProductSpec {
+    /// 0 for the cartesian product, 1 for the direct one, 2 for the strong one.
+    pub kind: i64,
+    /// Whether the result has arcs; else it has edges.
+    pub directed: bool,
+}
