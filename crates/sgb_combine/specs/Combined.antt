@@ -1,5 +1,5 @@
 -- What all combinations share: their refusals, their vertices and their insertions.
-use Rattle.std.specs.Prelude.{ℕ, List, map, replicate, codes, Option, Some, None, Bool, ◌||◌, nat_le, Result, Ok, Err, if◌then◌else◌}
+use Rattle.std.specs.Prelude.{ℕ, List, map, Option, Some, None, Bool, ◌||◌, nat_le}
 use Rattle.std.specs.List.{range_with_len}
 use Rattle.sgb_graph.specs.declared.refusal.Refusal.{Refusal}
 use Rattle.sgb_graph.specs.Graph.{GraphOf, n_of, label_of}
@@ -7,7 +7,7 @@ use Rattle.sgb_graph.specs.New.{six_zeros}
 use Rattle.sgb_graph.specs.Builder.{Insertion, insertion}
 use Rattle.sgb_operand.specs.declared.spoke.Spoke.{Spoke}
 use Rattle.sgb_operand.specs.Operand.{refusal_of_operand}
-use Rattle.sgb_plan.specs.Plan.{Named, Plan}
+use Rattle.sgb_plan.specs.Plan.{Named}
 
 -- the first of two refusals
 abbrev pub first_refusal : Option Refusal → Option Refusal → Option Refusal
@@ -16,19 +16,6 @@ first_refusal None later = later
 
 abbrev pub refusal_of_operands : GraphOf → GraphOf → Option Refusal
 refusal_of_operands g h = first_refusal (refusal_of_operand g) (refusal_of_operand h)
-
--- the plan, where nothing refuses it
-abbrev pub planned : Option Refusal → Plan → Result Plan Refusal
-planned None p = Ok p
-planned (Some r) p = Err r
-
--- 1 for yes and 0 for no, as an id shows it
-abbrev pub flag_text : Bool → List ℕ
-flag_text b = if b then codes "1" else codes "0"
-
--- all letters Z
-abbrev pub no_letters : List ℕ
-no_letters = replicate 14 90
 
 -- the vertices of g, by their names alone
 abbrev pub named_as : GraphOf → ℕ → Named

@@ -6,10 +6,10 @@ use Rattle.sgb_graph.specs.Graph.{GraphOf, n_of}
 use Rattle.sgb_graph.specs.Builder.{Insertion, insertion}
 use Rattle.sgb_operand.specs.declared.spoke.Spoke.{Spoke}
 use Rattle.sgb_operand.specs.Operand.{refusal_of_operand, spokes}
-use Rattle.sgb_plan.specs.Id.{id_of_one}
-use Rattle.sgb_plan.specs.Plan.{Plan}
+use Rattle.sgb_plan.specs.Id.{id_of_one, flag_text}
+use Rattle.sgb_plan.specs.Plan.{Plan, plan_unless, no_letters}
 use Rattle.sgb_combine.specs.declared.spec.ComplementSpec.{ComplementSpec}
-use Rattle.sgb_combine.specs.Combined.{planned, flag_text, no_letters, vertices_of}
+use Rattle.sgb_combine.specs.Combined.{vertices_of}
 
 -- one of the spokes leads to w
 abbrev pub leads_to : List Spoke → ℕ → Bool
@@ -41,4 +41,4 @@ complement_plan g spec = record {
 }
 
 abbrev pub plan_of_complement : GraphOf → ComplementSpec → Result Plan Refusal
-plan_of_complement g spec = planned (refusal_of_operand g) (complement_plan g spec)
+plan_of_complement g spec = plan_unless (refusal_of_operand g) (complement_plan g spec)

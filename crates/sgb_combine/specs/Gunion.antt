@@ -6,10 +6,10 @@ use Rattle.sgb_graph.specs.Graph.{GraphOf, n_of}
 use Rattle.sgb_graph.specs.Builder.{Insertion}
 use Rattle.sgb_operand.specs.declared.spoke.Spoke.{Spoke}
 use Rattle.sgb_operand.specs.Operand.{spokes}
-use Rattle.sgb_plan.specs.Id.{id_of_two}
-use Rattle.sgb_plan.specs.Plan.{Plan}
+use Rattle.sgb_plan.specs.Id.{id_of_two, flag_text}
+use Rattle.sgb_plan.specs.Plan.{Plan, plan_unless, no_letters}
 use Rattle.sgb_combine.specs.declared.spec.GunionSpec.{GunionSpec}
-use Rattle.sgb_combine.specs.Combined.{refusal_of_operands, planned, flag_text, no_letters, vertices_of, is_upward, along}
+use Rattle.sgb_combine.specs.Combined.{refusal_of_operands, vertices_of, is_upward, along}
 use Rattle.sgb_combine.specs.Lowest.{lowest}
 
 -- it leads to one of n vertices, and not below v where the union has edges
@@ -37,4 +37,4 @@ gunion_plan g h spec = record {
 }
 
 abbrev pub plan_of_gunion : GraphOf → GraphOf → GunionSpec → Result Plan Refusal
-plan_of_gunion g h spec = planned (refusal_of_operands g h) (gunion_plan g h spec)
+plan_of_gunion g h spec = plan_unless (refusal_of_operands g h) (gunion_plan g h spec)

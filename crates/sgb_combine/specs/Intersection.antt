@@ -7,9 +7,9 @@ use Rattle.sgb_graph.specs.Graph.{GraphOf, n_of}
 use Rattle.sgb_graph.specs.Builder.{Insertion}
 use Rattle.sgb_operand.specs.declared.spoke.Spoke.{Spoke}
 use Rattle.sgb_operand.specs.Operand.{spokes}
-use Rattle.sgb_plan.specs.Id.{id_of_two}
-use Rattle.sgb_plan.specs.Plan.{Plan}
-use Rattle.sgb_combine.specs.Combined.{refusal_of_operands, planned, flag_text, no_letters, vertices_of, is_upward, along}
+use Rattle.sgb_plan.specs.Id.{id_of_two, flag_text}
+use Rattle.sgb_plan.specs.Plan.{Plan, plan_unless, no_letters}
+use Rattle.sgb_combine.specs.Combined.{refusal_of_operands, vertices_of, is_upward, along}
 use Rattle.sgb_combine.specs.Lowest.{lowest}
 
 -- for each vertex to which v is joined, the first and least arc, where edges are not looked at from their larger end
@@ -41,4 +41,4 @@ intersection_plan g h directed = record {
 }
 
 abbrev pub plan_of_intersection : GraphOf → GraphOf → Bool → Result Plan Refusal
-plan_of_intersection g h directed = planned (refusal_of_operands g h) (intersection_plan g h directed)
+plan_of_intersection g h directed = plan_unless (refusal_of_operands g h) (intersection_plan g h directed)

@@ -12,10 +12,10 @@ use Rattle.sgb_graph.specs.Edit.{refusal_unless}
 use Rattle.sgb_graph.specs.Builder.{Insertion}
 use Rattle.sgb_operand.specs.declared.spoke.Spoke.{Spoke}
 use Rattle.sgb_operand.specs.Operand.{spokes}
-use Rattle.sgb_plan.specs.Id.{id_of_two}
-use Rattle.sgb_plan.specs.Plan.{Named, Plan}
+use Rattle.sgb_plan.specs.Id.{id_of_two, flag_text}
+use Rattle.sgb_plan.specs.Plan.{Named, Plan, plan_unless, no_letters}
 use Rattle.sgb_combine.specs.declared.spec.ProductSpec.{ProductSpec}
-use Rattle.sgb_combine.specs.Combined.{first_refusal, refusal_of_operands, planned, flag_text, no_letters, is_upward, along}
+use Rattle.sgb_combine.specs.Combined.{first_refusal, refusal_of_operands, is_upward, along}
 
 -- 0 is the cartesian product, 1 the direct one, 2 the strong one, which has the arcs of both
 abbrev pub is_kind : ℤ → Bool
@@ -82,4 +82,4 @@ product_plan g h spec = record {
 }
 
 abbrev pub plan_of_product : GraphOf → GraphOf → ProductSpec → Result Plan Refusal
-plan_of_product g h spec = planned (refusal_of_product g h spec) (product_plan g h spec)
+plan_of_product g h spec = plan_unless (refusal_of_product g h spec) (product_plan g h spec)

@@ -5,8 +5,7 @@ use Rattle.sgb_graph.specs.declared.refusal.Refusal.{Refusal}
 use Rattle.sgb_graph.specs.declared.refusal.Refusal.TheVariants.{NoRoom, TooLarge}
 use Rattle.sgb_graph.specs.Graph.{n_of}
 use Rattle.sgb_graph.specs.New.{bare_graph}
-use Rattle.sgb_plan.specs.Plan.{Named, with_named}
-use Rattle.sgb_combine.specs.Combined.{no_letters}
+use Rattle.sgb_plan.specs.Plan.{Named, with_named, no_letters}
 
 -- a builder with this id and no vertices
 abbrev pub bare_builder : List ℕ → Bool → Builder

@@ -2,8 +2,7 @@ use Rattle.std.proofs.Common.{[], ◌∷◌, codes, refl, ap, subst, ◌∙◌}
 use Rattle.std.proofs.lemmas.Result.{err_from_is_err_and}
 use Rattle.sgb_graph.specs.Graph.{IsGraph}
 use Rattle.sgb_operand.specs.Operand.{refusal_of_operand}
-use Rattle.sgb_plan.specs.Id.{id_of_one}
-use Rattle.sgb_combine.specs.Combined.{flag_text}
+use Rattle.sgb_plan.specs.Id.{id_of_one, flag_text}
 use Rattle.sgb_combine.specs.Complement.{complement_plan}
 use Rattle.sgb_combine.proofs.Beginning.{refused, named_so, begun_refused, inserts_refused, all_inserted, n_begun}
 use Rattle.sgb_combine.proofs.negate.complement.Goals as goal

@@ -2,8 +2,8 @@ use Rattle.std.proofs.Common.{[], ◌∷◌, codes, None, Some, refl, ap₂, sub
 use Rattle.std.proofs.lemmas.Result.{err_from_is_err_and}
 use Rattle.sgb_graph.specs.Graph.{IsGraph}
 use Rattle.sgb_operand.specs.Operand.{refusal_of_operand}
-use Rattle.sgb_plan.specs.Id.{id_of_two}
-use Rattle.sgb_combine.specs.Combined.{refusal_of_operands, flag_text}
+use Rattle.sgb_plan.specs.Id.{id_of_two, flag_text}
+use Rattle.sgb_combine.specs.Combined.{refusal_of_operands}
 use Rattle.sgb_combine.specs.Gunion.{gunion_plan}
 use Rattle.sgb_combine.proofs.Beginning.{refused, first_some, first_none, named_so, begun_refused, inserts_refused, all_inserted, n_begun}
 use Rattle.sgb_combine.proofs.unite.gunion.Goals as goal
