@@ -8,19 +8,12 @@ use Rattle.std.proofs.lemmas.Bool.{cases_Bool, and_parts, eqb-true, eqb-false, e
 use Rattle.std.proofs.lemmas.List.{take-append-drop}
 use Rattle.std.proofs.Math.Seq.{take-append_seam, drop-append_seam}
 use Rattle.sgb_graph.specs.Text.{is_text_byte}
-use Rattle.sgb_graph.specs.declared.field.ArcNo.{ArcNo}
-use Rattle.sgb_graph.specs.declared.field.Tip.{Tip}
-use Rattle.sgb_graph.specs.declared.field.Tip.TheVariants as tips
-use Rattle.sgb_graph.specs.declared.field.Util.{Util}
-use Rattle.sgb_graph.specs.declared.field.Util.TheVariants.{Zero, Int, Vertex, Arc, Text}
-use Rattle.sgb_grammar.specs.Reading.{◌>>=◌, after, behind, each_at}
+use Rattle.sgb_grammar.specs.Reading.{after, behind}
 use Rattle.sgb_grammar.specs.Number.{digits_in, digits_at, count_of, count_at, positive_of, negative_of, signed_at, number_at}
 use Rattle.sgb_grammar.specs.String.{inside_at, within, text_at}
-use Rattle.sgb_grammar.specs.Field.{after_break, comma_at, index_at, link_at, tip_at, vertex_value_at, arc_value_at, value_at, field_at, fields_at}
-use Rattle.sgb_grammar.specs.Spelled.{Spelling, Word, Inside, ended, byte, broken, Quoted, Digits, Count, Number, Comma, Index, Link, TipIs, IntegerOne, IntegerValue, VertexValue, ArcValue, TextValue, Value, Field, Each}
+use Rattle.sgb_grammar.specs.Spelled.{Inside, ended, byte, broken, Quoted, Digits, Count, Number}
 use Rattle.sgb_grammar.proofs.Words.{after_is, after-sound}
 use Rattle.sgb_grammar.proofs.Insides.{text_byte, text_is, short}
-use Rattle.sgb_grammar.proofs.Eaches.{each_some}
 
 -- ---- what an option came from
 
@@ -35,11 +28,11 @@ pub kept : {A : Type 0} (test : Bool) (q p : A) → (if test then Some q else No
 kept true q p e = (refl, some_same q p e)
 kept false q p e = cc
 
-mapped : {A B : Type 0} (m : Option A) (f : A → B) (b : B) → option_map f m ≡ Some b → (a : A) × (m ≡ Some a) × (f a ≡ b)
+pub mapped : {A B : Type 0} (m : Option A) (f : A → B) (b : B) → option_map f m ≡ Some b → (a : A) × (m ≡ Some a) × (f a ≡ b)
 mapped None f b e = cc
 mapped (Some a) f b e = (a, refl, some_same (f a) b e)
 
-behind_is : {A : Type 0} (xs : List A) (m : Option (List A × List ℕ)) (p : List A × List ℕ) → behind xs m ≡ Some p → (q : List A × List ℕ) × (m ≡ Some q) × ((xs ++ q.0, q.1) ≡ p)
+pub behind_is : {A : Type 0} (xs : List A) (m : Option (List A × List ℕ)) (p : List A × List ℕ) → behind xs m ≡ Some p → (q : List A × List ℕ) × (m ≡ Some q) × ((xs ++ q.0, q.1) ≡ p)
 behind_is xs m p e = mapped m (λ q. (xs ++ q.0, q.1)) p e
 
 -- ---- strings

@@ -208,6 +208,10 @@ SavedText h s bs =
     × (s.parts ≡ parts_of h r)
     × (s.body ≡ take (length lines - length end) lines)
 
+-- a first line and what follows it
+abbrev pub WholeText : Header → SavedOf → List ℕ → Type 0
+WholeText h s text = (lines : List ℕ) × FirstLine h text lines × SavedText h s lines
+
 -- ---- the readers are these relations
 
 -- what is read is spelled, and what is spelled is read

@@ -15,5 +15,5 @@ mod strings;
 pub use check::check_number;
 pub use fault::Fault;
 pub use header::{Header, read_header};
-pub use laws::items_law;
+pub use laws::{items_law, records_law, spelling_law};
 pub use saved::{Saved, read_saved};
