@@ -37,16 +37,33 @@ own_spelled letters bs p e =
     option_and_then_some _ (number_at b) p b-more (λ m m-is m-more.
     option_and_then_some _ (fields_at letters m.1) p m-more (λ us us-is us-more.
     option_and_then_some _ (newline_at us.1) p us-more (λ end end-is end-more.
-    subst (λ r. OwnRecord letters r.0 bs r.1) (some_same _ p end-more)
-    (
+    subst (λ r. OwnRecord letters r.0 bs r.1) (some_same _ p end-more) (
       m.0,
-      (id.1, text_spelled 160 bs id id-is,
-      (a, comma_spelled id.1 a a-is,
-      (n.1, count_spelled a n n-is,
-      (b, comma_spelled n.1 b b-is,
-      (m.1, number_spelled b m m-is,
-      (us.1, fields_spelled letters m.1 us us-is,
-      after-sound (10 ∷ []) us.1 end end-is)))))),
+      (
+        id.1,
+        text_spelled 160 bs id id-is,
+        (
+          a,
+          comma_spelled id.1 a a-is,
+          (
+            n.1,
+            count_spelled a n n-is,
+            (
+              b,
+              comma_spelled n.1 b b-is,
+              (
+                m.1,
+                number_spelled b m m-is,
+                (
+                  us.1,
+                  fields_spelled letters m.1 us us-is,
+                  after-sound (10 ∷ []) us.1 end end-is,
+                ),
+              ),
+            ),
+          ),
+        ),
+      ),
     )
     )))))))
 
@@ -60,7 +77,7 @@ own_read letters bs rest own (m, (a, id, (b, comma, (c, n, (d, comma', (f, numbe
       comma_read c d comma',
       number_read d f m number,
       fields_read letters f g own.fields us,
-      after_is (10 ∷ []) g rest end
+      after_is (10 ∷ []) g rest end,
     ) refl
 
 pub vertex_spelled : (letters bs : List ℕ) (p : VertexPart × List ℕ) → vertex_at letters bs ≡ Some p → VertexRecord letters p.0 bs p.1
@@ -71,13 +88,22 @@ vertex_spelled letters bs p e =
     option_and_then_some _ (link_at a) p a-more (λ link link-is link-more.
     option_and_then_some _ (fields_at letters link.1) p link-more (λ us us-is us-more.
     option_and_then_some _ (newline_at us.1) p us-more (λ end end-is end-more.
-    subst (λ r. VertexRecord letters r.0 bs r.1) (some_same _ p end-more)
-    (
-      name.1, text_spelled 4095 bs name name-is,
-      (a, comma_spelled name.1 a a-is,
-      (link.1, link_spelled a link link-is,
-      (us.1, fields_spelled letters link.1 us us-is,
-      after-sound (10 ∷ []) us.1 end end-is))),
+    subst (λ r. VertexRecord letters r.0 bs r.1) (some_same _ p end-more) (
+      name.1,
+      text_spelled 4095 bs name name-is,
+      (
+        a,
+        comma_spelled name.1 a a-is,
+        (
+          link.1,
+          link_spelled a link link-is,
+          (
+            us.1,
+            fields_spelled letters link.1 us us-is,
+            after-sound (10 ∷ []) us.1 end end-is,
+          ),
+        ),
+      ),
     )
     )))))
 
@@ -89,7 +115,7 @@ vertex_read letters bs rest v (a, name, (b, comma, (c, link, (d, us, end)))) =
       comma_read a b comma,
       link_read b c v.first link,
       fields_read letters c d v.fields us,
-      after_is (10 ∷ []) d rest end
+      after_is (10 ∷ []) d rest end,
     ) refl
 
 pub arc_spelled : (letters bs : List ℕ) (p : ArcPart × List ℕ) → arc_at letters bs ≡ Some p → ArcRecord letters p.0 bs p.1
@@ -102,15 +128,30 @@ arc_spelled letters bs p e =
     option_and_then_some _ (number_at b) p b-more (λ long long-is long-more.
     option_and_then_some _ (fields_at letters long.1) p long-more (λ us us-is us-more.
     option_and_then_some _ (newline_at us.1) p us-more (λ end end-is end-more.
-    subst (λ r. ArcRecord letters r.0 bs r.1) (some_same _ p end-more)
-    (
-      to.1, tip_spelled bs to to-is,
-      (a, comma_spelled to.1 a a-is,
-      (link.1, link_spelled a link link-is,
-      (b, comma_spelled link.1 b b-is,
-      (long.1, number_spelled b long long-is,
-      (us.1, fields_spelled letters long.1 us us-is,
-      after-sound (10 ∷ []) us.1 end end-is))))),
+    subst (λ r. ArcRecord letters r.0 bs r.1) (some_same _ p end-more) (
+      to.1,
+      tip_spelled bs to to-is,
+      (
+        a,
+        comma_spelled to.1 a a-is,
+        (
+          link.1,
+          link_spelled a link link-is,
+          (
+            b,
+            comma_spelled link.1 b b-is,
+            (
+              long.1,
+              number_spelled b long long-is,
+              (
+                us.1,
+                fields_spelled letters long.1 us us-is,
+                after-sound (10 ∷ []) us.1 end end-is,
+              ),
+            ),
+          ),
+        ),
+      ),
     )
     )))))))
 
@@ -124,7 +165,7 @@ arc_read letters bs rest r (a, to, (b, comma, (c, link, (d, comma', (f, long, (g
       comma_read c d comma',
       number_read d f r.len long,
       fields_read letters f g r.fields us,
-      after_is (10 ∷ []) g rest end
+      after_is (10 ∷ []) g rest end,
     ) refl
 
 -- ---- the first line
@@ -164,9 +205,10 @@ counts_spelled bs p e =
     option_and_then_some _ (after (codes "V,") n.1) p n-more (λ a a-is a-more.
     option_and_then_some _ (count_at a) p a-more (λ m m-is m-more.
     option_and_then_some _ (after (codes "A)") m.1) p m-more (λ b b-is b-more.
-    subst (λ r. Counts r.0.0 r.0.1 bs r.1) (some_same _ p b-more)
-    (
-      n.1, a, m.1,
+    subst (λ r. Counts r.0.0 r.0.1 bs r.1) (some_same _ p b-more) (
+      n.1,
+      a,
+      m.1,
       count_spelled bs n n-is,
       after-sound (codes "V,") n.1 a a-is,
       count_spelled a m m-is,
@@ -197,16 +239,34 @@ header_spelled bs p e =
     option_and_then_some _ (counts_at b) p b-more (λ counts counts-is counts-more.
     let k = kept (ends_line counts.1) _ p counts-more in
     let s = counts_spelled b counts counts-is in
-    subst (λ r. FirstLine r.0 bs r.1) k.1
-    (
-      a, after-sound (codes "* GraphBase graph (util_types ") bs a a-is,
-      (types.1, letters_spelled a types types-is,
-      (b, after-sound (codes ",") types.1 b b-is,
-      (s.0, s.3,
-      (s.1, s.4,
-      (s.2, s.5,
-      (counts.1, s.6,
-      line_ends counts.1 k.0)))))),
+    subst (λ r. FirstLine r.0 bs r.1) k.1 (
+      a,
+      after-sound (codes "* GraphBase graph (util_types ") bs a a-is,
+      (
+        types.1,
+        letters_spelled a types types-is,
+        (
+          b,
+          after-sound (codes ",") types.1 b b-is,
+          (
+            s.0,
+            s.3,
+            (
+              s.1,
+              s.4,
+              (
+                s.2,
+                s.5,
+                (
+                  counts.1,
+                  s.6,
+                  line_ends counts.1 k.0,
+                ),
+              ),
+            ),
+          ),
+        ),
+      ),
     )
     ))))
 
@@ -218,7 +278,7 @@ header_read bs rest h (a, word, (b, types, (c, comma, (d, vertices, (f, word', (
       letters_read a b h.types types,
       after_is (codes ",") b c comma,
       counts_read c i h.vertices h.arcs (d, f, g, vertices, word', arcs, word''),
-      ends_line_is i end
+      ends_line_is i end,
     ) (ap (λ r. Some (h, r)) same)
 
 -- ---- all records
@@ -235,14 +295,23 @@ records_spelled h bs p e =
     let few : own.0.n ≤ h.vertices = subst (λ r. r.0.n ≤ h.vertices) k.1 (leb-true o.0.0.n h.vertices k.0) in
     let v = bound (after (codes "* Vertices" ++ 10 ∷ []) own.1) _ vs vs-is in
     let r = bound (after (codes "* Arcs" ++ 10 ∷ []) vs.1) _ rs rs-is in
-    subst (λ q. AllRecords h q.0 bs q.1 × (q.0.own.n ≤ h.vertices)) (some_same _ p rs-more)
-    (
+    subst (λ q. AllRecords h q.0 bs q.1 × (q.0.own.n ≤ h.vertices)) (some_same _ p rs-more) (
       (
-        own.1, first,
-        (v.0, after-sound (codes "* Vertices" ++ 10 ∷ []) own.1 v.0 v.1,
-        (vs.1, each_spelled vertex_at VertexRecord vertex_spelled (replicate h.vertices (vertex_letters h.types)) v.0 vs v.2,
-        (r.0, after-sound (codes "* Arcs" ++ 10 ∷ []) vs.1 r.0 r.1,
-        each_spelled arc_at ArcRecord arc_spelled (replicate h.arcs (arc_letters h.types)) r.0 rs r.2))),
+        own.1,
+        first,
+        (
+          v.0,
+          after-sound (codes "* Vertices" ++ 10 ∷ []) own.1 v.0 v.1,
+          (
+            vs.1,
+            each_spelled vertex_at VertexRecord vertex_spelled (replicate h.vertices (vertex_letters h.types)) v.0 vs v.2,
+            (
+              r.0,
+              after-sound (codes "* Arcs" ++ 10 ∷ []) vs.1 r.0 r.1,
+              each_spelled arc_at ArcRecord arc_spelled (replicate h.arcs (arc_letters h.types)) r.0 rs r.2,
+            ),
+          ),
+        ),
       ),
       few,
     )
@@ -257,7 +326,7 @@ records_read h bs rest r (a, own, (b, word, (c, vs, (d, word', rs)))) few =
       after_is (codes "* Vertices" ++ 10 ∷ []) a b word,
       each_read vertex_at VertexRecord vertex_read (replicate h.vertices (vertex_letters h.types)) b c r.vertices vs,
       after_is (codes "* Arcs" ++ 10 ∷ []) c d word',
-      each_read arc_at ArcRecord arc_read (replicate h.arcs (arc_letters h.types)) d rest r.arcs rs
+      each_read arc_at ArcRecord arc_read (replicate h.arcs (arc_letters h.types)) d rest r.arcs rs,
     ) refl
 
 -- ---- the whole text
@@ -268,12 +337,17 @@ check_line_spelled bs z e =
     option_and_then_some _ (after (codes "* Checksum ") bs) z e (λ a a-is a-more.
     option_and_then_some _ (number_at a) z a-more (λ number number-is number-more.
     let k = kept (ends_line number.1) number.0 z number-more in
-    subst (λ y. CheckLine y bs) k.1
-    (
+    subst (λ y. CheckLine y bs) k.1 (
       number.1,
-      (a, after-sound (codes "* Checksum ") bs a a-is,
-      (number.1, number_spelled a number number-is,
-      line_ends number.1 k.0)),
+      (
+        a,
+        after-sound (codes "* Checksum ") bs a a-is,
+        (
+          number.1,
+          number_spelled a number number-is,
+          line_ends number.1 k.0,
+        ),
+      ),
     )
     ))
 
@@ -289,8 +363,7 @@ saved_spelled h bs s e =
     option_and_then_some _ (records_in h a) s a-more (λ records records-is records-more.
     option_and_then_some _ (check_line_in records.1) s records-more (λ number number-is number-more.
     let all = records_spelled h a records records-is in
-    subst (λ t. SavedText h t bs) (some_same _ s number-more)
-    (
+    subst (λ t. SavedText h t bs) (some_same _ s number-more) (
       records.0,
       a,
       records.1,
