@@ -1,6 +1,5 @@
 -- The readers of links, tips and fields are the relations of their spelling.
-use Rattle.std.proofs.Common.{◌≡◌, ◌≢◌, ℕ, ℤ, pos, ◌-◌, ◌^◌, ◌==◌, min, Bool, true, false, List, [], ◌∷◌, ◌++◌, codes, slice_index, Option, Some, None, refl, sym, subst, ap, ◌∙◌, inl, inr, arith}
-use Rattle.std.specs.Option.{option_map, option_and_then}
+use Rattle.std.proofs.Common.{◌≡◌, ◌≢◌, ℕ, pos, ◌-◌, ◌^◌, ◌==◌, min, true, List, [], ◌∷◌, slice_index, Option, Some, None, refl, sym, subst, ap, ◌∙◌, inl, inr, arith}
 use Rattle.std.proofs.lemmas.Bool.{cases_Bool, eqb-true, eqb-false, ne_eqb}
 use Rattle.sgb_graph.specs.declared.field.ArcNo.{ArcNo}
 use Rattle.sgb_graph.specs.declared.field.Tip.{Tip}
@@ -11,7 +10,7 @@ use Rattle.sgb_grammar.specs.Reading.{◌>>=◌, behind, each_at}
 use Rattle.sgb_grammar.specs.Number.{count_at, number_at}
 use Rattle.sgb_grammar.specs.String.{text_at}
 use Rattle.sgb_grammar.specs.Field.{comma_at, index_at, some_arc, some_tip, some_integer, some_vertex, some_arc_value, some_text, link_at, tip_at, vertex_value_at, arc_value_at, value_at, field_at, fields_at}
-use Rattle.sgb_grammar.specs.Spelled.{Spelling, ◌>>◌, Choice, Word, Quoted, Number, Comma, Index, Link, TipIs, IntegerValue, VertexValue, ArcValue, TextValue, Value, Absent, Field, Each}
+use Rattle.sgb_grammar.specs.Spelled.{Spelling, ◌>>◌, Comma, Index, Link, TipIs, IntegerValue, VertexValue, ArcValue, TextValue, Value, Absent, Field, Each}
 use Rattle.sgb_grammar.proofs.Eaches.{each_some}
 use Rattle.sgb_grammar.proofs.Spelling.{some_same, bound, mapped, behind_is, text_spelled, text_read, count_spelled, count_read, number_spelled, number_read}
 

@@ -1,5 +1,5 @@
 -- The readers of records and of whole texts are the relations of their spelling.
-use Rattle.std.proofs.Common.{◌≡◌, ℕ, ℤ, ◌-◌, ◌≤◌, ◌==◌, ◌&&◌, nat_le, true, List, [], ◌∷◌, ◌++◌, take, drop, length, codes, slice_index, replicate, Option, Some, None, refl, sym, subst, ap, ◌∙◌, inl, inr, ◌⊎◌}
+use Rattle.std.proofs.Common.{◌≡◌, ℕ, ℤ, ◌-◌, ◌≤◌, ◌==◌, ◌&&◌, nat_le, true, List, [], ◌∷◌, ◌++◌, take, drop, length, codes, slice_index, replicate, Some, refl, sym, subst, ap, ◌∙◌, inl, inr, ◌⊎◌}
 use Rattle.std.specs.List.{list_all}
 use Rattle.std.proofs.lemmas.Bool.{and_parts, eqb-true, eq-eqb, le-leb, leb-true}
 use Rattle.std.proofs.lemmas.List.{take-append-drop}
@@ -12,14 +12,14 @@ use Rattle.sgb_graph.specs.declared.parts.ArcPart.{ArcPart}
 use Rattle.sgb_grammar.specs.declared.records.Own.{Own}
 use Rattle.sgb_grammar.specs.declared.saved.Records.{Records}
 use Rattle.sgb_grammar.specs.declared.header.Header.{Header}
-use Rattle.sgb_grammar.specs.Reading.{◌>>=◌, after}
+use Rattle.sgb_grammar.specs.Reading.{after}
 use Rattle.sgb_grammar.specs.Number.{count_at, number_at}
 use Rattle.sgb_grammar.specs.String.{text_at}
 use Rattle.sgb_grammar.specs.Field.{comma_at, link_at, tip_at, fields_at}
-use Rattle.sgb_grammar.specs.Record.{newline_at, own_at, vertex_at, arc_at, vertices_at, arcs_at}
+use Rattle.sgb_grammar.specs.Record.{newline_at, own_at, vertex_at, arc_at}
 use Rattle.sgb_grammar.specs.Header.{letters_at, counts_at, ends_line, header_at}
-use Rattle.sgb_grammar.specs.Saved.{SavedOf, own_in, vertices_in, arcs_in, records_in, check_line_in, parts_of, saved_in}
-use Rattle.sgb_grammar.specs.Spelled.{Count, OwnRecord, VertexRecord, ArcRecord, Letters, LineEnd, FirstLine, AllRecords, CheckLine, SavedText, WholeText, Each}
+use Rattle.sgb_grammar.specs.Saved.{SavedOf, own_in, vertices_in, arcs_in, records_in, check_line_in, saved_in}
+use Rattle.sgb_grammar.specs.Spelled.{Count, OwnRecord, VertexRecord, ArcRecord, Letters, LineEnd, FirstLine, AllRecords, CheckLine, SavedText, WholeText}
 use Rattle.sgb_grammar.proofs.Words.{after_is, after-sound}
 use Rattle.sgb_grammar.proofs.Lines.{letters_some}
 use Rattle.sgb_grammar.proofs.Spelling.{some_same, bound, kept, text_spelled, text_read, count_spelled, count_read, number_spelled, number_read}
