@@ -8,7 +8,7 @@ use Rattle.sgb_grammar.specs.declared.fault.Fault.{Fault}
 use Rattle.sgb_grammar.specs.Reading.{behind, each_at, Fails}
 use Rattle.sgb_grammar.proofs.Insides.{behind_both}
 
-each_some : {A B : Type 0} (item : A → List ℕ → Option (B × List ℕ)) (k : A) (ks : List A) (bs rest : List ℕ) (x : B) → item k bs ≡ Some (x, rest) → each_at item (k ∷ ks) bs ≡ behind (x ∷ []) (each_at item ks rest)
+pub each_some : {A B : Type 0} (item : A → List ℕ → Option (B × List ℕ)) (k : A) (ks : List A) (bs rest : List ℕ) (x : B) → item k bs ≡ Some (x, rest) → each_at item (k ∷ ks) bs ≡ behind (x ∷ []) (each_at item ks rest)
 unfolding each_at
 each_some item k ks bs rest x e = rw e refl
 

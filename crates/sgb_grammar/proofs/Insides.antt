@@ -23,7 +23,7 @@ no_quote c h = not-true (c == 34) (and_parts _ _ (and_parts _ (not (c == 92)) h)
 no_backslash : (c : ℕ) → is_text_byte c ≡ true → (c == 92) ≡ false
 no_backslash c h = not-true (c == 92) (and_parts (nat_le 32 c && nat_le c 126 && not (c == 34)) (not (c == 92)) h).1
 
-text_byte : (c : ℕ) (cs : List ℕ) → is_text_byte c ≡ true → inside_at false (c ∷ cs) ≡ behind (c ∷ []) (inside_at false cs)
+pub text_byte : (c : ℕ) (cs : List ℕ) → is_text_byte c ≡ true → inside_at false (c ∷ cs) ≡ behind (c ∷ []) (inside_at false cs)
 unfolding inside_at
 text_byte c cs h = rw (h, no_quote c h, no_backslash c h) refl
 

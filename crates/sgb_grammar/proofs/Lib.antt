@@ -2,5 +2,8 @@ mod Eaches
 mod Insides
 mod Lines
 mod Naturals
+mod SpelledItems
+mod SpelledRecords
+mod Spelling
 mod Weights
 mod Words

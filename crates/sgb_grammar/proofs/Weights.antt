@@ -1,8 +1,8 @@
 -- What lines weigh.
-use Rattle.std.proofs.Common.{◌≡◌, ℕ, suc, ◌+◌, ◌-◌, ◌*◌, ◌/◌, ◌%◌, ◌^◌, ◌<◌, ◌≤◌, ◌==◌, not, Bool, true, List, [], ◌∷◌, ◌++◌, take, drop, length, get_or, refl, sym, ap, ◌∙◌, inl, inr, arith, ◌&&◌, zero, length-append}
+use Rattle.std.proofs.Common.{◌≡◌, ℕ, suc, ◌+◌, ◌-◌, ◌*◌, ◌/◌, ◌%◌, ◌^◌, ◌<◌, ◌≤◌, ◌==◌, not, Bool, true, List, [], ◌∷◌, ◌++◌, take, drop, length, get_or, refl, sym, subst, ap, ◌∙◌, inl, inr, arith, ◌&&◌, zero, length-append}
 use Rattle.std.specs.List.{prefix_len, flat_map}
 use Rattle.std.proofs.lemmas.Bool.{cases_Bool, cases_eq, and_parts, eqb-true}
-use Rattle.std.proofs.lemmas.List.{take_more}
+use Rattle.std.proofs.lemmas.List.{take_more, take-append-drop}
 use Rattle.std.proofs.lemmas.Nat.{pow-add}
 use Rattle.std.proofs.Math.Nat.{add-mul-mod_self_right, mod-add-div', mod-eq_of_lt}
 use Rattle.sgb_grammar.specs.Check.{code_of, counted, lines_of, with_first, covered, weighed, check_of}
@@ -38,16 +38,24 @@ reduced a b c p =
     ap (λ k. k % p) (parts_of_sum a (a % p) (a / p) b c p (mod-add-div' a p))
     ∙ add-mul-mod_self_right (a % p * b + c) (a / p * b) p
 
-pub byte_weighs : (s v code p : ℕ) (xs : List ℕ) (i : ℕ) → i < length xs → v ≡ (s * 2 ^ i + weighed (take i xs)) % p → code ≡ code_of (get_or xs i 0)
-    → (v * 2 + code) % p ≡ (s * 2 ^ (i + 1) + weighed (take (i + 1) xs)) % p
-byte_weighs s v code p xs i h e f =
-    let before = s * 2 ^ i + weighed (take i xs) in
+pub byte_adds : (s v code : ℕ) (xs : List ℕ) (i : ℕ) → i < length xs → v ≡ s * 2 ^ i + weighed (take i xs) → code ≡ code_of (get_or xs i 0)
+    → v * 2 + code ≡ s * 2 ^ (i + 1) + weighed (take (i + 1) xs)
+byte_adds s v code xs i h e f =
     let c = code_of (get_or xs i 0) in
+    let w = weighed (take i xs) in
+    let doubled : v * 2 + code ≡ s * (2 ^ i * 2) + (w * 2 + c) = omega (arith, e, f) in
+    doubled ∙ ap (λ k. s * k + (w * 2 + c)) (sym (pow-add 2 i 1)) ∙ ap (λ k. s * 2 ^ (i + 1) + k) (sym (weighed_more xs i h))
+
+-- a sum of few bytes has a place in 64 bits
+pub byte_fits : (v code i : ℕ) → code < 256 → v + 255 ≤ (2 ^ 30 + 172) * 2 ^ i → v * 2 + code + 255 ≤ (2 ^ 30 + 172) * 2 ^ (i + 1)
+byte_fits v code i h e =
     let power : 2 ^ (i + 1) ≡ 2 ^ i * 2 = pow-add 2 i 1 in
-    let whole : before * 2 + c ≡ s * 2 ^ (i + 1) + weighed (take (i + 1) xs) =
-    (let doubled : before * 2 + c ≡ s * (2 ^ i * 2) + (weighed (take i xs) * 2 + c) = omega arith in
-    doubled ∙ ap (λ k. s * k + (weighed (take i xs) * 2 + c)) (sym power) ∙ ap (λ k. s * 2 ^ (i + 1) + k) (sym (weighed_more xs i h))) in
-    ap (λ k. (k * 2 + code) % p) e ∙ ap (λ k. (before % p * 2 + k) % p) f ∙ sym (reduced before 2 c p) ∙ ap (λ k. k % p) whole
+    let doubled : v * 2 + code + 255 ≤ (2 ^ 30 + 172) * (2 ^ i * 2) = omega (arith, h, e) in
+    subst (λ k. v * 2 + code + 255 ≤ (2 ^ 30 + 172) * k) (sym power) doubled
+
+pub nothing_adds : (s : ℕ) → s ≡ s * 2 ^ 0 + weighed []
+unfolding weighed
+nothing_adds s = omega arith
 
 pub line_weighs : (s p : ℕ) (xs ys : List ℕ)
     → (s * 2 ^ length (xs ++ ys) + weighed (xs ++ ys)) % p ≡ ((s * 2 ^ length xs + weighed xs) % p * 2 ^ length ys + weighed ys) % p
@@ -58,6 +66,13 @@ line_weighs s p xs ys =
     ∙ ap (λ k. (s * (2 ^ length xs * 2 ^ length ys) + k) % p) (weighed-append xs ys)
     ∙ ap (λ k. k % p) apart
     ∙ reduced (s * 2 ^ length xs + weighed xs) (2 ^ length ys) (weighed ys) p
+
+-- a block is the front of a line
+pub block_weighs : (s v p : ℕ) (xs block rest : List ℕ) (k : ℕ) → block ≡ take k xs → rest ≡ drop k xs → v ≡ s * 2 ^ length block + weighed block
+    → (s * 2 ^ length xs + weighed xs) % p ≡ (v % p * 2 ^ length rest + weighed rest) % p
+block_weighs s v p xs block rest k e f g =
+    let whole : xs ≡ block ++ rest = sym (ap (λ ys. ys ++ rest) e ∙ ap (λ ys. take k xs ++ ys) f ∙ take-append-drop k xs) in
+    ap (λ ys. (s * 2 ^ length ys + weighed ys) % p) whole ∙ line_weighs s p block rest ∙ ap (λ k. (k % p * 2 ^ length rest + weighed rest) % p) (sym g)
 
 pub nothing_weighs : (s p : ℕ) → s < p → (s * 2 ^ length {A = ℕ} [] + weighed []) % p ≡ s
 unfolding weighed

@@ -5,5 +5,6 @@ pub mod Field
 pub mod Record
 pub mod Header
 pub mod Saved
+pub mod Spelled
 pub mod Check
 pub mod Private

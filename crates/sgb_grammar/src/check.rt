@@ -6,6 +6,9 @@ ghost use Rattle.sgb_grammar.specs.Check.{code_of, counted, lines_of, weighed, c
 /// The check number is counted modulo this prime.
 const PRIME: u64 = (1 << 30) - 83;
 
+/// So many bytes are weighed before the sum is reduced.
+const BLOCK: usize = 32;
+
 /// The code of each byte.
 static CODES: [u8; 256] = [
     95, 95, 95, 95, 95, 95, 95, 95, 95, 95, 95, 95, 95, 95, 95, 95, //
@@ -49,8 +52,24 @@ fn weigh(sum: u64, line: &[u8]) -> u64
     ensures small { result < 2 ^ 30 - 83 }
 {
     let mut value = sum;
-    'bytes: for byte in line {
-        value = (value * 2 + u64::from(code_of(*byte))) % PRIME;
+    let mut rest = line;
+    'pieces: while !rest.is_empty() {
+        let (block, behind) = rest.split_at(rest.len().min(BLOCK));
+        value = weigh_block(value, block) % PRIME;
+        rest = behind;
+    }
+    value
+}
+
+// The sum, doubled for each byte of the block, with what the block weighs: not reduced, since it has a place in 64 bits.
+fn weigh_block(sum: u64, block: &[u8]) -> u64
+    requires sum { sum < 2 ^ 30 - 83 }
+    requires block { length block.now ≤ 32 }
+    ensures { result ≡ sum * 2 ^ length block.now + weighed block.now }
+{
+    let mut value = sum;
+    'bytes: for byte in block {
+        value = value * 2 + u64::from(code_of(*byte));
     }
     value
 }

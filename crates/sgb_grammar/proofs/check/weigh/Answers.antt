@@ -1,24 +1,24 @@
-use Rattle.std.proofs.Common.{◌≡◌, ◌+◌, ◌-◌, ◌*◌, ◌%◌, ◌^◌, take, length, sym, ap, ◌∙◌, arith}
-use Rattle.std.proofs.lemmas.List.{take_all}
+use Rattle.std.proofs.Common.{◌+◌, ◌-◌, ◌*◌, ◌%◌, ◌^◌, length, refl, sym, ap, ◌∙◌, arith}
+use Rattle.std.proofs.lemmas.Bool.{eqb-true}
 use Rattle.std.proofs.Math.Nat.{mod-lt}
 use Rattle.sgb_grammar.specs.Check.{weighed}
-use Rattle.sgb_grammar.proofs.Weights.{byte_weighs, nothing_weighs}
+use Rattle.sgb_grammar.proofs.Weights.{block_weighs, nothing_weighs, nil_from_length}
 use Rattle.sgb_grammar.proofs.check.weigh.Goals as goal
 
-pub bytes-init : goal.bytes-init
-bytes-init c = (sym (nothing_weighs c.args.sum (2 ^ 30 - 83) c.requires), c.requires)
+pub pieces-init : goal.pieces-init
+pieces-init c = (refl, c.requires)
 
-pub bytes-preserved : goal.bytes-preserved
-bytes-preserved c = (
-  byte_weighs c.args.sum c.bytes.value c.from.result (2 ^ 30 - 83) c.args.line.now c.bytes.byte-index c.bytes-test.true c.bytes.invariant.0 (c.from.ensures ∙ c.code_of.ensures),
-  mod-lt (c.bytes.value * 2 + c.from.result) (omega arith),
+pub pieces-preserved : goal.pieces-preserved
+pieces-preserved c = (
+  c.pieces.invariant.0
+      ∙ block_weighs c.pieces.value c.weigh_block-value.result (2 ^ 30 - 83) c.pieces.rest.now c.split_at.result.0.now c.split_at.result.1.now _ c.split_at.ensures.front c.split_at.ensures.back c.weigh_block-value.ensures,
+  mod-lt c.weigh_block-value.result (omega arith),
 )
 
 pub returns-clause-value : goal.returns-clause-value
 returns-clause-value c =
-    let s = c.args.sum in
-    let line = c.args.line.now in
-    let all : c.bytes.byte-index ≡ length line = omega arith in
-    c.bytes.invariant.0
-    ∙ ap (λ k. (s * 2 ^ k + weighed (take k line)) % (2 ^ 30 - 83)) all
-    ∙ ap (λ xs. (s * 2 ^ length line + weighed xs) % (2 ^ 30 - 83)) (take_all (length line) line (omega arith))
+    let rest = c.pieces.rest.now in
+    let empty = nil_from_length rest (eqb-true (length rest) 0 (sym c.is_empty.ensures ∙ c.pieces-test.false)) in
+    sym (c.pieces.invariant.0
+    ∙ ap (λ xs. (c.pieces.value * 2 ^ length xs + weighed xs) % (2 ^ 30 - 83)) empty
+    ∙ nothing_weighs c.pieces.value (2 ^ 30 - 83) c.pieces.invariant.1)

@@ -1,7 +1,11 @@
-use Rattle.std.proofs.Common.{◌≡◌, ◌+◌, ◌-◌, ◌*◌, ◌%◌, ◌^◌, ◌<◌, take}
+use Rattle.std.proofs.Common.{◌≡◌, ◌+◌, ◌-◌, ◌*◌, ◌%◌, ◌^◌, ◌<◌, length}
 use Rattle.sgb_grammar.specs.Check.{weighed}
 use Rattle.sgb_grammar.proofs.check.weigh.Given as goal
 
-abbrev pub invariant-bytes : goal.invariant-bytes
-invariant-bytes l =
-    (l.value ≡ (l.fn.sum * 2 ^ l.byte-index + weighed (take l.byte-index l.line)) % (2 ^ 30 - 83)) × (l.value < 2 ^ 30 - 83)
+-- the sum so far, with what is left of the line
+abbrev pub invariant-pieces : goal.invariant-pieces
+invariant-pieces l =
+    ((l.fn.sum * 2 ^ length l.line + weighed l.line) % (2 ^ 30 - 83) ≡ (l.value * 2 ^ length l.rest + weighed l.rest) % (2 ^ 30 - 83)) × (l.value < 2 ^ 30 - 83)
+
+abbrev pub decreases-pieces : goal.decreases-pieces
+decreases-pieces l = length l.rest
