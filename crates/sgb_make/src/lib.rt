@@ -16,6 +16,7 @@ pub use chess::board;
 pub use law::ride_law;
 pub use sgb_binary::{BinarySpec, binary, binary_law, rotation_law};
 pub use sgb_perms::{PermsSpec, perms, perms_law};
+pub use sgb_plan::Seed;
 pub use sgb_random::{RandomSpec, random, random_graph, random_law};
 pub use sgb_simplex::{SimplexSpec, SubsetsSpec, simplex, subsets};
 pub use spec::BoardSpec;

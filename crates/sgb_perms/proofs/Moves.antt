@@ -23,9 +23,9 @@ pub moves_start : (b : Builder) (rows : List (List ℕ)) (v : ℕ) (a : List ℕ
 moves_start b rows v a =
     subst (λ all. LeftFrom b all b (move_at rows v a) 0 (length a - 1)) (moves_are rows v a) (from_start b (move_at rows v a) (length a - 1))
 
-pub move_some : (rows : List (List ℕ)) (v : ℕ) (a : List ℕ) (place to : ℕ) → is_descent a place ≡ true → to ≡ place_of rows (exchanged a place) → insertion v to (pos 1) ∷ [] ≡ move_at rows v a place
-move_some rows v a place to descends is =
-    ap (λ t. insertion v t (pos 1) ∷ []) is ∙ sym (cond-true (is_descent a place) (exchange rows v a place ∷ []) [] descends)
+pub move_some : (rows : List (List ℕ)) (v : ℕ) (a : List ℕ) (place from : ℕ) → is_descent a place ≡ true → from ≡ place_of rows (exchanged a place) → insertion from v (pos 1) ∷ [] ≡ move_at rows v a place
+move_some rows v a place from descends is =
+    ap (λ t. insertion t v (pos 1) ∷ []) is ∙ sym (cond-true (is_descent a place) (exchange rows v a place ∷ []) [] descends)
 
 pub move_none : (rows : List (List ℕ)) (v : ℕ) (a : List ℕ) (place : ℕ) → is_descent a place ≡ false → move_at rows v a place ≡ []
 move_none rows v a place rises = cond-false (is_descent a place) (exchange rows v a place ∷ []) [] rises

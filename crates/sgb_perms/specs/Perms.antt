@@ -46,11 +46,11 @@ row_at rows v = slice_index_or rows v []
 abbrev pub place_of : List (List ℕ) → List ℕ → ℕ
 place_of rows a = position_or_len (same_list a) rows
 
--- an exchange leads from a vertex to the one with these two elements exchanged
+-- an exchange leads to a vertex from the one with these two elements exchanged
 abbrev pub exchange : List (List ℕ) → ℕ → List ℕ → ℕ → Insertion
-exchange rows v a place = insertion v (place_of rows (exchanged a place)) (pos 1)
+exchange rows v a place = insertion (place_of rows (exchanged a place)) v (pos 1)
 
--- those of a vertex, from the left
+-- those that lead to a vertex, from the left
 unfoldable pub exchanges_of : List (List ℕ) → ℕ → List ℕ → List Insertion
 exchanges_of rows v a = map (exchange rows v a) (descents a)
 

@@ -12,7 +12,7 @@ use indexmap::IndexSet;
 use sgb_graph::{Builder, Refusal, VertexNo};
 use std::alloc::Global;
 
-// Inserts the exchanges of each row.
+// Inserts the exchanges that lead to each row.
 pub(crate) fn insert_exchanges(
     builder: &mut Builder,
     alloc: Global,
@@ -29,30 +29,30 @@ pub(crate) fn insert_exchanges(
     for v in 0..rows.len() {
         row.clear();
         row.extend_from_slice(rows.row(v))?;
-        insert_from(builder, VertexNo(v as u32), &mut row, places)?;
+        insert_to(builder, VertexNo(v as u32), &mut row, places)?;
     }
     Ok(())
 }
 
-// Inserts the exchanges of the row, which is that of the vertex.
-fn insert_from(
+// Inserts the exchanges that lead to the vertex, whose row this is.
+fn insert_to(
     builder: &mut Builder,
-    from: VertexNo,
+    to: VertexNo,
     row: &mut [u8],
     places: &IndexSet<&[u8]>,
 ) -> Result<(), Refusal>
-    requires vertex { from.0 < n_of builder.old.graph }
+    requires vertex { to.0 < n_of builder.old.graph }
     requires vertices { n_of builder.old.graph ≡ length (shown_by places.now.keys) }
     requires few { n_of builder.old.graph ≤ 65535 }
     requires closed { LeadsWithin (shown_by places.now.keys) row.old }
-    ensures { Inserts builder.old builder.new (exchanges_of (shown_by places.now.keys) from.0 row.old) result }
+    ensures { Inserts builder.old builder.new (exchanges_of (shown_by places.now.keys) to.0 row.old) result }
 {
     for place in 0..row.len().saturating_sub(1) {
         if row[place + 1] < row[place] {
             row.swap(place, place + 1);
-            let to = place_of(places, row);
+            let from = place_of(places, row);
             row.swap(place, place + 1);
-            builder.insert(from, VertexNo(to as u32), 1)?;
+            builder.insert(VertexNo(from as u32), to, 1)?;
         }
     }
     Ok(())

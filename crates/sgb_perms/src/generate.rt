@@ -16,7 +16,7 @@ use std::alloc::Global;
 /// -d repeats them, or cuts them, to d + 1 kinds. A vertex is an arrangement with at most `max_inv` inversions, which are
 /// pairs with the greater element in front; 0 sets no limit. It is named by a character of `0123456789ABCDEF` for each
 /// element. The vertices stand in the lexicographic order of their vectors: how many smaller elements each has behind
-/// it, kind after kind, from the left. From each vertex an arc, or an edge, of length 1 leads to each arrangement that
+/// it, kind after kind, from the left. To each vertex an arc, or an edge, of length 1 leads from each arrangement that
 /// comes of it by the exchange of two neighbours of which the first is greater.
 ///
 /// Refused `BadSpecs` where `n0` is below 1 or `max_inv` below 0, and where there are more than 16 kinds or 255

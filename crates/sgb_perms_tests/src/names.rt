@@ -37,8 +37,25 @@ fn few_inversions(rt: HostRuntime) -> Result<(), Fail> {
     assert!(rt; has_id(&graph, b"perms(1,-2,0,0,0,2,1)"));
     assert!(rt; has_name(&graph, 2, b"201"));
     assert!(rt; has_name(&graph, 4, b"120"));
-    assert!(rt; leads_to(&graph, 2, &[1]));
-    assert!(rt; leads_to(&graph, 4, &[3]));
+    assert!(rt; leads_to(&graph, 0, &[3, 1]));
+    assert!(rt; leads_to(&graph, 1, &[2]));
+    assert!(rt; leads_to(&graph, 2, &[]));
+    assert!(rt; leads_to(&graph, 3, &[4]));
+    assert!(rt; leads_to(&graph, 4, &[]));
+    Ok(())
+}
+
+// Arcs lead from fewer inversions to more.
+#[test]
+fn directed(rt: HostRuntime) -> Result<(), Fail> {
+    let graph = made(rt.alloc(), [1, -2, 0, 0, 0], 0, true)?;
+    assert!(rt; counts(&graph) == (6, 6, 6));
+    assert!(rt; leads_to(&graph, 0, &[3, 1]));
+    assert!(rt; leads_to(&graph, 1, &[2]));
+    assert!(rt; leads_to(&graph, 2, &[5]));
+    assert!(rt; leads_to(&graph, 3, &[4]));
+    assert!(rt; leads_to(&graph, 4, &[5]));
+    assert!(rt; leads_to(&graph, 5, &[]));
     Ok(())
 }
 

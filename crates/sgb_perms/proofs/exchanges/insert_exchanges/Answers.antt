@@ -20,32 +20,32 @@ loop-v-init c =
     subst (λ b. LeftFrom c.args.builder.now (exchanges rows) b (λ v. exchanges_of rows v (row_at rows v)) 0 (length rows)) (sym c.in_ok-reserve.ensures.same)
     (exchanges_start c.args.builder.now rows)
 
-pub insert_from-requires-clause-vertex : goal.insert_from-requires-clause-vertex
-insert_from-requires-clause-vertex c = omega (arith, from_n c.loop-v.invariant, c.requires.vertices, c.len-v-end.ensures.value)
+pub insert_to-requires-clause-vertex : goal.insert_to-requires-clause-vertex
+insert_to-requires-clause-vertex c = omega (arith, from_n c.loop-v.invariant, c.requires.vertices, c.len-v-end.ensures.value)
 
-pub insert_from-requires-clause-vertices : goal.insert_from-requires-clause-vertices
-insert_from-requires-clause-vertices c = from_n c.loop-v.invariant ∙ (c.requires.vertices ∙ ap length (sym c.requires.places))
+pub insert_to-requires-clause-vertices : goal.insert_to-requires-clause-vertices
+insert_to-requires-clause-vertices c = from_n c.loop-v.invariant ∙ (c.requires.vertices ∙ ap length (sym c.requires.places))
 
-pub insert_from-requires-clause-few : goal.insert_from-requires-clause-few
-insert_from-requires-clause-few c = omega (arith, from_n c.loop-v.invariant, c.requires.vertices, c.len-v-end.ensures.value, c.len-v-end.ensures.few)
+pub insert_to-requires-clause-few : goal.insert_to-requires-clause-few
+insert_to-requires-clause-few c = omega (arith, from_n c.loop-v.invariant, c.requires.vertices, c.len-v-end.ensures.value, c.len-v-end.ensures.few)
 
-pub insert_from-requires-clause-closed : goal.insert_from-requires-clause-closed
-insert_from-requires-clause-closed c =
+pub insert_to-requires-clause-closed : goal.insert_to-requires-clause-closed
+insert_to-requires-clause-closed c =
     let rows = c.args.rows.now.rows in
     let is : c.deref_mut.result.now ≡ row_at rows c.loop-v.v =
     c.deref_mut.ensures.value ∙ (c.in_ok-extend_from_slice.ensures.items ∙ ap₂ (λ xs ys. xs ++ ys) c.clear.ensures.items c.row.ensures.value) in
     leads rows (shown_by c.args.places.now.keys) (row_at rows c.loop-v.v) c.deref_mut.result.now c.requires.places is
     (c.requires.closed c.loop-v.v (omega (arith, c.len-v-end.ensures.value)))
 
-pub returns-in_err-insert_from : goal.returns-in_err-insert_from
-returns-in_err-insert_from c =
-    let p = err_from_is_err_and c.from_residual-in_err-insert_from.result c.from_residual-in_err-insert_from.ensures.1 in
+pub returns-in_err-insert_to : goal.returns-in_err-insert_to
+returns-in_err-insert_to c =
+    let p = err_from_is_err_and c.from_residual-in_err-insert_to.result c.from_residual-in_err-insert_to.ensures.1 in
     let rows = c.args.rows.now.rows in
     let is : c.deref_mut.result.now ≡ row_at rows c.loop-v.v =
     c.deref_mut.ensures.value ∙ (c.in_ok-extend_from_slice.ensures.items ∙ ap₂ (λ xs ys. xs ++ ys) c.clear.ensures.items c.row.ensures.value) in
-    let refused : RefusesInsertions c.loop-v.builder (exchanges_of rows c.loop-v.v (row_at rows c.loop-v.v)) c.in_err-insert_from.field-0.0 =
-    subst (λ es. RefusesInsertions c.loop-v.builder es c.in_err-insert_from.field-0.0)
-    (ap₂ (λ rs a. exchanges_of rs c.loop-v.v a) c.requires.places is) c.in_err-insert_from.ensures in
+    let refused : RefusesInsertions c.loop-v.builder (exchanges_of rows c.loop-v.v (row_at rows c.loop-v.v)) c.in_err-insert_to.field-0.0 =
+    subst (λ es. RefusesInsertions c.loop-v.builder es c.in_err-insert_to.field-0.0)
+    (ap₂ (λ rs a. exchanges_of rs c.loop-v.v a) c.requires.places is) c.in_err-insert_to.ensures in
     rw (p.1, p.2) (from_refused (omega (arith, c.len-v-end.ensures.value)) c.loop-v.invariant refused)
 
 pub loop-v-preserved : goal.loop-v-preserved
@@ -54,7 +54,7 @@ loop-v-preserved c =
     let is : c.deref_mut.result.now ≡ row_at rows c.loop-v.v =
     c.deref_mut.ensures.value ∙ (c.in_ok-extend_from_slice.ensures.items ∙ ap₂ (λ xs ys. xs ++ ys) c.clear.ensures.items c.row.ensures.value) in
     from_some (omega (arith, c.len-v-end.ensures.value)) c.loop-v.invariant
-    (c.in_ok-insert_from.ensures ∙ ap₂ (λ rs a. grown c.loop-v.builder (exchanges_of rs c.loop-v.v a)) c.requires.places is)
+    (c.in_ok-insert_to.ensures ∙ ap₂ (λ rs a. grown c.loop-v.builder (exchanges_of rs c.loop-v.v a)) c.requires.places is)
 
 pub returns : goal.returns
 returns c = from_end (omega (arith, c.len-v-end.ensures.value)) c.loop-v.invariant
