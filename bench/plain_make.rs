@@ -1,4 +1,7 @@
 // The same graphs in plain Rust, and how long each call takes: the same insertions into an arena of 32 bytes an arc.
+use std::collections::HashMap;
+use std::collections::hash_map::Entry;
+use std::hash::{BuildHasherDefault, Hasher};
 use std::hint::black_box;
 use std::mem::replace;
 use std::time::{Duration, Instant};
@@ -850,35 +853,27 @@ impl Trees {
 
 // Random graphs.
 
-// The pairs that are joined, each by a number above 0, with their first arcs.
-struct Pairs {
-    entries: Vec<(u32, u32)>,
+#[derive(Default)]
+struct Mixing {
+    hash: u64,
 }
 
-impl Pairs {
-    fn new(count: usize) -> Pairs {
-        Pairs { entries: vec![(0, 0); (count + count / 2 + 1).next_power_of_two()] }
+impl Hasher for Mixing {
+    fn write(&mut self, _bytes: &[u8]) {
+        unreachable!()
     }
 
-    // The first arc of the pair, where it was joined before.
-    #[inline]
-    fn insert(&mut self, from: u32, to: u32, first: u32) -> Option<u32> {
-        let key = (from << 16 | to) + 1;
-        let last = self.entries.len() - 1;
-        let mut at = (u64::from(key).wrapping_mul(FACTOR) >> 32) as usize & last;
-        loop {
-            let (other, known) = self.entries[at];
-            if other == key {
-                return Some(known);
-            }
-            if other == 0 {
-                self.entries[at] = (key, first);
-                return None;
-            }
-            at = (at + 1) & last;
-        }
+    fn write_u32(&mut self, number: u32) {
+        self.hash = u64::from(number).wrapping_mul(FACTOR).rotate_left(26);
+    }
+
+    fn finish(&self) -> u64 {
+        self.hash
     }
 }
+
+// The pairs that are joined, each by a number, with their first arcs.
+type Pairs = HashMap<u32, u32, BuildHasherDefault<Mixing>>;
 
 #[derive(Clone, Copy)]
 struct Random {
@@ -922,7 +917,7 @@ fn random_graph(spec: Random, seed: i64) -> Result<Graph, Refusal> {
         width => min + i64::from(flip.uniform(width + 1)),
     };
     let pairs = if multi > 0 { 0 } else { m as usize };
-    let mut pairs = Pairs::new(pairs);
+    let mut pairs = Pairs::with_capacity_and_hasher(pairs, Default::default());
     let mut made = 0;
     for _ in 0..MOST_ATTEMPTS {
         if made == m {
@@ -935,15 +930,20 @@ fn random_graph(spec: Random, seed: i64) -> Result<Graph, Refusal> {
         }
         if multi <= 0 {
             let ends = if directed { (from, to) } else { (from.min(to), from.max(to)) };
-            if let Some(first) = pairs.insert(ends.0, ends.1, graph.arcs.len() as u32) {
-                if multi < 0 {
-                    let len = length(&mut flip);
-                    for arc in &mut graph.arcs[first as usize..][..numbers as usize] {
-                        arc.len = arc.len.min(len);
-                    }
-                    made += 1;
+            match pairs.entry(ends.0 << 16 | ends.1) {
+                Entry::Vacant(entry) => {
+                    entry.insert(graph.arcs.len() as u32);
                 }
-                continue;
+                Entry::Occupied(entry) => {
+                    if multi < 0 {
+                        let len = length(&mut flip);
+                        for arc in &mut graph.arcs[*entry.get() as usize..][..numbers as usize] {
+                            arc.len = arc.len.min(len);
+                        }
+                        made += 1;
+                    }
+                    continue;
+                }
             }
         }
         graph.insert(from, to, length(&mut flip))?;
