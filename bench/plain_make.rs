@@ -74,14 +74,26 @@ impl Flip {
     }
 
     #[inline]
-    fn uniform(&mut self, bound: u32) -> u32 {
-        let end = 0x8000_0000 - 0x8000_0000 % bound;
+    fn uniform(&mut self, below: Below) -> u32 {
         loop {
             let number = self.next();
-            if number < end {
-                return number % bound;
+            if number < below.end {
+                return number % below.bound;
             }
         }
+    }
+}
+
+// The numbers below a bound, and the greatest multiple of it that draws stay below.
+#[derive(Clone, Copy)]
+struct Below {
+    bound: u32,
+    end: u32,
+}
+
+impl Below {
+    fn new(bound: u32) -> Below {
+        Below { bound, end: 0x8000_0000 - 0x8000_0000 % bound }
     }
 }
 
@@ -912,9 +924,10 @@ fn random_graph(spec: Random, seed: i64) -> Result<Graph, Refusal> {
     }
     graph.arcs.reserve((m * numbers) as usize);
     let mut flip = Flip::new(seed);
-    let length = |flip: &mut Flip| match max.abs_diff(min) as u32 {
-        0 => min,
-        width => min + i64::from(flip.uniform(width + 1)),
+    let (ends, lengths) = (Below::new(n as u32), Below::new(max.abs_diff(min) as u32 + 1));
+    let length = |flip: &mut Flip| match lengths.bound {
+        1 => min,
+        _ => min + i64::from(flip.uniform(lengths)),
     };
     let pairs = if multi > 0 { 0 } else { m as usize };
     let mut pairs = Pairs::with_capacity_and_hasher(pairs, Default::default());
@@ -923,14 +936,14 @@ fn random_graph(spec: Random, seed: i64) -> Result<Graph, Refusal> {
         if made == m {
             return Ok(graph);
         }
-        let from = flip.uniform(n as u32);
-        let to = flip.uniform(n as u32);
+        let from = flip.uniform(ends);
+        let to = flip.uniform(ends);
         if from == to && !loops {
             continue;
         }
         if multi <= 0 {
-            let ends = if directed { (from, to) } else { (from.min(to), from.max(to)) };
-            match pairs.entry(ends.0 << 16 | ends.1) {
+            let (first, second) = if directed { (from, to) } else { (from.min(to), from.max(to)) };
+            match pairs.entry(first << 16 | second) {
                 Entry::Vacant(entry) => {
                     entry.insert(graph.arcs.len() as u32);
                 }
