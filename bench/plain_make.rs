@@ -634,7 +634,7 @@ impl Index {
         let count = bytes.len() / width;
         let mut index = Index { rows: Vec::new(), width: width.div_ceil(8), places: Vec::new() };
         index.rows.reserve(count * index.width);
-        index.places.resize((2 * count + 1).next_power_of_two(), NONE);
+        index.places.resize((4 * count + 1).next_power_of_two(), NONE);
         for (v, row) in bytes.chunks_exact(width).enumerate() {
             for eight in row.chunks(8) {
                 index.rows.push(eight.iter().rev().fold(0, |number, byte| number << 8 | u64::from(*byte)));
