@@ -7,7 +7,7 @@ CC ?= cc
 # Where the benchmarks are built: outside this repository, so that `rt` here does not meet their copies.
 BENCH ?= /tmp/sgb_bench
 
-.PHONY: all demo test quick edits examples growths program bench bench_flip bench_graph bench_lines install clean FORCE
+.PHONY: all demo test quick edits examples growths program bench bench_flip bench_graph bench_make bench_lines install clean FORCE
 
 all: bin/sgb
 
@@ -49,9 +49,9 @@ tests/out/refuse_growth.so: tests/refuse_growth.c
 	mkdir -p tests/out
 	$(CC) -O2 -shared -fPIC -o $@ $<
 
-# Times the generator beside the same one in plain C, graphs beside the same arena in plain Rust, and the
-# program's lines, in one run on one machine. No part of the gate.
-bench: bench_flip bench_graph bench_lines
+# Times the generator beside the same one in plain C, graphs, and standard and random ones, beside the same in
+# plain Rust, and the program's lines, in one run on one machine. No part of the gate.
+bench: bench_flip bench_graph bench_make bench_lines
 
 bench_lines: bin/sgb
 	python3 bench/lines.py bin/sgb
@@ -64,6 +64,10 @@ bench_graph: $(BENCH)/plain_graph
 	sh bench/build.sh graph sgb_graph $(BENCH)
 	python3 bench/compare.py $(BENCH)/graph/crates/graph_bench/out/graph_bench $(BENCH)/plain_graph
 
+bench_make: $(BENCH)/plain_make
+	sh bench/build.sh make "sgb_flip sgb_graph sgb_plan sgb_simplex sgb_perms sgb_binary sgb_random sgb_make" $(BENCH)
+	python3 bench/compare.py --same $(BENCH)/make/crates/make_bench/out/make_bench $(BENCH)/plain_make
+
 $(BENCH)/plain_flip: bench/plain_flip.c
 	mkdir -p $(BENCH)
 	$(CC) -O3 -o $@ $<
@@ -71,6 +75,11 @@ $(BENCH)/plain_flip: bench/plain_flip.c
 $(BENCH)/plain_graph: bench/plain_graph.rs
 	mkdir -p $(BENCH)
 	rustc -O -o $@ $<
+
+# For the processors that `rt` builds for.
+$(BENCH)/plain_make: bench/plain_make.rs
+	mkdir -p $(BENCH)
+	rustc -O -C target-cpu=x86-64-v2 -o $@ $<
 
 install: bin/sgb
 	mkdir -p $(PREFIX)/bin
