@@ -1,17 +1,23 @@
 #!/bin/sh
-# Builds the benchmark NAME over the crate CRATE in a workspace of its own below PLACE, outside this
+# Builds the benchmark NAME over CRATES, words of one argument, in a workspace of its own below PLACE, outside this
 # repository, so that neither the gate nor `rt` here meets the copy. For the same reason the benchmark's
-# source is no file of Rattle here, and becomes one there.
+# source is no file of Rattle here, and becomes one there. One crate is proved anew; several are taken as they
+# were built here, where they were, and those that they stand on are among them.
 set -eu
 name=$1
-crate=$2
+crates=$2
 place=$3/$name
 rm -rf "$place"
 mkdir -p "$place/crates/${name}_bench/src"
-cp -r "crates/$crate" "$place/crates/$crate"
-rm -rf "$place/crates/$crate/out"
+for crate in $crates; do
+    mkdir "$place/crates/$crate"
+    (cd "crates/$crate" && tar cf - --exclude=./out/incremental .) | (cd "$place/crates/$crate" && tar xf -)
+    if [ "$crate" = "$crates" ]; then
+        rm -rf "$place/crates/$crate/out"
+    fi
+    grep "^$crate:" crates.txt >> "$place/crates.txt"
+done
 cp "bench/$name.rt.in" "$place/crates/${name}_bench/src/main.rt"
-grep "^$crate:" crates.txt > "$place/crates.txt"
-echo "${name}_bench: $crate" >> "$place/crates.txt"
+echo "${name}_bench: $crates" >> "$place/crates.txt"
 cd "$place/crates/${name}_bench"
 rt run > ../../first_run
