@@ -13,6 +13,8 @@ const WIDTH: usize = 79;
 const PART: usize = 78;
 const PRIME: u64 = (1 << 30) - 83;
 const BLOCK: usize = 32;
+// The bytes of the longest mark, number and comma.
+const LONGEST: usize = 24;
 const ALPHABET: &[u8; 95] = b"0123456789ABCDEFGHIJKLMNOPQRSTUVWXYZabcdefghijklmnopqrstuvwxyz_^~&@,;.:?!%#$+-*/|\\<=>()[]{}`'\" ";
 
 #[derive(Debug)]
@@ -69,6 +71,18 @@ const fn codes() -> [u8; 256] {
 
 static CODES: [u8; 256] = codes();
 
+const fn pairs() -> [[u8; 2]; 100] {
+    let mut pairs = [[b'0'; 2]; 100];
+    let mut i = 0;
+    while i < 100 {
+        pairs[i] = [b'0' + (i / 10) as u8, b'0' + (i % 10) as u8];
+        i += 1;
+    }
+    pairs
+}
+
+static PAIRS: [[u8; 2]; 100] = pairs();
+
 // The sum is reduced once for a block.
 fn check_number(body: &[u8]) -> u64 {
     let mut sum = 0;
@@ -92,21 +106,6 @@ struct Page {
 }
 
 impl Page {
-    // Writes an item, and a comma behind it where more follow.
-    #[inline]
-    fn item(&mut self, bytes: &[u8]) {
-        let width = bytes.len();
-        if self.column != 0 && self.column + width > WIDTH {
-            self.text.push(b'\n');
-            self.column = 0;
-        }
-        if width > WIDTH {
-            return self.long_item(bytes);
-        }
-        self.text.extend_from_slice(bytes);
-        self.column += width;
-    }
-
     fn long_item(&mut self, bytes: &[u8]) {
         let mut rest = bytes;
         while rest.len() > WIDTH {
@@ -118,29 +117,42 @@ impl Page {
         self.column = rest.len();
     }
 
-    // A mark, unless it is 0, a number, and a comma where more follow.
+    // A mark, unless it is 0, a number, and a comma where more follow. So many bytes as the longest item has are
+    // copied at once, and those that are too many are dropped.
     #[inline]
     fn number(&mut self, mark: u8, number: u64, more: bool) {
-        let mut digits = [0u8; 24];
-        let mut at = digits.len();
+        let mut bytes = [0u8; 2 * LONGEST];
+        let mut at = LONGEST;
         if more {
             at -= 1;
-            digits[at] = b',';
+            bytes[at] = b',';
         }
         let mut rest = number;
-        loop {
+        while rest >= 100 {
+            at -= 2;
+            bytes[at..at + 2].copy_from_slice(&PAIRS[(rest % 100) as usize]);
+            rest /= 100;
+        }
+        if rest >= 10 {
+            at -= 2;
+            bytes[at..at + 2].copy_from_slice(&PAIRS[rest as usize]);
+        } else {
             at -= 1;
-            digits[at] = b'0' + (rest % 10) as u8;
-            rest /= 10;
-            if rest == 0 {
-                break;
-            }
+            bytes[at] = b'0' + rest as u8;
         }
         if mark != 0 {
             at -= 1;
-            digits[at] = mark;
+            bytes[at] = mark;
         }
-        self.item(&digits[at..]);
+        let width = LONGEST - at;
+        if self.column != 0 && self.column + width > WIDTH {
+            self.text.push(b'\n');
+            self.column = 0;
+        }
+        let len = self.text.len();
+        self.text.extend_from_slice(&bytes[at..at + LONGEST]);
+        self.text.truncate(len + width);
+        self.column += width;
     }
 
     fn signed(&mut self, number: i64, more: bool) {
