@@ -707,11 +707,16 @@ fn named(n: u32) -> Graph {
     graph
 }
 
-fn with_edges(n: u32, edges: u32, begin: u32) -> Graph {
+// The arcs of a list are far from one another in memory, or those of the next list stand beside them.
+fn with_edges(n: u32, edges: u32, begin: u32, far: bool) -> Graph {
     let mut graph = named(n);
     for i in 0..edges {
-        let (from, to) = (mixed(begin + 2 * i) % n, mixed(begin + 2 * i + 1) % n);
-        let _ = graph.new_edge(from, to, i64::from(1 + i % 1000));
+        let (from, to) = if far {
+            (mixed(begin + 2 * i), mixed(begin + 2 * i + 1))
+        } else {
+            (i, i + begin + i / n * 7 + 1)
+        };
+        let _ = graph.new_edge(from % n, to % n, i64::from(1 + i % 1000));
     }
     graph
 }
@@ -776,45 +781,63 @@ fn time_next() {
     println!("next {} {check}", start.elapsed().as_nanos() / 100_000);
 }
 
-fn time_lengths(graph: &mut Graph) {
+fn time_lengths(draws: &str, reverts: &str, graph: &mut Graph) {
     let mut flip = Flip::new(1);
     let start = Instant::now();
     let made = random_lengths(graph, &mut flip, false, 1, 1000, 1);
     let picoseconds = start.elapsed().as_nanos() * 1000;
-    if let Ok((delta, draws)) = made {
-        println!("random_lengths {picoseconds} {}", check_of(graph).wrapping_add(draws));
+    if let Ok((delta, count)) = made {
+        println!("{draws} {picoseconds} {}", check_of(graph).wrapping_add(count));
         let start = Instant::now();
         revert_lengths(graph, delta);
         let picoseconds = start.elapsed().as_nanos() * 1000;
-        println!("revert_lengths {picoseconds} {}", check_of(graph));
+        println!("{reverts} {picoseconds} {}", check_of(graph));
     }
 }
 
+struct Operands {
+    first: Graph,
+    second: Graph,
+    dense: Graph,
+    other: Graph,
+    fated: Graph,
+}
+
+impl Operands {
+    fn new(far: bool) -> Operands {
+        Operands {
+            first: with_edges(10_000, 240_000, 0, far),
+            second: with_edges(10_000, 240_000, 1_000_003, far),
+            dense: with_edges(1000, 400_000, 0, far),
+            other: with_edges(1000, 400_000, 1_000_003, far),
+            fated: with_fates(with_edges(1000, 400_000, 0, far)),
+        }
+    }
+}
+
+fn time(name: &str, call: impl FnOnce() -> Result<Graph, Refusal>) {
+    let start = Instant::now();
+    let made = call();
+    tell(name, start, made);
+}
+
 fn main() {
-    let empty = named(990);
-    let (first, second) = (with_edges(10_000, 240_000, 0), with_edges(10_000, 240_000, 1_000_000));
-    let (dense, other) = (with_edges(1000, 400_000, 0), with_edges(1000, 400_000, 1_000_000));
-    let cycle = cycle(250);
-    let fated = with_fates(with_edges(1000, 400_000, 0));
-    let mut lengthened = with_edges(1000, 400_000, 0);
+    let (mut near, mut far) = (Operands::new(false), Operands::new(true));
     for _ in 0..5 {
         time_next();
-        let start = Instant::now();
-        tell("complement", start, complement(&empty, false, false, true));
-        let start = Instant::now();
-        tell("complement_edges", start, complement(&empty, false, false, false));
-        let start = Instant::now();
-        tell("complement_copy", start, complement(&dense, true, false, false));
-        let start = Instant::now();
-        tell("gunion", start, gunion(&first, &second, false, false));
-        let start = Instant::now();
-        tell("gunion_multi", start, gunion(&first, &second, true, false));
-        let start = Instant::now();
-        tell("intersection", start, intersection(&dense, &other, false));
-        let start = Instant::now();
-        tell("product", start, product(&cycle, &cycle, 2, false));
-        let start = Instant::now();
-        tell("induced", start, induced(&fated, "classes", false, false, false));
-        time_lengths(&mut lengthened);
+        let empty = named(990);
+        time("complement", || complement(&empty, false, false, true));
+        time("complement_edges", || complement(&empty, false, false, false));
+        let cycle = cycle(250);
+        time("product", || product(&cycle, &cycle, 2, false));
+        time("gunion_multi", || gunion(&near.first, &near.second, true, false));
+        time("gunion", || gunion(&near.first, &near.second, false, false));
+        time("intersection", || intersection(&near.dense, &near.other, false));
+        time("induced", || induced(&near.fated, "classes", false, false, false));
+        time_lengths("random_lengths", "revert_lengths", &mut near.dense);
+        time("gunion_far", || gunion(&far.first, &far.second, false, false));
+        time("intersection_far", || intersection(&far.dense, &far.other, false));
+        time("induced_far", || induced(&far.fated, "classes", false, false, false));
+        time_lengths("lengths_far", "revert_far", &mut far.dense);
     }
 }
