@@ -56,6 +56,23 @@ bench: bench_flip bench_graph bench_make bench_lines
 bench_lines: bin/sgb
 	python3 bench/lines.py bin/sgb
 
+# The combinations and random lengths, and saved texts, beside the same in plain Rust.
+bench: bench_combine bench_text
+
+.PHONY: bench_combine bench_text
+
+bench_combine: $(BENCH)/plain_combine
+	sh bench/build.sh combine "sgb_flip sgb_graph sgb_plan sgb_operand sgb_induced sgb_lengths sgb_combine" $(BENCH)
+	python3 bench/compare.py --same $(BENCH)/combine/crates/combine_bench/out/combine_bench $(BENCH)/plain_combine
+
+bench_text: $(BENCH)/plain_text
+	sh bench/build.sh text "sgb_graph sgb_grammar sgb_text" $(BENCH)
+	python3 bench/compare.py --same $(BENCH)/text/crates/text_bench/out/text_bench $(BENCH)/plain_text
+
+$(BENCH)/plain_combine $(BENCH)/plain_text: $(BENCH)/%: bench/%.rs
+	mkdir -p $(BENCH)
+	rustc -O --edition 2021 -C target-cpu=x86-64-v2 -o $@ $<
+
 bench_flip: $(BENCH)/plain_flip
 	sh bench/build.sh flip sgb_flip $(BENCH)
 	python3 bench/compare.py $(BENCH)/flip/crates/flip_bench/out/flip_bench $(BENCH)/plain_flip
