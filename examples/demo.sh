@@ -12,6 +12,9 @@ cat <<'END'
 That run is UNPROVED: `rt try` compiles the code and checks none of its contracts. `make` proves the program
 and each function that it stands on, in some minutes, and leaves it as bin/sgb. Then try
 
+    bin/sgb queen                           the moves of a queen on a board of 3 by 4
+    bin/sgb run examples/standard.sgb       a tour of the standard graphs and their combinations
+    bin/sgb run examples/saved.sgb          a random graph, saved, loaded and found to be the same
     bin/sgb run examples/byhand.sgb         a house, drawn by edges, with labels
     bin/sgb run examples/cutting.sgb        edits of a graph, undone and redone
     bin/sgb run examples/fields.sgb         utility fields: numbers, texts, vertices and arcs

@@ -3,8 +3,8 @@
 
     growths.py PROGRAM LIBRARY [OTHER..]
 
-Each run either has written nothing and told `sgb: no room`, or one line of it is answered
-`line L: refused 1 no room` and all others as if that line had done nothing. What they answer then is
+Each run either has written nothing and told `sgb: no room`, or one unit of it, a line or a line with its text, is answered
+`line L: refused 1 no room` and all others as if that unit had done nothing. What they answer then is
 asked of the program itself, or of the command OTHER, another implementation that reads a script from a file.
 A command that takes no memory of its own is refused only where the journal grows: where a multiple of 1,024
 commands stand and nothing is undone.
@@ -36,11 +36,28 @@ GRAPHS = (b'graph g 3\ngraph h 2\narc g 0 1 5\nedge g 1 2 -6\n'
           + b'set g A1 b -3\nset g A1 b 0\nid g ""\nshow g\n'
           + b'undo\n' * 67 + b'list\n' + b'redo\n' * 67 + b'show g\nlist\ngen\n')
 
+# A graph of two vertices and an edge, saved.
+EDGE = (b'* GraphBase graph (util_types ZZZZZZZZZZZZZZ,2V,2A)\n"gb_new_graph(2)",2,2\n* Vertices\n"",A0\n"",A1\n'
+        b'* Arcs\nV1,0,5\nV0,0,5\n* Checksum 450523822\n')
+
+# All commands that make graphs, and random lengths; saved texts; all undone, and made again. At the end a text goes on.
+MAKERS = (b'board b 3 0 0 0 1 0 0\nsimplex s 1 0 0 0 0 0 0\nsubsets p 2 1 -3 0 0 0 1 0\nperms c 1 -1 0 0 0 0 0\n'
+          b'binary t 2 0 0\nrandom r 4 2 0 0 0 1 6 -\nrandom q 4 2 -1 0 1 1 6 1993\nlist\n'
+          b'complement d b 0 0 0\ngunion u b d 0 0\nintersection i u b 0\nproduct x b t 2 0\n'
+          b'set b V0 z 2\nset b V1 z -1\nset b V2 z -1\ninduced j b "classes" 1 0 0\nshow j\n'
+          b'lengths u 0 1 100 -\nlengths i 1 1 100 7\nshow u\nsave u\n'
+          b'load h check\n' + EDGE + b'.\nload k any\n' + EDGE + b'.\nshow h\nlist\ngen\n'
+          + b'undo\n' * 18 + b'list\ngen\n' + b'redo\n' * 18 + b'list\ngen\nsave j\nload m check\n' + EDGE)
+
 # The first words of the lines that are refused once at least.
 MET_DRAWS = {b'seed', b'unif'}
 MET_GRAPHS = {b'graph', b'arc', b'edge', b'set', b'label', b'id', b'redo'}
 
+MET_MAKERS = {b'board', b'simplex', b'subsets', b'perms', b'binary', b'random', b'complement', b'gunion', b'intersection',
+              b'product', b'induced', b'lengths', b'save', b'load', b'redo'}
+
 QUERIES = (b'gen', b'list', b'show')
+NO_MEMORY = (b'seed', b'next', b'unif', b'cut', b'len', b'set', b'types', b'drop')
 
 
 def run(program, script, environment):
@@ -56,23 +73,45 @@ def run_other(command, script):
         return subprocess.run(command + [file.name], stdout=subprocess.PIPE).stdout
 
 
+def word(line):
+    """The first word of a line."""
+    return line.split(b' ')[0]
+
+
 def takes_memory(line):
-    """Whether a command takes memory of its own: for a graph, an arc, an edge or a text."""
-    return line.split(b' ')[0] in (b'graph', b'arc', b'edge') or b'"' in line
+    """Whether a command takes memory of its own: for a graph, an arc, an edge, lengths or a text."""
+    return word(line) not in NO_MEMORY or b'"' in line
+
+
+def units(script):
+    """The units of a script: the number of the first line of each, and how many lines it has."""
+    found, in_text = [], False
+    for number, line in enumerate(script.splitlines(), 1):
+        if in_text:
+            found[-1][1] += 1
+            in_text = line != b'.'
+        else:
+            found.append([number, 1])
+            in_text = word(line) == b'load'
+    return found
 
 
 def growing_lines(script):
-    """The numbers of the lines that may want for memory, where every command of the script is accepted."""
+    """The numbers of the units that may want for memory, where every command of the script is accepted."""
     growing = set()
     standing, undone = [], []
-    for number, line in enumerate(script.splitlines(), 1):
+    lines = script.splitlines()
+    for number, _ in units(script):
+        line = lines[number - 1]
         if line == b'undo':
             undone.append(standing.pop())
         elif line == b'redo':
             if takes_memory(undone[-1]):
                 growing.add(number)
             standing.append(undone.pop())
-        elif line.split(b' ')[0] not in QUERIES:
+        elif word(line) == b'save':
+            growing.add(number)
+        elif word(line) not in QUERIES:
             if takes_memory(line) or len(standing) % 1024 == 0 and not undone:
                 growing.add(number)
             standing.append(line)
@@ -87,9 +126,10 @@ def refused_line(result):
 
 
 def with_refused(transcript_of, script, number):
-    """The transcript of a script whose line of this number alone has no room."""
+    """The transcript of a script whose unit of this number alone has no room."""
     lines = script.split(b'\n')
-    lines[number - 1] = b'?'
+    size = dict(units(script))[number]
+    lines[number - 1:number - 1 + size] = [b'?'] + [b'#'] * (size - 1)
     answer = b'line %d: refused ' % number
     return transcript_of(b'\n'.join(lines)).replace(answer + b'100 bad command\n',
                                                     answer + b'1 no room\n')
@@ -129,7 +169,7 @@ class Growths:
         return (line in growing and result.returncode == 1 and result.stderr == b''
                 and result.stdout == with_refused(self.transcript_of, script, line))
 
-    def try_script(self, script, wanted):
+    def try_script(self, script, wanted, status=0):
         growing = growing_lines(script)
         lines = script.split(b'\n')
         words = set()
@@ -143,7 +183,7 @@ class Growths:
             self.tell(self.is_right(script, growing, result, line),
                       'growth', number, 'refused: wrong', result)
         self.tell(not is_met, 'more growths than expected')
-        self.tell(result.returncode == 0 and result.stdout == self.transcript_of(script),
+        self.tell(result.returncode == status and result.stdout == self.transcript_of(script),
                   'a run with no growth refused differs')
         self.tell(wanted <= words, 'never refused:', wanted - words)
 
@@ -153,6 +193,7 @@ def main():
     growths = Growths(program, library, sys.argv[3:])
     growths.try_script(DRAWS, MET_DRAWS)
     growths.try_script(GRAPHS, MET_GRAPHS)
+    growths.try_script(MAKERS, MET_MAKERS, status=1)
     print('growths: %d passed, %d failed' % (growths.passed, growths.failed))
     return 1 if growths.failed else 0
 

@@ -10,12 +10,28 @@ import subprocess
 import sys
 import tempfile
 
+# Two vertices that an edge joins, as they are saved.
+EDGE = b'''* GraphBase graph (util_types ZZZZZZZZZZZZZZ,2V,2A)
+"gb_new_graph(2)",2,2
+* Vertices
+"",A0
+"",A1
+* Arcs
+V1,0,5
+V0,0,5
+* Checksum 450523822
+'''
+
+EDGE_TOLD = b'"gb_new_graph(2)"\n2 vertices, 2 arcs, 2 numbers\n'
+
 # The files of the folder in which the program runs.
 FILES = {'next': b'next\n', 'unfinished': b'next\nnext', 'refused': b'bogus\nnext\n', 'empty': b'',
-         '-': b'seed 7\n', '--help': b'unif 1\n'}
+         '-': b'seed 7\n', '--help': b'unif 1\n', 'edge': EDGE, 'wrong': EDGE.replace(b'22\n', b'23\n'),
+         'large': EDGE.replace(b',2V', b',70000V'), 'longest': b'\n' * 16777216, 'long': b'\n' * 16777217}
 
 NEXT = b'2029883356\n'
 REFUSED = b'line 1: refused 100 bad command\n'
+BAD_SAVED = b'refused 20 bad saved graph\n'
 
 # The words of a command line, the status, and what standing output and standard error get.
 COMMAND_LINES = [
@@ -44,10 +60,57 @@ COMMAND_LINES = [
     (['run', 'next/next'], 2, b'', b'sgb: cannot open next/next\n'),
     # A directory opens, and then the read fails.
     (['run', '.'], 2, b'', b'sgb: read failed\n'),
+    (['queen', 'next'], 2, b'', b'sgb: bad command line\n'),
+    (['queen', '--any'], 2, b'', b'sgb: bad command line\n'),
+    (['check', 'edge'], 0, EDGE_TOLD, b''),
+    (['check', 'wrong'], 1, b'refused 11 check number is wrong\n', b''),
+    (['check', '--any', 'wrong'], 0, EDGE_TOLD, b''),
+    (['check', 'wrong', '--any'], 0, EDGE_TOLD, b''),
+    (['check', '--any', 'edge'], 0, EDGE_TOLD, b''),
+    (['check', 'large'], 1, b'refused 40 too large\n', b''),
+    (['check', 'empty'], 1, BAD_SAVED, b''),
+    (['check', '--any', 'empty'], 1, BAD_SAVED, b''),
+    (['check', '-'], 1, BAD_SAVED, b''),
+    (['check', '--', '--help'], 1, BAD_SAVED, b''),
+    (['check', '--', 'edge'], 0, EDGE_TOLD, b''),
+    (['check', '--any', '--', 'wrong'], 0, EDGE_TOLD, b''),
+    (['check', 'longest'], 1, BAD_SAVED, b''),
+    (['check', 'long'], 2, b'', b'sgb: too long\n'),
+    (['check'], 2, b'', b'sgb: bad command line\n'),
+    (['check', '--any'], 2, b'', b'sgb: bad command line\n'),
+    (['check', '--any', '--any', 'edge'], 2, b'', b'sgb: bad command line\n'),
+    (['check', '--all', 'edge'], 2, b'', b'sgb: bad command line\n'),
+    (['check', 'edge', 'edge'], 2, b'', b'sgb: bad command line\n'),
+    (['check', 'absent'], 2, b'', b'sgb: cannot open absent\n'),
+    (['check', '--', '--any'], 2, b'', b'sgb: cannot open --any\n'),
+    (['check', '.'], 2, b'', b'sgb: read failed\n'),
 ]
 
+# The front of the queen's moves, which are 110 lines.
+QUEEN = b'''Queen Moves on a 3x4 Board
+
+  The graph whose official name is
+gunion(board(3,4,0,0,-1,0,0),board(3,4,0,0,-2,0,0),0,0)
+  has 12 vertices and 92 arcs:
+
+0.0
+  -> 1.1, length 1
+  -> 2.2, length 2
+  -> 0.1, length 1
+  -> 0.2, length 2
+  -> 0.3, length 3
+  -> 1.0, length 1
+  -> 2.0, length 2
+0.1
+'''
+
 # Each tells the statuses and where the language is described. What else they say is free.
-HELP = [['--help'], ['-h'], ['help'], ['run', '--help'], ['run', '-h'], ['help', 'run']]
+HELP = [['--help'], ['-h'], ['help'], ['run', '--help'], ['run', '-h'], ['help', 'run'], ['queen', '--help'],
+        ['check', '--help'], ['check', '-h'], ['help', 'check']]
+
+# A script of 16,777,216 bytes, all of them a text of long lines.
+FILLED = b'load g any\n' + (b'x' * 8191 + b'\n') * 2047
+FILLED += b'x' * (16777216 - len(FILLED) - 3) + b'\n.\n'
 
 # Scripts on standard input, up to the greatest that is run and past it.
 SCRIPTS = [
@@ -58,6 +121,13 @@ SCRIPTS = [
     (b'\n' * 16777217, 2, b'', b'sgb: too long\n'),
     (b'next\n' + b'\n' * 16777211, 0, NEXT, b''),
     (b'next\n' + b'\n' * 16777212, 2, NEXT, b'sgb: too long\n'),
+    # Nearly all of the greatest script is one text; one byte more, and its unit is not answered.
+    (FILLED, 1, b'line 1: refused 20 bad saved graph\n', b''),
+    (FILLED + b'\n', 2, b'line 1: refused 20 bad saved graph\n', b'sgb: too long\n'),
+    (FILLED.replace(b'load', b'load '), 2, b'', b'sgb: too long\n'),
+    # A text without its end, and one with a line that is too long.
+    (b'load g any\nnext\n', 1, b'line 1: refused 100 bad command\n', b''),
+    (b'load g any\n' + b'x' * 8193 + b'\n.\nnext\n', 1, b'line 1: refused 100 bad command\n' + NEXT, b''),
     # A fault has status 2 where lines were refused before.
     (b'bogus\n' + b'\n' * 16777211, 2, REFUSED, b'sgb: too long\n'),
     # The line that passes the end is not done.
@@ -108,6 +178,11 @@ class Tests:
             self.tell(status == 0 and told and complaint == b'', words, 'ended', status, said, complaint)
         self.tell(self.run(['--version'])[::2] == (0, b''), 'the version is not told')
 
+    def try_queen(self):
+        status, moves, complaint = self.run(['queen'])
+        told = moves.startswith(QUEEN) and moves.endswith(b'\n') and moves.count(b'\n') == 110
+        self.tell(status == 0 and told and complaint == b'', 'queen ended', status, moves, complaint)
+
     def try_readers(self):
         read_failed = 2, b'', b'sgb: read failed\n'
         opened = os.open(self.folder, os.O_RDONLY)
@@ -124,6 +199,9 @@ class Tests:
             self.expect(write_failed, 'a full device, early', ['run'], long_script, stdout=full)
             self.expect(write_failed, 'a full device, a refused line', ['run'], b'bogus\n', stdout=full)
             self.expect(write_failed, 'a full device, help', ['--help'], stdout=full)
+            self.expect(write_failed, 'a full device, queen', ['queen'], stdout=full)
+            self.expect(write_failed, 'a full device, an accepted graph', ['check', 'edge'], stdout=full)
+            self.expect(write_failed, 'a full device, a refused graph', ['check', 'wrong'], stdout=full)
             self.expect((0, None, b''), 'a full device, nothing to write', ['run'], stdout=full)
         for script in b'next\n', long_script:
             gone, pipe = os.pipe()
@@ -166,6 +244,7 @@ def main():
         for script, *wanted in SCRIPTS:
             tests.expect(tuple(wanted), script[:20], ['run'], script)
         tests.try_help()
+        tests.try_queen()
         tests.converse()
         tests.try_writers()
         tests.try_readers()

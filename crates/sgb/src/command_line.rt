@@ -1,16 +1,17 @@
 //! The command line, read with `clap`.
 
 use crate::complaint::Complaint;
-use clap::{Arg, Command};
+use clap::{Arg, ArgAction, ArgMatches, Command};
 use sgb_shell::RunFault;
+use sgb_text::CheckRule;
 use std::alloc::{AllocError, Global};
 
 // What stands below the help.
 const MORE_HELP: &str = "\
 Status:
-  0  every line was accepted
-  1  a line was refused
-  2  a fault: a bad command line, a file that cannot be opened, a failed read or write, a script that
+  0  every line, or the saved graph, was accepted
+  1  a line, or the saved graph, was refused
+  2  a fault: a bad command line, a file that cannot be opened, a failed read or write, a script or file that
      is too long, or no room; a line on standard error tells which
 
 Example:
@@ -25,6 +26,10 @@ pub enum Task<'a> {
     Explained,
     /// `sgb run [FILE]`: to run a script, from a file or from standard input.
     Run(Option<&'a str>),
+    /// `sgb queen`: to write the queen's moves.
+    Queen,
+    /// `sgb check [--any] FILE`: to check the saved graph of a file by this rule.
+    Check(&'a str, CheckRule),
 }
 
 /// Reads the command line. Help and the version are printed at once.
@@ -39,22 +44,66 @@ pub fn read_task<'a>(rt: &HostRuntime, words: &'a [String]) -> Result<Task<'a>, 
             };
         }
     };
-    match matches.subcommand_matches("run") {
-        Some(run) => Ok(Task::Run(run.get_str("FILE"))),
+    if let Some(run) = matches.subcommand_matches("run") {
+        return Ok(Task::Run(run.get_str("FILE")));
+    }
+    if let Some(check) = matches.subcommand_matches("check") {
+        return task_of_check(check);
+    }
+    match matches.subcommand_matches("queen") {
+        Some(_) => Ok(Task::Queen),
+        None => Err(Complaint::CommandLine),
+    }
+}
+
+fn task_of_check<'a>(matches: &ArgMatches<'a>) -> Result<Task<'a>, Complaint<'a>> {
+    let rule = if matches.get_flag("any") {
+        CheckRule::Any
+    } else {
+        CheckRule::Match
+    };
+    match matches.get_str("FILE") {
+        Some(file) => Ok(Task::Check(file, rule)),
         None => Err(Complaint::CommandLine),
     }
 }
 
 fn command<'a>(alloc: Global) -> Result<Command<'a>, AllocError> {
-    let file = Arg::new(alloc, "FILE").help("the script; without it, standard input");
-    let run = Command::new(alloc, "run")
-        .about("Runs a script and writes its transcript")
-        .after_help(MORE_HELP)
-        .arg(file)?;
     Command::new(alloc, "sgb")
         .version("0.1.0")
         .about("Reproducible test graphs after the Stanford GraphBase")
         .after_help(MORE_HELP)
         .subcommand_required(true)
-        .subcommand(run)
+        .subcommand(run_command(alloc)?)?
+        .subcommand(queen_command(alloc))?
+        .subcommand(check_command(alloc)?)
+}
+
+fn run_command<'a>(alloc: Global) -> Result<Command<'a>, AllocError> {
+    let file = Arg::new(alloc, "FILE").help("the script; without it, standard input");
+    Command::new(alloc, "run")
+        .about("Runs a script and writes its transcript")
+        .after_help(MORE_HELP)
+        .arg(file)
+}
+
+fn queen_command<'a>(alloc: Global) -> Command<'a> {
+    Command::new(alloc, "queen")
+        .about("Writes the queen's moves on a board of 3 by 4")
+        .after_help(MORE_HELP)
+}
+
+fn check_command<'a>(alloc: Global) -> Result<Command<'a>, AllocError> {
+    let any = Arg::new(alloc, "any")
+        .long("any")
+        .action(ArgAction::SetTrue)
+        .help("accepts any check number, as a file of the original GraphBase needs");
+    let file = Arg::new(alloc, "FILE")
+        .required(true)
+        .help("the saved graph");
+    Command::new(alloc, "check")
+        .about("Tells the id and the counts of a saved graph, or why it is refused")
+        .after_help(MORE_HELP)
+        .arg(any)?
+        .arg(file)
 }

@@ -1,12 +1,14 @@
-//! The program `sgb`, which runs scripts on a session of graphs.
+//! The program `sgb`, which runs scripts on a session of graphs, writes the queen's moves and checks saved graphs.
 #![tactic(auto)]
 
 mod command_line;
 mod complaint;
+mod programs;
 mod transcript;
 
 use command_line::{Task, read_task};
 use complaint::Complaint;
+use programs::{print_check, print_queen};
 use sgb_shell::{RunFault, exit_status};
 use std::env;
 use std::fs::File;
@@ -33,17 +35,24 @@ fn words(rt: &HostRuntime) -> Result<Vec<String>, Complaint<'static>> {
     Ok(words)
 }
 
-// Does what the command line asks for, and answers whether no line was refused.
+// Does what the command line asks for, and answers whether nothing was refused.
 fn perform<'a>(rt: &HostRuntime, words: &'a [String]) -> Result<bool, Complaint<'a>> {
     match read_task(rt, words)? {
         Task::Explained => Ok(true),
         Task::Run(None) => Ok(print_transcript(rt, rt.reader())?),
-        Task::Run(Some(name)) => {
-            let Ok(file) = File::open(rt, name) else {
-                return Err(Complaint::CannotOpen(name));
-            };
-            Ok(print_transcript(rt, file)?)
+        Task::Run(Some(name)) => Ok(print_transcript(rt, open(rt, name)?)?),
+        Task::Queen => {
+            print_queen(rt)?;
+            Ok(true)
         }
+        Task::Check(name, rule) => Ok(print_check(rt, open(rt, name)?, rule)?),
+    }
+}
+
+fn open<'a>(rt: &HostRuntime, name: &'a str) -> Result<File, Complaint<'a>> {
+    match File::open(rt, name) {
+        Ok(file) => Ok(file),
+        Err(_) => Err(Complaint::CannotOpen(name)),
     }
 }
 

@@ -15,7 +15,7 @@ use Rattle.sgb_combine.specs.Combined.{vertices_of}
 abbrev pub leads_to : List Spoke → ℕ → Bool
 leads_to ss w = list_any (λ s. s.to == w) ss
 
--- u and w are to be joined, if the graph joins them or not
+-- u is to be joined to w, where `joined` says if the graph joins it to w
 abbrev pub is_wanted : ComplementSpec → ℕ → Bool → ℕ → Bool
 is_wanted spec u joined w =
     (if spec.copy then joined else not joined) && (spec.loops || not (u == w)) && (spec.directed || nat_le u w)

@@ -9,18 +9,20 @@ use sgb_graph::{Builder, Graph, Label, Refusal, Text, Types, Util, VertexNo};
 use sgb_plan::text_of;
 use std::alloc::Global;
 
-// A builder with this id and the vertices of the graph, by their names alone.
+// A builder with this id and the vertices of the graph, by their names alone, and with room for so many insertions.
 pub(crate) fn begin_as(
     alloc: Global,
     id: Text,
     graph: &Graph,
     directed: bool,
+    room: usize,
 ) -> Result<Builder, Refusal>
     requires { length id ≤ 160 }
     ensures { Begins id directed (vertices_of graph.now) result }
 {
     let mut builder = Builder::new(alloc, id, Types::none(), directed);
     name_vertices(&mut builder, alloc, graph)?;
+    builder.reserve(room)?;
     Ok(builder)
 }
 
@@ -33,6 +35,13 @@ fn name_vertices(builder: &mut Builder, alloc: Global, graph: &Graph) -> Result<
         builder.push_vertex(Label::new(label), no_fields())?;
     }
     Ok(())
+}
+
+// About how many insertions the arcs of a graph come to, each edge being two arcs. It only tells for how many there is
+// to be room, so it promises nothing.
+pub(crate) fn room_of(graph: &Graph, directed: bool) -> usize {
+    let arcs = graph.m() as usize;
+    if directed { arcs } else { arcs / 2 }
 }
 
 // The fields of a vertex without values.

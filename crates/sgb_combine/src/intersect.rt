@@ -8,7 +8,7 @@ ghost use Rattle.sgb_plan.specs.Plan.{IsMade};
 ghost use Rattle.sgb_combine.specs.Lowest.{lowest};
 ghost use Rattle.sgb_combine.specs.Intersection.{firsts, longer, joints, intersection_at, plan_of_intersection};
 
-use crate::begin::begin_as;
+use crate::begin::{begin_as, room_of};
 use crate::lowest::Lowest;
 use crate::run::{insert_spoke, keep_upward, read_if_there};
 use sgb_graph::{Builder, Graph, Refusal, VertexNo};
@@ -16,10 +16,10 @@ use sgb_operand::{Spoke, check_operand};
 use sgb_plan::{Part, id_of_two};
 use std::alloc::{AllocError, Global};
 
-/// The intersection of two graphs: the vertices of the first, and for each pair of them that both graphs join one arc
-/// or edge, in the first graph's order. Its length is the larger of the least length in the first graph and the least
-/// in the second. Edges are made from their smaller end on. This is `intersection` of the GraphBase, without its
-/// question for several arcs.
+/// The intersection of two graphs: the vertices of the first, and from each one arc or edge to each that it is joined
+/// to in both graphs, in the order of its list in the first. Its length is the larger of the least length in the first
+/// graph and the least in the second. Edges are made from their smaller end on, whose lists alone are asked. This is
+/// `intersection` of the GraphBase, with its `multi` always 0.
 ///
 /// Refused `BadOperand` where an arc of a graph leads to no vertex, and then `TooLarge` where the intersection would
 /// give out more than 1,000,000 arc numbers.
@@ -29,13 +29,14 @@ pub fn intersection(
     second: &Graph,
     directed: bool,
 ) -> Result<Graph, Refusal>
-    ensures { IsMade (plan_of_intersection first.now second.now directed) result }
+    ensures made { IsMade (plan_of_intersection first.now second.now directed) result }
 {
     check_operand(first)?;
     check_operand(second)?;
     let flags = [Part::Flag(false), Part::Flag(directed)];
     let id = id_of_two(alloc, "intersection", first.id(), second.id(), &flags)?;
-    let mut builder = begin_as(alloc, id, first, directed)?;
+    let room = room_of(first, directed).min(room_of(second, directed));
+    let mut builder = begin_as(alloc, id, first, directed, room)?;
     insert_intersections(&mut builder, alloc, first, second, directed)?;
     Ok(builder.finish())
 }

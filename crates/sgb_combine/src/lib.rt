@@ -20,6 +20,6 @@ pub use negate::complement;
 pub use pairs::product;
 pub use sgb_induced::{InducedSpec, induced, least_law};
 pub use sgb_lengths::{LengthsDelta, LengthsSpec, lengths_law, random_lengths, revert_lengths};
-pub use sgb_operand::{Spoke, check_operand, read_spokes, spoke_law};
+pub use sgb_operand::{Spoke, check_operand, read_spokes, spoke_at, spoke_law};
 pub use spec::{ComplementSpec, GunionSpec, ProductSpec};
 pub use unite::gunion;

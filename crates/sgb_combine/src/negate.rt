@@ -9,7 +9,7 @@ ghost use Rattle.sgb_combine.specs.Complement.{is_wanted, unit_step, wanted_step
 ghost use Rattle.sgb_combine.specs.Private.Targets.{IsInOrder};
 
 use crate::ComplementSpec;
-use crate::begin::begin_as;
+use crate::begin::{begin_as, room_of};
 use crate::lowest::Lowest;
 use sgb_graph::{Builder, Graph, Refusal, VertexNo};
 use sgb_operand::{Spoke, check_operand, read_spokes};
@@ -23,7 +23,7 @@ use std::alloc::{AllocError, Global};
 /// Refused `BadOperand` where an arc of the graph leads to no vertex, and then `TooLarge` where the complement would
 /// give out more than 1,000,000 arc numbers.
 pub fn complement(alloc: Global, graph: &Graph, spec: &ComplementSpec) -> Result<Graph, Refusal>
-    ensures { IsMade (plan_of_complement graph.now spec.now) result }
+    ensures made { IsMade (plan_of_complement graph.now spec.now) result }
 {
     check_operand(graph)?;
     let flags = [
@@ -32,9 +32,25 @@ pub fn complement(alloc: Global, graph: &Graph, spec: &ComplementSpec) -> Result
         Part::Flag(spec.directed),
     ];
     let id = id_of_one(alloc, "complement", graph.id(), &flags)?;
-    let mut builder = begin_as(alloc, id, graph, spec.directed)?;
+    let room = room_for(graph, *spec);
+    let mut builder = begin_as(alloc, id, graph, spec.directed, room)?;
     insert_complement(&mut builder, alloc, graph, *spec)?;
     Ok(builder.finish())
+}
+
+// For how many insertions there is to be room: no more than are made, but for loops, where no arcs are parallel.
+fn room_for(graph: &Graph, spec: ComplementSpec) -> usize {
+    let joined = room_of(graph, spec.directed);
+    if spec.copy {
+        return joined;
+    }
+    let n = graph.n() as usize;
+    let pairs = n.saturating_mul(n);
+    if spec.directed {
+        pairs.saturating_sub(joined)
+    } else {
+        (pairs / 2).saturating_sub(joined)
+    }
 }
 
 fn insert_complement(

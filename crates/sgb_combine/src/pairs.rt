@@ -8,7 +8,7 @@ ghost use Rattle.sgb_combine.specs.Private.Begin.{Begins};
 ghost use Rattle.sgb_combine.specs.Private.Pairs.{IsLongest};
 
 use crate::ProductSpec;
-use crate::begin::no_fields;
+use crate::begin::{no_fields, room_of};
 use crate::multiply::insert_product;
 use sgb_graph::{Builder, Graph, Label, Refusal, Text, Types, VertexNo};
 use sgb_operand::check_operand;
@@ -16,9 +16,10 @@ use sgb_plan::{Part, id_of_two, text_of};
 use std::alloc::{AllocError, Global};
 
 /// The product of two graphs: a vertex for each pair of theirs, named by both names with a comma between. The
-/// cartesian product (kind 0) leads from a pair along an arc of the first or along one of the second, the direct one
-/// (kind 1) along an arc of each, as long as the shorter, and the strong one (kind 2) both ways. This is `product` of
-/// the GraphBase.
+/// cartesian product (kind 0) leads from a pair along an arc of its first vertex, or along one of its second; the direct
+/// one (kind 1) along an arc of each at once, as long as the shorter; and the strong one (kind 2) in all these ways, in
+/// this order. Where edges are made, what leads to a pair with a smaller number and the second halves of loops are
+/// passed over. This is `product` of the GraphBase.
 ///
 /// Refused `BadSpecs` for another kind; then `BadOperand` where an arc of a graph leads to no vertex, or where a pair's
 /// name would have more than 4,095 bytes; then `TooLarge` where there would be more than 65,535 vertices or 1,000,000
@@ -29,11 +30,11 @@ pub fn product(
     second: &Graph,
     spec: &ProductSpec,
 ) -> Result<Graph, Refusal>
-    ensures { IsMade (plan_of_product first.now second.now spec.now) result }
+    ensures made { IsMade (plan_of_product first.now second.now spec.now) result }
 {
     check_product(first, second, *spec)?;
     let id = id_of_product(alloc, first, second, *spec)?;
-    let mut builder = begin_pairs(alloc, id, first, second, spec.directed)?;
+    let mut builder = begin_pairs(alloc, id, first, second, *spec)?;
     insert_product(&mut builder, alloc, first, second, *spec)?;
     Ok(builder.finish())
 }
@@ -99,23 +100,40 @@ fn longest(graph: &Graph) -> usize
     most
 }
 
-// A builder with this id and a vertex for each pair.
+// For how many insertions there is to be room.
+fn room_for(first: &Graph, second: &Graph, spec: ProductSpec) -> usize {
+    let own = room_of(first, spec.directed);
+    let along_first = own.saturating_mul(second.n() as usize);
+    let other = room_of(second, spec.directed);
+    let along_second = other.saturating_mul(first.n() as usize);
+    let single = along_first.saturating_add(along_second);
+    let double = own.saturating_mul(second.m() as usize);
+    match spec.kind {
+        0 => single,
+        1 => double,
+        _ => single.saturating_add(double),
+    }
+}
+
+// A builder with this id and a vertex for each pair, and with room for the insertions.
 fn begin_pairs(
     alloc: Global,
     id: Text,
     first: &Graph,
     second: &Graph,
-    directed: bool,
+    spec: ProductSpec,
 ) -> Result<Builder, Refusal>
     requires id { length id ≤ 160 }
     requires short { IsTrue (list_all is_short_name (pair_names first.now second.now)) }
-    ensures { Begins id directed (pair_names first.now second.now) result }
+    ensures { Begins id spec.directed (pair_names first.now second.now) result }
 {
-    let mut builder = Builder::new(alloc, id, Types::none(), directed);
+    let mut builder = Builder::new(alloc, id, Types::none(), spec.directed);
+    builder.reserve_vertices((first.n() as usize).saturating_mul(second.n() as usize))?;
     let mut bytes = Vec::new(alloc);
     for a in 0..first.n() {
         name_row(&mut builder, &mut bytes, alloc, first, second, VertexNo(a))?;
     }
+    builder.reserve(room_for(first, second, spec))?;
     Ok(builder)
 }
 

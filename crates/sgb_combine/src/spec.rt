@@ -3,7 +3,7 @@
 /// What a complement is asked for.
 #[derive(Clone, Copy, Debug, PartialEq, Eq)]
 pub struct ComplementSpec {
-    /// Whether arcs are copied, each pair once, instead of turned into their absence.
+    /// Whether the pairs are joined that the graph joins; else those that it does not join.
     pub copy: bool,
     /// Whether a vertex may be joined to itself.
     pub loops: bool,

@@ -9,7 +9,7 @@ ghost use Rattle.sgb_combine.specs.Combined.{along};
 ghost use Rattle.sgb_combine.specs.Gunion.{candidates, is_candidate, run_of, union_at, plan_of_gunion};
 
 use crate::GunionSpec;
-use crate::begin::begin_as;
+use crate::begin::{begin_as, room_of};
 use crate::lowest::Lowest;
 use crate::run::{insert_spokes, read_if_there};
 use sgb_graph::{Builder, Graph, Refusal, VertexNo};
@@ -17,9 +17,10 @@ use sgb_operand::{Spoke, check_operand, read_spokes};
 use sgb_plan::{Part, id_of_two};
 use std::alloc::{AllocError, Global};
 
-/// The union of two graphs: the vertices of the first, and from each the arcs or edges of the first and then those of
-/// the second, where that has the vertex, which lead to a vertex of the first. Without `multi` only the first of those
-/// that join the same vertices is inserted, with the least of their lengths. This is `gunion` of the GraphBase.
+/// The union of two graphs: the vertices of the first, and from each what its list in the first graph and then that in
+/// the second, where that has the vertex, lead to among them, with its lengths. Where edges are made, what leads to a
+/// smaller vertex and the second halves of loops are passed over. Without `multi` only the first that joins a pair is
+/// inserted, with the least of their lengths. This is `gunion` of the GraphBase.
 ///
 /// Refused `BadOperand` where an arc of a graph leads to no vertex, and then `TooLarge` where the union would give out
 /// more than 1,000,000 arc numbers.
@@ -29,15 +30,27 @@ pub fn gunion(
     second: &Graph,
     spec: &GunionSpec,
 ) -> Result<Graph, Refusal>
-    ensures { IsMade (plan_of_gunion first.now second.now spec.now) result }
+    ensures made { IsMade (plan_of_gunion first.now second.now spec.now) result }
 {
     check_operand(first)?;
     check_operand(second)?;
     let flags = [Part::Flag(spec.multi), Part::Flag(spec.directed)];
     let id = id_of_two(alloc, "gunion", first.id(), second.id(), &flags)?;
-    let mut builder = begin_as(alloc, id, first, spec.directed)?;
+    let room = room_for(first, second, spec.directed);
+    let mut builder = begin_as(alloc, id, first, spec.directed, room)?;
     insert_unions(&mut builder, alloc, first, second, *spec)?;
     Ok(builder.finish())
+}
+
+// For how many insertions there is to be room. Where the second graph has further vertices, it is not known how many of
+// its arcs count.
+fn room_for(first: &Graph, second: &Graph, directed: bool) -> usize {
+    let own = room_of(first, directed);
+    if second.n() > first.n() {
+        own
+    } else {
+        own.saturating_add(room_of(second, directed))
+    }
 }
 
 fn insert_unions(

@@ -49,10 +49,15 @@ pub fn second(alloc: Global) -> Result<Graph, Refusal> {
     graph_of(alloc, 3, &[(1, 0, 6), (1, 1, 8)], &[(2, 1, 2)])
 }
 
-/// A graph of one vertex whose arc leads to the constant 1.
-pub fn leading_nowhere(alloc: Global) -> Result<Graph, Refusal> {
+/// Two vertices and an edge between them.
+pub fn one_edge(alloc: Global, len: i64) -> Result<Graph, Refusal> {
+    graph_of(alloc, 2, &[(0, 1, len)], &[])
+}
+
+/// A graph of one vertex whose arc has this tip.
+pub fn leading_to(alloc: Global, tip: Tip) -> Result<Graph, Refusal> {
     let arc = ArcPart {
-        tip: Tip::One,
+        tip,
         len: 1,
         fields: [Util::Zero, Util::Zero],
         next: None,
@@ -63,7 +68,7 @@ pub fn leading_nowhere(alloc: Global) -> Result<Graph, Refusal> {
         first: Some(ArcNo(0)),
     };
     let parts = Parts {
-        id: Text::new(alloc, b"nowhere")?,
+        id: Text::new(alloc, b"leading")?,
         types: Types::none(),
         fields: zeros(),
         vertices: Items::from_vec(vec![in alloc; vertex]?),

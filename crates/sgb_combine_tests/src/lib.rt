@@ -6,6 +6,8 @@ mod complements;
 #[cfg(test)]
 mod graphs;
 #[cfg(test)]
+mod growths;
+#[cfg(test)]
 mod intersections;
 #[cfg(test)]
 mod operands;

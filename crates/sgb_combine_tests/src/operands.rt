@@ -1,7 +1,7 @@
 //! Operands: their spokes, and the refusal of one that leads nowhere.
 
-use crate::graphs::{first, leading_nowhere};
-use sgb_graph::{Graph, Refusal, VertexNo};
+use crate::graphs::{first, leading_to};
+use sgb_graph::{Graph, Refusal, Tip, VertexNo};
 use sgb_operand::{Spoke, check_operand, read_spokes};
 use std::alloc::Global;
 use std::test::Fail;
@@ -35,6 +35,8 @@ fn refusal(graph: &Graph) -> Option<Refusal> {
 #[test]
 fn checked(rt: HostRuntime) -> Result<(), Fail> {
     assert!(rt; refusal(&first(rt.alloc())?).is_none());
-    assert!(rt; refusal(&leading_nowhere(rt.alloc())?) == Some(Refusal::BadOperand));
+    assert!(rt; refusal(&leading_to(rt.alloc(), Tip::Zero)?) == Some(Refusal::BadOperand));
+    assert!(rt; refusal(&leading_to(rt.alloc(), Tip::One)?) == Some(Refusal::BadOperand));
+    assert!(rt; refusal(&leading_to(rt.alloc(), Tip::To(VertexNo(0)))?).is_none());
     Ok(())
 }

@@ -1,20 +1,16 @@
 //! Products: expected values come from another implementation.
 
-use crate::graphs::{arcs_are, counts, graph_of, has_id, intersection_of, product_of};
+use crate::graphs::{arcs_are, counts, graph_of, has_id, intersection_of, one_edge, product_of};
 use sgb_graph::{Graph, Refusal, Text, VertexNo};
 use std::alloc::Global;
 use std::test::Fail;
-
-fn edge(alloc: Global, len: i64) -> Result<Graph, Refusal> {
-    graph_of(alloc, 2, &[(0, 1, len)], &[])
-}
 
 #[test]
 fn cartesian(rt: HostRuntime) -> Result<(), Fail> {
     let made = product_of(
         rt.alloc(),
-        &edge(rt.alloc(), 5)?,
-        &edge(rt.alloc(), 3)?,
+        &one_edge(rt.alloc(), 5)?,
+        &one_edge(rt.alloc(), 3)?,
         0,
         false,
     )?;
@@ -42,8 +38,8 @@ fn cartesian(rt: HostRuntime) -> Result<(), Fail> {
 fn direct(rt: HostRuntime) -> Result<(), Fail> {
     let made = product_of(
         rt.alloc(),
-        &edge(rt.alloc(), 5)?,
-        &edge(rt.alloc(), 3)?,
+        &one_edge(rt.alloc(), 5)?,
+        &one_edge(rt.alloc(), 3)?,
         1,
         false,
     )?;
@@ -55,8 +51,8 @@ fn direct(rt: HostRuntime) -> Result<(), Fail> {
 fn strong(rt: HostRuntime) -> Result<(), Fail> {
     let made = product_of(
         rt.alloc(),
-        &edge(rt.alloc(), 5)?,
-        &edge(rt.alloc(), 3)?,
+        &one_edge(rt.alloc(), 5)?,
+        &one_edge(rt.alloc(), 3)?,
         2,
         true,
     )?;
@@ -110,7 +106,7 @@ fn of_loops(rt: HostRuntime) -> Result<(), Fail> {
 
 #[test]
 fn with_others(rt: HostRuntime) -> Result<(), Fail> {
-    let one = edge(rt.alloc(), 1)?;
+    let one = one_edge(rt.alloc(), 1)?;
     let cartesian = product_of(rt.alloc(), &one, &one, 0, false)?;
     let strong = product_of(rt.alloc(), &one, &one, 2, false)?;
     assert!(rt; counts(&strong) == (4, 12));
@@ -145,7 +141,7 @@ fn long_names(rt: HostRuntime) -> Result<(), Fail> {
 
 #[test]
 fn refused(rt: HostRuntime) -> Result<(), Fail> {
-    let one = edge(rt.alloc(), 1)?;
+    let one = one_edge(rt.alloc(), 1)?;
     assert!(rt; product_of(rt.alloc(), &one, &one, 3, false).err() == Some(Refusal::BadSpecs));
     let many = graph_of(rt.alloc(), 300, &[], &[])?;
     assert!(rt; product_of(rt.alloc(), &many, &many, 0, false).err() == Some(Refusal::TooLarge));

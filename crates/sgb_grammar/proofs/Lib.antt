@@ -1,9 +1,10 @@
 mod Eaches
+mod Fronts
 mod Insides
 mod Lines
 mod Naturals
 mod SpelledItems
-mod SpelledRecords
+pub mod SpelledRecords
 mod Spelling
 mod Weights
 mod Words

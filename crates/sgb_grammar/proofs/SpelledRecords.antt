@@ -1,5 +1,5 @@
 -- The readers of records and of whole texts are the relations of their spelling.
-use Rattle.std.proofs.Common.{◌≡◌, ℕ, ℤ, ◌-◌, ◌≤◌, ◌==◌, ◌&&◌, nat_le, true, List, [], ◌∷◌, ◌++◌, take, drop, length, codes, slice_index, replicate, Some, refl, sym, subst, ap, ◌∙◌, inl, inr, ◌⊎◌}
+use Rattle.std.proofs.Common.{◌≡◌, ℕ, ℤ, ◌-◌, ◌≤◌, ◌==◌, ◌&&◌, nat_le, true, List, [], ◌∷◌, ◌++◌, take, drop, length, length-append, codes, slice_index, replicate, Some, None, Result, Ok, Err, IfOk, IfErr, refl, sym, subst, ap, ◌∙◌, inl, inr, ◌⊎◌, arith, Bor}
 use Rattle.std.specs.List.{list_all}
 use Rattle.std.proofs.lemmas.Bool.{and_parts, eqb-true, eq-eqb, le-leb, leb-true}
 use Rattle.std.proofs.lemmas.List.{take-append-drop}
@@ -9,18 +9,22 @@ use Rattle.sgb_graph.specs.Types.{IsTypes, is_letter}
 use Rattle.sgb_graph.specs.Honest.{vertex_letters, arc_letters, graph_letters}
 use Rattle.sgb_graph.specs.declared.parts.VertexPart.{VertexPart}
 use Rattle.sgb_graph.specs.declared.parts.ArcPart.{ArcPart}
+use Rattle.sgb_grammar.specs.declared.fault.Fault.{Fault}
+use Rattle.sgb_grammar.specs.declared.fault.Fault.TheVariants.{NoRoom, Syntax}
 use Rattle.sgb_grammar.specs.declared.records.Own.{Own}
 use Rattle.sgb_grammar.specs.declared.saved.Records.{Records}
+use Rattle.sgb_grammar.specs.declared.saved.Saved.{Saved}
 use Rattle.sgb_grammar.specs.declared.header.Header.{Header}
-use Rattle.sgb_grammar.specs.Reading.{after}
+use Rattle.sgb_grammar.specs.Reading.{after, Spells}
 use Rattle.sgb_grammar.specs.Number.{count_at, number_at}
 use Rattle.sgb_grammar.specs.String.{text_at}
 use Rattle.sgb_grammar.specs.Field.{comma_at, link_at, tip_at, fields_at}
 use Rattle.sgb_grammar.specs.Record.{newline_at, own_at, vertex_at, arc_at}
 use Rattle.sgb_grammar.specs.Header.{letters_at, counts_at, ends_line, header_at}
-use Rattle.sgb_grammar.specs.Saved.{SavedOf, own_in, vertices_in, arcs_in, records_in, check_line_in, saved_in}
-use Rattle.sgb_grammar.specs.Spelled.{Count, OwnRecord, VertexRecord, ArcRecord, Letters, LineEnd, FirstLine, AllRecords, CheckLine, SavedText, WholeText}
+use Rattle.sgb_grammar.specs.Saved.{SavedOf, own_in, vertices_in, arcs_in, records_in, check_line_in, saved_in, shown, Holds}
+use Rattle.sgb_grammar.specs.Spelled.{Count, OwnRecord, VertexRecord, ArcRecord, Letters, LineEnd, FirstLine, AllRecords, CheckLine, SavedText, WholeText, HasNoFirstLine, SpellsNothing, IsOnlyLine, IsOnlyText}
 use Rattle.sgb_grammar.proofs.Words.{after_is, after-sound}
+use Rattle.sgb_grammar.proofs.Fronts.{records_stand}
 use Rattle.sgb_grammar.proofs.Lines.{letters_some}
 use Rattle.sgb_grammar.proofs.Spelling.{some_same, bound, kept, text_spelled, text_read, count_spelled, count_read, number_spelled, number_read}
 use Rattle.sgb_grammar.proofs.SpelledItems.{comma_spelled, comma_read, link_spelled, link_read, tip_spelled, tip_read, fields_spelled, fields_read, each_spelled, each_read}
@@ -356,6 +360,11 @@ unfolding check_line_in
 check_line_read bs z (rest, (a, word, (b, number, (same, end)))) =
     rw (after_is (codes "* Checksum ") bs a word, number_read a b z number, ends_line_is b end) refl
 
+body_is : (lines body end : List ℕ) → lines ≡ body ++ end → body ≡ take (length lines - length end) lines
+body_is lines body end e =
+    let size : length lines - length end ≡ length body = omega (arith, length-append body end, ap length e) in
+    sym (ap (λ n. take n lines) size ∙ ap (λ t. take (length body) t) e ∙ take-append_seam body end)
+
 pub saved_spelled : (h : Header) (bs : List ℕ) (s : SavedOf) → saved_in h bs ≡ Some s → SavedText h s bs
 unfolding saved_in
 saved_spelled h bs s e =
@@ -368,21 +377,53 @@ saved_spelled h bs s e =
       a,
       records.1,
       after-sound (10 ∷ []) bs a a-is,
+      (let front = records_stand h records.0 a records.1 all.0 in front.1 ∙ ap (λ b. b ++ records.1) (body_is a front.0 records.1 front.1)),
       all.0,
       all.1,
+      refl,
       check_line_spelled records.1 number number-is,
-      refl,
-      refl,
     )
     )))
 
 pub saved_read : (h : Header) (bs : List ℕ) (s : SavedOf) → SavedText h s bs → saved_in h bs ≡ Some s
 unfolding saved_in
-saved_read h bs s (r, lines, end, newline, records, few, check, parts, body) =
+saved_read h bs s (r, lines, end, newline, body, records, few, parts, check) =
     let before = take (length lines - length end) lines in
     rw (after_is (10 ∷ []) bs lines newline, records_read h lines end r records few, check_line_read end s.number check)
     (ap (λ ps. Some (record { parts = ps; number = s.number; body = before })) (sym parts)
-    ∙ ap (λ b. Some (record { parts = s.parts; number = s.number; body = b })) (sym body))
+    ∙ ap (λ b. Some (record { parts = s.parts; number = s.number; body = b })) (sym (body_is lines s.body end body)))
+
+pub line_once : (text : List ℕ) (h : Header) (rest : List ℕ) → FirstLine h text rest → IsOnlyLine text h rest
+line_once text h rest line k others other =
+    let same : (k, others) ≡ (h, rest) = some_same (k, others) (h, rest) (sym (header_read text others k other) ∙ header_read text rest h line) in
+    (ap (λ q. q.0) same, ap (λ q. q.1) same)
+
+-- ---- what the readers answer
+
+pub line_found : (r : Result (Header × Bor (List ℕ)) Fault) (bs : List ℕ) → Spells r (header_at bs) → IfOk r (λ p. FirstLine p.0 bs p.1.now)
+line_found (Ok p) bs e = header_spelled bs (p.0, p.1.now) e
+line_found (Err f) bs e = tt
+
+pub line_only : (r : Result (Header × Bor (List ℕ)) Fault) (bs : List ℕ) → Spells r (header_at bs) → IfOk r (λ p. IsOnlyLine bs p.0 p.1.now)
+line_only (Ok p) bs e = line_once bs p.0 p.1.now (header_spelled bs (p.0, p.1.now) e)
+line_only (Err f) bs e = tt
+
+pub no_line : (r : Result (Header × Bor (List ℕ)) Fault) (bs : List ℕ) → Spells r (header_at bs) → IfErr r (λ f. (f ≡ Syntax) × HasNoFirstLine bs)
+no_line (Ok p) bs e = tt
+no_line (Err f) bs (syntax, none) = (syntax, λ h rest line. let bad : Some (h, rest) ≡ None = sym (header_read bs rest h line) ∙ none in cc)
+
+pub text_found : (h : Header) (r : Result Saved Fault) (bs : List ℕ) → Holds r (saved_in h bs) → IfOk r (λ s. SavedText h (shown s) bs)
+text_found h (Ok s) bs e = saved_spelled h bs (shown s) e
+text_found h (Err f) bs e = tt
+
+pub text_only : (h : Header) (r : Result Saved Fault) (bs : List ℕ) → Holds r (saved_in h bs) → IfOk r (λ s. IsOnlyText h (shown s) bs)
+text_only h (Ok s) bs e = λ t text. some_same t (shown s) (sym (saved_read h bs t text) ∙ e)
+text_only h (Err f) bs e = tt
+
+pub no_text : (h : Header) (r : Result Saved Fault) (bs : List ℕ) → Holds r (saved_in h bs) → IfErr r (λ f. (f ≡ NoRoom) ⊎ ((f ≡ Syntax) × SpellsNothing h bs))
+no_text h (Ok s) bs e = tt
+no_text h (Err f) bs (inl room) = inl room
+no_text h (Err f) bs (inr (syntax, none)) = inr (syntax, λ s text. let bad : Some s ≡ None = sym (saved_read h bs s text) ∙ none in cc)
 
 pub saved_once : (text : List ℕ) (h k : Header) (s t : SavedOf) → WholeText h s text → WholeText k t text → (h ≡ k) × (s ≡ t)
 saved_once text h k s t (lines, first, rest) (lines', first', rest') =

@@ -2,7 +2,7 @@
 use Rattle.std.specs.Prelude.{ℕ, ◌+◌, ◌-◌, ◌*◌, ◌^◌, ◌%◌, ◌==◌, List, [], ◌∷◌, ◌++◌, length, codes, if◌then◌else◌}
 use Rattle.std.specs.List.{flat_map, position_or_len}
 
--- the characters in the order of their codes; the newline has the code behind them
+-- the characters in the order of their codes, from 0; any other byte, and so the newline, has the code behind theirs
 abbrev pub characters : List ℕ
 characters = codes "0123456789ABCDEFGHIJKLMNOPQRSTUVWXYZabcdefghijklmnopqrstuvwxyz_^~&@,;.:?!%#$+-*/|" ++ 92 ∷ codes "<=>()[]{}`'" ++ 34 ∷ 32 ∷ []
 

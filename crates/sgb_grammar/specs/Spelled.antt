@@ -1,6 +1,6 @@
 -- The grammar as relations: what stands at the front of the bytes `bs`, before `rest`. The readers of the other pages
 -- are these relations, both ways.
-use Rattle.std.specs.Prelude.{◌≡◌, ◌≢◌, ◌⊎◌, ◌<◌, ◌≤◌, ◌-◌, ◌^◌, ◌==◌, min, Bool, true, false, ℕ, ℤ, pos, neg_ℤ, List, [], ◌∷◌, ◌++◌, take, length, replicate, codes, slice_index, Option, Some, None}
+use Rattle.std.specs.Prelude.{◌≡◌, ◌≢◌, ◌⊎◌, ◌<◌, ◌≤◌, ◌-◌, ◌^◌, ◌==◌, min, Bool, true, false, ℕ, ℤ, pos, neg_ℤ, List, [], ◌∷◌, ◌++◌, length, replicate, codes, slice_index, Option, Some, None}
 use Rattle.std.specs.List.{list_all}
 use Rattle.std.specs.Char.{is_ascii_digit}
 use Rattle.std.specs.Str.Parse.{digits_value}
@@ -194,23 +194,37 @@ AllRecords h r =
 abbrev pub CheckLine : ℤ → List ℕ → Type 0
 CheckLine number bs = (rest : List ℕ) × (Word (codes "* Checksum ") >> Number number >> LineEnd) bs rest
 
--- what follows a first line: the records of the body, of which at most so many vertices are the graph's as there are
--- records of them, and the check line
+-- what follows a first line: the body, whose records tell the parts of the graph, at most so many vertices of it as
+-- there are records of them; and behind the body the check line
 abbrev pub SavedText : Header → SavedOf → List ℕ → Type 0
 SavedText h s bs =
     (r : Records)
     × (lines : List ℕ)
     × (end : List ℕ)
     × Newline bs lines
+    × (lines ≡ s.body ++ end)
     × AllRecords h r lines end
     × (r.own.n ≤ h.vertices)
-    × CheckLine s.number end
     × (s.parts ≡ parts_of h r)
-    × (s.body ≡ take (length lines - length end) lines)
+    × CheckLine s.number end
 
 -- a first line and what follows it
 abbrev pub WholeText : Header → SavedOf → List ℕ → Type 0
 WholeText h s text = (lines : List ℕ) × FirstLine h text lines × SavedText h s lines
+
+-- no first line, and nothing behind one
+abbrev pub HasNoFirstLine : List ℕ → Type 0
+HasNoFirstLine text = (h : Header) (rest : List ℕ) → FirstLine h text rest → ⊥
+
+abbrev pub SpellsNothing : Header → List ℕ → Type 0
+SpellsNothing h bs = (s : SavedOf) → SavedText h s bs → ⊥
+
+-- no other first line, and nothing else behind one
+abbrev pub IsOnlyLine : List ℕ → Header → List ℕ → Type 0
+IsOnlyLine text h rest = (k : Header) (others : List ℕ) → FirstLine k text others → (k ≡ h) × (others ≡ rest)
+
+abbrev pub IsOnlyText : Header → SavedOf → List ℕ → Type 0
+IsOnlyText h s bs = (t : SavedOf) → SavedText h t bs → t ≡ s
 
 -- ---- the readers are these relations
 

@@ -1,7 +1,8 @@
 //! The first line of a saved text.
-ghost use Rattle.std.specs.Prelude.{◌≡◌, ◌≤◌};
+ghost use Rattle.std.specs.Prelude.{◌≡◌, ◌≤◌, IfOk, IfErr};
 ghost use Rattle.sgb_grammar.specs.Reading.{Spells};
 ghost use Rattle.sgb_grammar.specs.Header.{header_at, letters_at, counts_at, ends_line};
+ghost use Rattle.sgb_grammar.specs.Spelled.{FirstLine, IsOnlyLine, HasNoFirstLine};
 
 use crate::Fault;
 use crate::bytes::{after, next};
@@ -16,9 +17,17 @@ pub struct Header {
     pub arcs: u64,
 }
 
-/// The first line, and what follows it: its newline, where there is one.
-#[tactic(auto, unfolding(crate::specs::Header::header_at))]
+/// The first line, and what follows it: its newline, where there is one. Takes no memory.
 pub fn read_header(bytes: &[u8]) -> Result<(Header, &[u8]), Fault>
+    ensures ok { IfOk result (λ p. FirstLine p.0 bytes.now p.1.now) }
+    ensures only { IfOk result (λ p. IsOnlyLine bytes.now p.0 p.1.now) }
+    ensures err { IfErr result (λ e. (e ≡ Fault.Syntax) × HasNoFirstLine bytes.now) }
+{
+    first_line(bytes)
+}
+
+#[tactic(auto, unfolding(crate::specs::Header::header_at))]
+fn first_line(bytes: &[u8]) -> Result<(Header, &[u8]), Fault>
     ensures { Spells result (header_at bytes.now) }
 {
     let rest = after(b"* GraphBase graph (util_types ", bytes)?;

@@ -10,7 +10,7 @@ ghost use Rattle.sgb_grammar.specs.Header.{header_at};
 ghost use Rattle.sgb_grammar.specs.Number.{count_at, number_at};
 ghost use Rattle.sgb_grammar.specs.Record.{arc_at, own_at, vertex_at};
 ghost use Rattle.sgb_grammar.specs.Saved.{SavedOf, saved_in};
-ghost use Rattle.sgb_grammar.specs.Spelled.{ArcRecord, Count, Each, Field, FirstLine, IsReaderOf, Link, Number, OwnRecord, Quoted, SavedText, TipIs, VertexRecord, WholeText};
+ghost use Rattle.sgb_grammar.specs.Spelled.{ArcRecord, Count, Each, Field, FirstLine, IsOnlyLine, IsReaderOf, Link, Number, OwnRecord, Quoted, SavedText, TipIs, VertexRecord, WholeText};
 ghost use Rattle.sgb_grammar.specs.String.{text_at};
 ghost use Rattle.sgb_grammar.specs.declared.header.Header.{Header};
 ghost use Rattle.sgb_grammar.specs.declared.records.Own.{Own};
@@ -37,5 +37,6 @@ pub fn records_law()
 pub fn spelling_law()
     ensures spelled { (h : Header) (bs : List ℕ) (s : SavedOf) → saved_in h bs ≡ Some s → SavedText h s bs }
     ensures read { (h : Header) (bs : List ℕ) (s : SavedOf) → SavedText h s bs → saved_in h bs ≡ Some s }
+    ensures first { (text : List ℕ) (h : Header) (rest : List ℕ) → FirstLine h text rest → IsOnlyLine text h rest }
     ensures once { (text : List ℕ) (h k : Header) (s t : SavedOf) → WholeText h s text → WholeText k t text → (h ≡ k) × (s ≡ t) }
 {}

@@ -1,9 +1,10 @@
 //! A whole saved text.
-ghost use Rattle.std.specs.Prelude.{◌≡◌, length, IfOk, FitsSigned};
+ghost use Rattle.std.specs.Prelude.{◌≡◌, ◌⊎◌, length, IfOk, IfErr, FitsSigned};
 ghost use Rattle.std.specs.Int.{w64};
 ghost use Rattle.sgb_graph.specs.Honest.{graph_letters};
 ghost use Rattle.sgb_grammar.specs.Private.Reading.{Reads, Finds};
-ghost use Rattle.sgb_grammar.specs.Saved.{own_in, vertices_in, arcs_in, records_in, check_line_in, parts_of, saved_in, Holds};
+ghost use Rattle.sgb_grammar.specs.Saved.{own_in, vertices_in, arcs_in, records_in, check_line_in, parts_of, saved_in, shown, Holds};
+ghost use Rattle.sgb_grammar.specs.Spelled.{SavedText, IsOnlyText, SpellsNothing};
 
 use crate::bytes::after;
 use crate::header::ends_line;
@@ -30,9 +31,19 @@ struct Records {
     arcs: Items<ArcPart>,
 }
 
-/// Reads what follows a first line. Takes memory for the records and their texts.
-#[tactic(auto, unfolding(crate::specs::Saved::saved_in))]
+/// Reads what follows a first line. Takes memory for the records and their texts, no more for records than the bytes
+/// can fill, whatever the first line says.
 pub fn read_saved<'a>(alloc: Global, header: &Header, bytes: &'a [u8]) -> Result<Saved<'a>, Fault>
+    ensures ok { IfOk result (λ s. SavedText header.now (shown s) bytes.now) }
+    ensures only { IfOk result (λ s. IsOnlyText header.now (shown s) bytes.now) }
+    ensures err { IfErr result (λ e. (e ≡ Fault.NoRoom) ⊎ ((e ≡ Fault.Syntax) × SpellsNothing header.now bytes.now)) }
+    ensures range { IfOk result (λ s. FitsSigned w64 s.number) }
+{
+    saved_text(alloc, header, bytes)
+}
+
+#[tactic(auto, unfolding(crate::specs::Saved::saved_in))]
+fn saved_text<'a>(alloc: Global, header: &Header, bytes: &'a [u8]) -> Result<Saved<'a>, Fault>
     ensures found { Holds result (saved_in header.now bytes.now) }
     ensures range { IfOk result (λ s. FitsSigned w64 s.number) }
 {

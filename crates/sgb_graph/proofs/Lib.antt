@@ -1,4 +1,5 @@
 pub mod Building
+pub mod Cells
 pub mod Chaining
 pub mod Chains
 pub mod Counts

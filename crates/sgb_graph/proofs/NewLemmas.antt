@@ -92,7 +92,7 @@ bare_shows vs id types bare =
     }
 
 -- the fields of a graph without arcs
-pub bare_opened : (a : Inside) → length a.vertices.items ≤ 65535 → IsId a.id → IsTypes a.types → All (IsBare (length a.vertices.items)) a.vertices.items → a.fields ≡ six_zeros → a.slots.items ≡ [] → a.live ≡ 0
+pub bare_opened : (a : Inside) → length a.vertices.items ≤ 65535 → IsId a.id → IsTypes a.types → All (IsBare (length a.vertices.items)) a.vertices.items → a.fields ≡ six_zeros → a.slots ≡ [] → a.live ≡ 0
     → Opened a (bare_graph a.id a.types (map bare_vertex a.vertices.items))
 bare_opened a few id types bare fields slots live =
     let vs = a.vertices.items in

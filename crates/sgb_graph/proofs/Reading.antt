@@ -2,7 +2,7 @@
 use Rattle.std.proofs.Common.{◌≡◌, ◌<◌, ℕ, List, [], ◌∷◌, ◌++◌, length, get_or, Option, Some, None, is_some, IsSome, IfSome, All, true, refl, ap, subst, ◌∙◌, arith}
 use Rattle.sgb_graph.specs.declared.field.ArcNo.{ArcNo}
 use Rattle.sgb_graph.specs.declared.graph.Vertex.{Vertex}
-use Rattle.sgb_graph.specs.declared.graph.Slot.{Slot}
+use Rattle.sgb_graph.specs.declared.graph.arena.Slot.{Slot}
 use Rattle.sgb_graph.specs.declared.graph.Graph.TheInside.{Inside}
 use Rattle.sgb_graph.specs.Graph.{GraphOf, ArcOf, IsGraph, IsArc, IsTip, n_of, made_of, arcs_of, arc_at}
 use Rattle.sgb_graph.specs.Edit.{owner_of, entry_at, arc_or, no_arc}
@@ -16,13 +16,13 @@ use Rattle.sgb_graph.proofs.Graphs.{owner_is, made_of_live}
 use Rattle.sgb_graph.proofs.Shows.{opened, but_of, numbers_are}
 
 -- the list that `arcs` walks along
-pub arcs_are : (a : Inside) (g : GraphOf) (v : ℕ) (x : Vertex) (ss : Slots) (ks : List ℕ) → graph_of a ≡ g → IsArena a → v < n_of g → x ≡ get_or a.vertices.items v x → ss ≡ a.slots.items → ks ≡ numbers ss x.first → ks ≡ arcs_of g v
+pub arcs_are : (a : Inside) (g : GraphOf) (v : ℕ) (x : Vertex) (ss : Slots) (ks : List ℕ) → graph_of a ≡ g → IsArena a → v < n_of g → x ≡ get_or a.vertices.items v x → ss ≡ a.slots → ks ≡ numbers ss x.first → ks ≡ arcs_of g v
 arcs_are a g v x ss ks same arena h read is are =
     let o = opened a g same arena in
     are
     ∙ (ap (λ s. numbers s x.first) is
-    ∙ (ap (λ (y : Vertex). numbers a.slots.items y.first) read
-    ∙ numbers_are a.vertices.items a.slots.items g v x (but_of a.vertices.items a.slots.items g o.shows) o.graph h))
+    ∙ (ap (λ (y : Vertex). numbers a.slots y.first) read
+    ∙ numbers_are a.vertices.items a.slots g v x (but_of a.vertices.items a.slots g o.shows) o.graph h))
 
 pub arcs_owned : (g : GraphOf) (v : ℕ) → IsGraph g → All (λ k. owner_of g k ≡ v) (arcs_of g v)
 arcs_owned g v sound i d h = owner_is g (get_or (arcs_of g v) i d) v sound (occurs_at (arcs_of g v) i d h)
@@ -50,16 +50,16 @@ unfolding Leads
 next_in next link [] k after l = first_is next (next k) after l.1
 next_in next link (j ∷ before) k after l = next_in next (next j) before k after l.1
 
-pub next_is : (a : Inside) (g : GraphOf) (k : ℕ) (ss : Slots) (link : Option ArcNo) → graph_of a ≡ g → IsArena a → ss ≡ a.slots.items → link ≡ next_at ss k → IsNextOf g k link
+pub next_is : (a : Inside) (g : GraphOf) (k : ℕ) (ss : Slots) (link : Option ArcNo) → graph_of a ≡ g → IsArena a → ss ≡ a.slots → link ≡ next_at ss k → IsNextOf g k link
 next_is a g k ss link same arena is link_is v low before after list =
     let o = opened a g same arena in
     let x = get_or a.vertices.items v any_vertex in
     link_is
     ∙ (ap (λ s. next_at s k) is
-    ∙ next_in (next_at a.slots.items) x.first before k after
-    (subst (λ ks. Leads (next_at a.slots.items) x.first ks None) list (o.shows.vertices v any_vertex low).arcs))
+    ∙ next_in (next_at a.slots) x.first before k after
+    (subst (λ ks. Leads (next_at a.slots) x.first ks None) list (o.shows.vertices v any_vertex low).arcs))
 
-pub live_slot : (a : Inside) (g : GraphOf) (k : ℕ) (ss : Slots) → graph_of a ≡ g → IsArena a → ss ≡ a.slots.items → IsSome (arc_at g k) → k < length ss
+pub live_slot : (a : Inside) (g : GraphOf) (k : ℕ) (ss : Slots) → graph_of a ≡ g → IsArena a → ss ≡ a.slots → IsSome (arc_at g k) → k < length ss
 live_slot a g k ss same arena is live =
     let o = opened a g same arena in
     let made : k < made_of g = made_of_live g k live in
@@ -72,7 +72,7 @@ fields_of_entry None (Some e) is live = absurd cc
 fields_of_entry (Some s) None is live = absurd cc
 fields_of_entry (Some s) (Some e) is live = cc
 
-pub fields_are : (a : Inside) (g : GraphOf) (k : ℕ) (ss : Slots) → graph_of a ≡ g → IsArena a → ss ≡ a.slots.items → IsSome (arc_at g k) → fields_in (slot_at ss k) ≡ (entry_at g k).fields
+pub fields_are : (a : Inside) (g : GraphOf) (k : ℕ) (ss : Slots) → graph_of a ≡ g → IsArena a → ss ≡ a.slots → IsSome (arc_at g k) → fields_in (slot_at ss k) ≡ (entry_at g k).fields
 fields_are a g k ss same arena is live =
     let o = opened a g same arena in
-    ap (λ s. fields_in (slot_at s k)) is ∙ fields_of_entry (slot_at a.slots.items k) (arc_at g k) (o.shows.entries k) live
+    ap (λ s. fields_in (slot_at s k)) is ∙ fields_of_entry (slot_at a.slots k) (arc_at g k) (o.shows.entries k) live

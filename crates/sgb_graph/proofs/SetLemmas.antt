@@ -8,7 +8,7 @@ use Rattle.std.proofs.lemmas.List.Sums.{sum_by-set}
 use Rattle.sgb_graph.specs.declared.field.VertexNo.{VertexNo}
 use Rattle.sgb_graph.specs.declared.field.ArcNo.{ArcNo}
 use Rattle.sgb_graph.specs.declared.graph.Vertex as vertex
-use Rattle.sgb_graph.specs.declared.graph.Slot.{Slot}
+use Rattle.sgb_graph.specs.declared.graph.arena.Slot.{Slot}
 use Rattle.sgb_graph.specs.declared.graph.Graph.TheInside.{Inside}
 use Rattle.sgb_graph.specs.Text.{IsText}
 use Rattle.sgb_graph.specs.Graph.{GraphOf, VertexOf, ArcOf, IsGraph, IsVertex, IsArc, n_of, made_of, vertex_at, no_vertex, arcs_of, arc_at, has_arc, has_vertex, occurrences, listings, names_in, names_in_entry, names_of}
@@ -39,7 +39,7 @@ use Rattle.sgb_graph.specs.Delta.{LeftByLen, LeftByLabel}
 
 -- a label
 pub label_opened : (a b : Inside) (g : GraphOf) (v : ℕ) (t : List ℕ) → Opened a g → v < n_of g → IsText t
-    → b.id ≡ a.id → b.types ≡ a.types → b.fields ≡ a.fields → b.live ≡ a.live → b.slots.items ≡ a.slots.items
+    → b.id ≡ a.id → b.types ≡ a.types → b.fields ≡ a.fields → b.live ≡ a.live → b.slots ≡ a.slots
     → b.vertices.items ≡ set a.vertices.items v (record (vertex_in a.vertices.items v) { label = t }) → Opened b (with_label g v t)
 unfolding with_label
 label_opened a b g v t o low text id types fields live slots vertices =
@@ -52,7 +52,7 @@ label_opened a b g v t o low text id types fields live slots vertices =
     let owner = IsVertex-keeps (n_of g) (n_of h) g.entries h.entries x keeps (sound.vertices v no_vertex low) in
     let new : vertex.Vertex = record (vertex_in a.vertices.items v) { label = t } in
     let vs = a.vertices.items in
-    let ss = a.slots.items in
+    let ss = a.slots in
     let names : (j : ℕ) → names_of h j ≡ names_of g j = λ j.
     (let s = sum_by-set (λ z. names_in j z.fields) g.vertices v y no_vertex low in omega (arith, s)) in
     let arcs : (w : ℕ) → arcs_of h w ≡ arcs_of g w = λ w.
@@ -130,7 +130,7 @@ len_of_entry (Some s) (Some e) same live = ap (λ o. (arc_or no_arc o).len) same
 
 pub len_opened : (a b : Inside) (g : GraphOf) (k : ℕ) (z : ℤ) → Opened a g → has_arc g k ≡ true → FitsSigned w64 z
     → b.id ≡ a.id → b.types ≡ a.types → b.fields ≡ a.fields → b.live ≡ a.live → b.vertices.items ≡ a.vertices.items
-    → b.slots.items ≡ set a.slots.items k (with_len_in z (slot_at a.slots.items k)) → Opened b (with_len g k z)
+    → b.slots ≡ set a.slots k (with_len_in z (slot_at a.slots k)) → Opened b (with_len g k z)
 unfolding with_len
 len_opened a b g k z o there fits id types fields live vertices slots =
     let h = with_len g k z in
@@ -150,7 +150,7 @@ len_opened a b g k z o there fits id types fields live vertices slots =
     let arc' : IsArc (n_of h) h.entries e = IsArc-keeps (n_of g) (n_of h) g.entries h.entries e keeps arc in
     let one : Option ArcOf → ℕ = λ r. cond (is_some r) 1 0 in
     let vs = a.vertices.items in
-    let ss = a.slots.items in
+    let ss = a.slots in
     let p = with_len_in z (slot_at ss k) in
     let ts = set ss k p in
     let shown : Shows vs ts h = record {
@@ -211,17 +211,17 @@ pub record LenDone (b : Inside) (g : GraphOf) (k : ArcNo) (z old : ℤ) : Type 0
   pub sound : IsGraph (graph_of b)
 
 pub len_done : (a b : Inside) (g : GraphOf) (k : ArcNo) (z z' old : ℤ) (ss ts : Slots) → graph_of a ≡ g → IsArena a → has_arc g k.0 ≡ true → FitsSigned w64 z → z' ≡ z
-    → ss ≡ a.slots.items → old ≡ len_in (slot_at ss k.0) → ts ≡ set ss k.0 (with_len_in z' (slot_at ss k.0))
-    → b.id ≡ a.id → b.types ≡ a.types → b.fields ≡ a.fields → b.live ≡ a.live → b.vertices.items ≡ a.vertices.items → b.slots.items ≡ ts → LenDone b g k z (to_z w64 (of_z w64 old))
+    → ss ≡ a.slots → old ≡ len_in (slot_at ss k.0) → ts ≡ set ss k.0 (with_len_in z' (slot_at ss k.0))
+    → b.id ≡ a.id → b.types ≡ a.types → b.fields ≡ a.fields → b.live ≡ a.live → b.vertices.items ≡ a.vertices.items → b.slots ≡ ts → LenDone b g k z (to_z w64 (of_z w64 old))
 len_done a b g k z z' old ss ts same arena there fits is ss_is old_is ts_is id types fields live vertices slots =
     let o = opened a g same arena in
-    let made : b.slots.items ≡ set a.slots.items k.0 (with_len_in z (slot_at a.slots.items k.0)) =
-    slots ∙ (ts_is ∙ (ap (λ r. set r k.0 (with_len_in z' (slot_at r k.0))) ss_is ∙ ap (λ y. set a.slots.items k.0 (with_len_in y (slot_at a.slots.items k.0))) is)) in
+    let made : b.slots ≡ set a.slots k.0 (with_len_in z (slot_at a.slots k.0)) =
+    slots ∙ (ts_is ∙ (ap (λ r. set r k.0 (with_len_in z' (slot_at r k.0))) ss_is ∙ ap (λ y. set a.slots k.0 (with_len_in y (slot_at a.slots k.0))) is)) in
     let after = len_opened a b g k.0 z o there fits id types fields live vertices made in
     let arena' = closed_arena b (with_len g k.0 z) after in
     let entry : arc_at g k.0 ≡ Some (entry_at g k.0) = some_entry (arc_at g k.0) there in
     let arc : IsArc (n_of g) g.entries (entry_at g k.0) = subst (λ r. IfSome r (IsArc (n_of g) g.entries)) entry (o.graph.arcs k.0 None (made_of_live g k.0 there)) in
-    let was : old ≡ (entry_at g k.0).len = old_is ∙ (ap (λ r. len_in (slot_at r k.0)) ss_is ∙ len_of_entry (slot_at a.slots.items k.0) (arc_at g k.0) (o.shows.entries k.0) there) in
+    let was : old ≡ (entry_at g k.0).len = old_is ∙ (ap (λ r. len_in (slot_at r k.0)) ss_is ∙ len_of_entry (slot_at a.slots k.0) (arc_at g k.0) (o.shows.entries k.0) there) in
     record {
       arena = arena';
       graph = closed b (with_len g k.0 z) after;
@@ -243,7 +243,7 @@ pub record LabelDone (b : Inside) (g : GraphOf) (v : VertexNo) (t old : List ℕ
 
 pub label_done : (a b : Inside) (g : GraphOf) (v : VertexNo) (t t' old : List ℕ) (x : vertex.Vertex) → graph_of a ≡ g → IsArena a → v.0 < n_of g → IsText t
     → x ≡ get_or a.vertices.items v.0 x → old ≡ x.label → t' ≡ t
-    → b.id ≡ a.id → b.types ≡ a.types → b.fields ≡ a.fields → b.live ≡ a.live → b.slots.items ≡ a.slots.items
+    → b.id ≡ a.id → b.types ≡ a.types → b.fields ≡ a.fields → b.live ≡ a.live → b.slots ≡ a.slots
     → b.vertices.items ≡ set a.vertices.items v.0 (record { label = t'; fields = x.fields; first = x.first }) → LabelDone b g v t old
 label_done a b g v t t' old x same arena low text read old_is is id types fields live slots vertices =
     let o = opened a g same arena in
@@ -282,15 +282,15 @@ util_vertex a g p v f x i u same arena there is read place =
     ∙ (get_or_default (vertex_at g v.0).fields (vertex_place f) u utils.Zero (omega (arith, six, vertex_six f)) ∙ ap (util_at g) (sym is)))
 
 pub util_arc : (a : Inside) (g : GraphOf) (p : Place) (k : ArcNo) (f : ArcField) (ss : Slots) (i : ℕ) (u : Util) → graph_of a ≡ g → IsArena a → has_place g p ≡ true
-    → p ≡ places.Arc k f → ss ≡ a.slots.items → i ≡ arc_place f → u ≡ get_or (fields_in (slot_at ss k.0)) i utils.Zero → u ≡ util_at g p
+    → p ≡ places.Arc k f → ss ≡ a.slots → i ≡ arc_place f → u ≡ get_or (fields_in (slot_at ss k.0)) i utils.Zero → u ≡ util_at g p
 unfolding util_at
 util_arc a g p k f ss i u same arena there is slots place here =
     let o = opened a g same arena in
     let there' : has_place g (places.Arc k f) ≡ true = subst (λ q. has_place g q ≡ true) is there in
     here
     ∙ (ap (λ r. get_or (fields_in (slot_at r k.0)) i utils.Zero) slots
-    ∙ (ap (λ j. get_or (fields_in (slot_at a.slots.items k.0)) j utils.Zero) place
-    ∙ (ap (λ us. get_or us (arc_place f) utils.Zero) (fields_of_entry (slot_at a.slots.items k.0) (arc_at g k.0) (o.shows.entries k.0) there') ∙ ap (util_at g) (sym is))))
+    ∙ (ap (λ j. get_or (fields_in (slot_at a.slots k.0)) j utils.Zero) place
+    ∙ (ap (λ us. get_or us (arc_place f) utils.Zero) (fields_of_entry (slot_at a.slots k.0) (arc_at g k.0) (o.shows.entries k.0) there') ∙ ap (util_at g) (sym is))))
 
 pub util_graph : (a : Inside) (g : GraphOf) (p : Place) (f : GraphField) (i : ℕ) (u : Util) → graph_of a ≡ g → IsArena a → p ≡ places.Graph f → i ≡ graph_place f → get_or a.fields i u ≡ util_at g p
 unfolding util_at
@@ -332,24 +332,24 @@ left_len g h k old l =
     }
 
 pub revert_len_after : (a b : Inside) (h : GraphOf) (k : ArcNo) (old z' : ℤ) (ss ts : Slots) (g : GraphOf) → graph_of a ≡ h → IsArena a → LeftByLen g k old h → z' ≡ old
-    → ss ≡ a.slots.items → ts ≡ set ss k.0 (with_len_in z' (slot_at ss k.0))
-    → b.id ≡ a.id → b.types ≡ a.types → b.fields ≡ a.fields → b.live ≡ a.live → b.vertices.items ≡ a.vertices.items → b.slots.items ≡ ts → Opened b g
+    → ss ≡ a.slots → ts ≡ set ss k.0 (with_len_in z' (slot_at ss k.0))
+    → b.id ≡ a.id → b.types ≡ a.types → b.fields ≡ a.fields → b.live ≡ a.live → b.vertices.items ≡ a.vertices.items → b.slots ≡ ts → Opened b g
 revert_len_after a b h k old z' ss ts g same arena l is ss_is ts_is id types fields live vertices slots =
     let o = opened a h same arena in
     let x = left_len g h k old l in
-    let made : b.slots.items ≡ set a.slots.items k.0 (with_len_in old (slot_at a.slots.items k.0)) =
-    slots ∙ (ts_is ∙ (ap (λ r. set r k.0 (with_len_in z' (slot_at r k.0))) ss_is ∙ ap (λ y. set a.slots.items k.0 (with_len_in y (slot_at a.slots.items k.0))) is)) in
+    let made : b.slots ≡ set a.slots k.0 (with_len_in old (slot_at a.slots k.0)) =
+    slots ∙ (ts_is ∙ (ap (λ r. set r k.0 (with_len_in z' (slot_at r k.0))) ss_is ∙ ap (λ y. set a.slots k.0 (with_len_in y (slot_at a.slots k.0))) is)) in
     subst (Opened b) x.back (len_opened a b h k.0 old o x.there x.fits id types fields live vertices made)
 
 live_slot : (o : Option Slot) → is_some o ≡ is_some (entry_of o)
 live_slot None = refl
 live_slot (Some s) = refl
 
-pub revert_len_slot : (a : Inside) (h : GraphOf) (k : ArcNo) (old : ℤ) (ss : Slots) (g : GraphOf) → graph_of a ≡ h → IsArena a → LeftByLen g k old h → ss ≡ a.slots.items → IsSome (slot_at ss k.0)
+pub revert_len_slot : (a : Inside) (h : GraphOf) (k : ArcNo) (old : ℤ) (ss : Slots) (g : GraphOf) → graph_of a ≡ h → IsArena a → LeftByLen g k old h → ss ≡ a.slots → IsSome (slot_at ss k.0)
 revert_len_slot a h k old ss g same arena l is =
     let o = opened a h same arena in
     let x = left_len g h k old l in
-    ap (λ r. is_some (slot_at r k.0)) is ∙ (live_slot (slot_at a.slots.items k.0) ∙ (ap is_some (o.shows.entries k.0) ∙ x.there))
+    ap (λ r. is_some (slot_at r k.0)) is ∙ (live_slot (slot_at a.slots k.0) ∙ (ap is_some (o.shows.entries k.0) ∙ x.there))
 
 -- undoing a set label
 pub record LeftLabel (g : GraphOf) (v : VertexNo) (old : List ℕ) (h : GraphOf) : Type 0 where
@@ -377,7 +377,7 @@ left_label g h v old l =
 
 pub revert_label_after : (a b : Inside) (h : GraphOf) (v : VertexNo) (old : List ℕ) (x : vertex.Vertex) (g : GraphOf) → graph_of a ≡ h → IsArena a → LeftByLabel g v old h
     → x ≡ get_or a.vertices.items v.0 x
-    → b.id ≡ a.id → b.types ≡ a.types → b.fields ≡ a.fields → b.live ≡ a.live → b.slots.items ≡ a.slots.items
+    → b.id ≡ a.id → b.types ≡ a.types → b.fields ≡ a.fields → b.live ≡ a.live → b.slots ≡ a.slots
     → b.vertices.items ≡ set a.vertices.items v.0 (record { label = old; fields = x.fields; first = x.first }) → Opened b g
 revert_label_after a b h v old x g same arena l read id types fields live slots vertices =
     let o = opened a h same arena in

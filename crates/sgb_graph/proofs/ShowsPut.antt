@@ -7,7 +7,7 @@ use Rattle.sgb_graph.specs.declared.field.VertexNo.{VertexNo}
 use Rattle.sgb_graph.specs.declared.field.ArcNo.{ArcNo}
 use Rattle.sgb_graph.specs.declared.field.Util.{Util}
 use Rattle.sgb_graph.specs.declared.graph.Vertex.{Vertex}
-use Rattle.sgb_graph.specs.declared.graph.Slot.{Slot}
+use Rattle.sgb_graph.specs.declared.graph.arena.Slot.{Slot}
 use Rattle.sgb_graph.specs.declared.delta.CutArc.{CutArc}
 use Rattle.sgb_graph.specs.Graph.{GraphOf, VertexOf, IsGraph, n_of, made_of, vertex_at, arcs_of, arc_at, occurrences, names_in, names_of}
 use Rattle.sgb_graph.specs.Edit.{with_cut_arc}
@@ -26,7 +26,9 @@ use Rattle.sgb_graph.proofs.PutBack.{owner_with, put_n, put_made, put_vertex_sam
 use Rattle.sgb_graph.proofs.Sound.{names_in_two, hole_unnamed, names_none, few_names}
 use Rattle.sgb_graph.proofs.Graphs.{made_of_live}
 use Rattle.sgb_graph.specs.Private.Link.{IsCounted}
-use Rattle.sgb_graph.specs.Graph.{IsValue, is_name}
+use Rattle.sgb_graph.specs.Graph.{IsValue, IsTip, is_name}
+use Rattle.sgb_graph.specs.declared.field.Tip.{Tip}
+use Rattle.sgb_graph.specs.declared.field.Tip.TheVariants as tips
 use Rattle.sgb_graph.specs.declared.field.Util.TheVariants as utils
 
 -- counting names changes nothing else
@@ -367,3 +369,9 @@ put_back_done vs ws ss ts rs g c d before link shows sound can ts_is before_is l
     let follows : link ≡ link_after vs us c.owner.0 before = link_is ∙ ap (λ t. link_after vs t c.owner.0 before) ts_is in
     let length_is : to_z w64 (of_z w64 c.len) ≡ c.len = to_z-of_z w64 c.len can.arc.len in
     rw (ws_is, made, follows, length_is) r
+
+-- a tip to one of n vertices, of which there are not more
+pub low_tip : (n : ℕ) (t : Tip) → n ≤ 65535 → IsTip n t → IsTip 65535 t
+low_tip n tips.Zero few low = tt
+low_tip n tips.One few low = tt
+low_tip n (tips.To v) few low = omega (arith, few, low)

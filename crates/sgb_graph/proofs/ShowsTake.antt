@@ -10,7 +10,7 @@ use Rattle.sgb_graph.specs.declared.field.ArcNo.{ArcNo}
 use Rattle.sgb_graph.specs.declared.field.Util.{Util}
 use Rattle.sgb_graph.specs.declared.field.Util.TheVariants as utils
 use Rattle.sgb_graph.specs.declared.graph.Vertex.{Vertex}
-use Rattle.sgb_graph.specs.declared.graph.Slot.{Slot}
+use Rattle.sgb_graph.specs.declared.graph.arena.Slot.{Slot}
 use Rattle.sgb_graph.specs.declared.delta.CutArc.{CutArc}
 use Rattle.sgb_graph.specs.Graph.{GraphOf, VertexOf, ArcOf, IsGraph, IsArc, IsValue, n_of, made_of, vertex_at, arcs_of, arc_at, occurrences, names_of}
 use Rattle.sgb_graph.specs.Edit.{without_arc, owner_of, place_of, entry_at, arc_or, no_arc}

@@ -5,7 +5,7 @@ use Rattle.std.proofs.lemmas.List.{get_or-set_same, get_or-set_other, set_past, 
 use Rattle.sgb_graph.specs.declared.field.ArcNo.{ArcNo}
 use Rattle.sgb_graph.specs.declared.field.Util.{Util}
 use Rattle.sgb_graph.specs.declared.field.Util.TheVariants.{Zero, Int, Vertex, Arc, Text}
-use Rattle.sgb_graph.specs.declared.graph.Slot.{Slot}
+use Rattle.sgb_graph.specs.declared.graph.arena.Slot.{Slot}
 use Rattle.sgb_graph.specs.Graph.{is_name}
 use Rattle.sgb_graph.specs.Private.Arena.{Slots, slot_at, next_of, entry_of, owner_in, names_counted}
 use Rattle.sgb_graph.specs.Private.Link.{with_next, named_more, named_less, slots_relinked, slots_gaining, slots_losing}

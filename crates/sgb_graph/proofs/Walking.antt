@@ -4,7 +4,7 @@ use Rattle.std.proofs.lemmas.Bool.{cases_Bool, eq-eqb}
 use Rattle.std.proofs.lemmas.List.Elements.{All-cons}
 use Rattle.sgb_graph.specs.declared.field.ArcNo.{ArcNo}
 use Rattle.sgb_graph.specs.declared.graph.Vertex.{Vertex}
-use Rattle.sgb_graph.specs.declared.graph.Slot.{Slot}
+use Rattle.sgb_graph.specs.declared.graph.arena.Slot.{Slot}
 use Rattle.sgb_graph.specs.declared.graph.Graph.TheInside.{Inside}
 use Rattle.sgb_graph.specs.Graph.{GraphOf, IsGraph, n_of, arcs_of, occurrences}
 use Rattle.sgb_graph.specs.Edit.{owner_of}
@@ -44,7 +44,7 @@ same_walk g v ss (j ∷ (k ∷ ks)) same =
     (same_walk g v ss (k ∷ ks) (λ i h. same i (omega (arith, occurs_more i j (k ∷ ks), h)))))
 
 -- what `walk` walks along
-pub walk_is : (a : Inside) (g : GraphOf) (v : ℕ) (d : Bool) (x : Vertex) (ss : Slots) (ks : List ℕ) → graph_of a ≡ g → IsArena a → v < n_of g → x ≡ get_or a.vertices.items v x → ss ≡ a.slots.items → ks ≡ walked d ss (numbers ss x.first) → ks ≡ walk d g v
+pub walk_is : (a : Inside) (g : GraphOf) (v : ℕ) (d : Bool) (x : Vertex) (ss : Slots) (ks : List ℕ) → graph_of a ≡ g → IsArena a → v < n_of g → x ≡ get_or a.vertices.items v x → ss ≡ a.slots → ks ≡ walked d ss (numbers ss x.first) → ks ≡ walk d g v
 walk_is a g v true x ss ks same arena low read is are = arcs_are a g v x ss ks same arena low read is are
 walk_is a g v false x ss ks same arena low read is are =
     let o = opened a g same arena in
@@ -52,7 +52,7 @@ walk_is a g v false x ss ks same arena low read is are =
     are
     ∙ (ap (without_pairs ss) list
     ∙ (ap (λ (s : Slots). without_pairs s (arcs_of g v)) is
-    ∙ sym (same_walk g v a.slots.items (arcs_of g v) (λ k h. loop_at a.vertices.items a.slots.items g v k (slot_at a.slots.items k) o.shows o.graph refl h))))
+    ∙ sym (same_walk g v a.slots (arcs_of g v) (λ k h. loop_at a.vertices.items a.slots g v k (slot_at a.slots k) o.shows o.graph refl h))))
 
 -- what holds of each number of a list holds of each one of a walk
 All-walk : (P : ℕ → Type 0) (g : GraphOf) (v : ℕ) (ks : List ℕ) → All P ks → All P (without_halves g v ks)

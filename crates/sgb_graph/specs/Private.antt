@@ -1,5 +1,8 @@
 pub mod Arena
 pub mod Blank
+pub mod Cells
+pub mod CodeLaws
+pub mod Codes
 pub mod Exchange
 pub mod Fill
 pub mod Holes

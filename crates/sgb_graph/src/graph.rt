@@ -1,7 +1,9 @@
 //! Graphs.
 
 mod arcs;
+mod arena;
 mod build;
+mod codes;
 mod cut;
 mod exchange;
 mod fill;
@@ -19,8 +21,11 @@ mod set;
 mod walk;
 
 use crate::text::Label;
-use crate::{ArcNo, Text, Tip, Types, Util, VertexNo};
+use crate::{Text, Types, Util};
 pub use arcs::Arcs;
+use arena::Arena;
+pub(crate) use arena::Cell;
+use codes::Link;
 pub use read::ArcView;
 use std::marker::Model;
 pub use walk::Walk;
@@ -39,7 +44,7 @@ pub struct Graph {
     types: Types,
     fields: [Util; 6],
     vertices: Vec<Vertex>,
-    slots: Vec<Option<Slot>>,
+    slots: Arena,
     // How many slots hold an arc.
     live: u32,
 }
@@ -48,19 +53,7 @@ pub struct Graph {
 struct Vertex {
     label: Label,
     fields: [Util; 6],
-    first: Option<ArcNo>,
-}
-
-#[derive(Drop)]
-pub(crate) struct Slot {
-    owner: VertexNo,
-    tip: Tip,
-    // The arc that follows in the owner's list.
-    next: Option<ArcNo>,
-    // How many fields of the graph name this arc.
-    names: u32,
-    len: i64,
-    fields: [Util; 2],
+    first: Link,
 }
 
 impl Model for Graph {

@@ -6,7 +6,7 @@ use Rattle.std.proofs.lemmas.Bool.{cases_Bool, cases_lt, cases_order, eqb-true}
 use Rattle.std.proofs.lemmas.Grind.{flat_map-append}
 use Rattle.std.proofs.lemmas.List.Elements.{All-cons, All-nil}
 use Rattle.std.proofs.lemmas.List.FromFn.{length-map-range_with_len}
-use Rattle.sgb_graph.specs.Builder.{Insertion, insertion}
+use Rattle.sgb_graph.specs.Builder.{Insertion}
 use Rattle.sgb_graph.specs.Graph.{GraphOf, n_of}
 use Rattle.sgb_operand.specs.declared.spoke.Spoke.{Spoke}
 use Rattle.sgb_operand.specs.Operand.{spokes}
@@ -16,9 +16,10 @@ use Rattle.sgb_induced.specs.declared.fate.Fate.TheVariants.{Copies}
 use Rattle.sgb_induced.specs.declared.image.Image.{Image}
 use Rattle.sgb_induced.specs.Image.{count_of, fate, images, leader, made_at, start}
 use Rattle.sgb_induced.specs.Induced as public
-use Rattle.sgb_induced.specs.Induced.{asked, asked_at, insertions, is_met, is_wanted}
+use Rattle.sgb_induced.specs.Induced.{asked, asked_at, insertions, is_met}
 use Rattle.sgb_induced.specs.Least.{least}
 use Rattle.sgb_induced.specs.Private.Run.{all_runs, between, expanded, image_at, image_of, is_run, no_image, numbers, run_at, runs_at, runs_of}
+use Rattle.sgb_induced.proofs.Alone.{alone_is, rows}
 use Rattle.sgb_induced.proofs.Covering.{Apart, In}
 use Rattle.sgb_induced.proofs.Leading.{fate_of_leader, leader-le, leader_of_leader}
 use Rattle.sgb_induced.proofs.Naming.{made_leading}
@@ -46,29 +47,26 @@ same_images fs n v {is} known long h =
     ap numbers there ∙ ap₂ (λ a f. range_with_len (start fs a) (count_of f)) (leader_of_leader fs v inside) (fate_of_leader fs v inside)
 
 -- ---- the insertions of one spoke
-rows : Bool → Bool → Bool → List ℕ → List ℕ → ℤ → List Insertion
-rows loops d alone xs ys len = flat_map (λ x. map (λ y. insertion x y len) (filter (is_wanted loops d alone x) ys)) xs
-
 rows_none : (loops d alone : Bool) (xs : List ℕ) (len : ℤ) → rows loops d alone xs [] len ≡ []
-unfolding rows
 rows_none loops d alone [] len = refl
 rows_none loops d alone (x ∷ xs) len = rows_none loops d alone xs len
 
 asked_none_from : (loops d : Bool) (fs : List Fate) (v w : ℕ) (len : ℤ) → images fs v ≡ [] → public.between loops d fs v w len ≡ []
-unfolding rows public.between
-asked_none_from loops d fs v w len none = ap (λ xs. rows loops d (leader fs v == leader fs w) xs (images fs w) len) none
+unfolding public.between
+asked_none_from loops d fs v w len none = ap (λ xs. rows loops d (v == w) xs (images fs w) len) none
 
 asked_none_to : (loops d : Bool) (fs : List Fate) (v w : ℕ) (len : ℤ) → images fs w ≡ [] → public.between loops d fs v w len ≡ []
-unfolding rows public.between
-asked_none_to loops d fs v w len none = ap (λ ys. rows loops d (leader fs v == leader fs w) (images fs v) ys len) none ∙ rows_none loops d (leader fs v == leader fs w) (images fs v) len
+unfolding public.between
+asked_none_to loops d fs v w len none = ap (λ ys. rows loops d (v == w) (images fs v) ys len) none ∙ rows_none loops d (v == w) (images fs v) len
 
 one_spoke : (loops d : Bool) (fs : List Fate) (n v : ℕ) (s : Spoke) {is : List Image} → is ≡ map (image_of fs) (range_with_len 0 n) → length fs ≡ n → v < n → s.to < n → expanded loops d is (run_at is v s) ≡ public.between loops d fs v s.to s.len
-unfolding rows expanded between public.between
+unfolding expanded between public.between
 one_spoke loops d fs n v s {is} known long h k =
     let from = ap (λ (i : Image). i.leader) (known_image fs n v known h) in
     let to = ap (λ (i : Image). i.leader) (known_image fs n s.to known k) in
     ap (λ a. rows loops d a (numbers (image_at is (image_at is v).leader)) (numbers (image_at is (image_at is s.to).leader)) s.len) (ap₂ (λ a b. a == b) from to)
-    ∙ ap₂ (λ xs ys. rows loops d (leader fs v == leader fs s.to) xs ys s.len) (same_images fs n v known long h) (same_images fs n s.to known long k)
+    ∙ (ap₂ (λ xs ys. rows loops d (leader fs v == leader fs s.to) xs ys s.len) (same_images fs n v known long h) (same_images fs n s.to known long k)
+    ∙ alone_is loops d fs v s.to s.len (omega (arith, h, long)) (omega (arith, k, long)))
 
 -- ---- those of one vertex
 inside_from : (fs : List Fate) (n w : ℕ) {is : List Image} → is ≡ map (image_of fs) (range_with_len 0 n) → ((image_at is w).count == 0) ≡ false → w < n

@@ -1,4 +1,7 @@
 pub mod Ranges
+pub mod Alone
+pub mod Orders
+pub mod Twins
 pub mod Positions
 pub mod Expanding
 pub mod Fating

@@ -28,74 +28,74 @@ use Rattle.sgb_induced.proofs.Placing.{all_within}
 later : GraphOf → Option Refusal
 later g = refusal_unless (have_fates g) BadOperand (refusal_unless (have_names g (fates_of g)) BadOperand None)
 
-planned : (g : GraphOf) (spec : InducedSpec) (o : Option Refusal) → refusal_of_induced g spec ≡ o → plan_of_induced g spec ≡ plan_unless o (induced_plan g spec)
-planned g spec o is = ap (λ r. plan_unless r (induced_plan g spec)) is
+planned : (g : GraphOf) (t : List ℕ) (spec : InducedSpec) (o : Option Refusal) → refusal_of_induced g t ≡ o → plan_of_induced g t spec ≡ plan_unless o (induced_plan g t spec)
+planned g t spec o is = ap (λ r. plan_unless r (induced_plan g t spec)) is
 
-first_refusal : (g : GraphOf) (spec : InducedSpec) → length spec.description.now ≤ 40 → refusal_of_induced g spec ≡ option_or (refusal_of_operand g) (later g)
+first_refusal : (g : GraphOf) (t : List ℕ) → length t ≤ 40 → refusal_of_induced g t ≡ option_or (refusal_of_operand g) (later g)
 unfolding later
-first_refusal g spec short = rw (le-leb (length spec.description.now) 40 short) refl
+first_refusal g t short = rw (le-leb (length t) 40 short) refl
 
-next_refusal : (g : GraphOf) (spec : InducedSpec) → length spec.description.now ≤ 40 → refusal_of_operand g ≡ None → refusal_of_induced g spec ≡ later g
-next_refusal g spec short fits = first_refusal g spec short ∙ ap (λ o. option_or o (later g)) fits
+next_refusal : (g : GraphOf) (t : List ℕ) → length t ≤ 40 → refusal_of_operand g ≡ None → refusal_of_induced g t ≡ later g
+next_refusal g t short fits = first_refusal g t short ∙ ap (λ o. option_or o (later g)) fits
 
-pub refused_long : (g : GraphOf) (spec : InducedSpec) → 40 < length spec.description.now → IsMade (plan_of_induced g spec) (Err BadSpecs)
-refused_long g spec long =
-    let first : refusal_of_induced g spec ≡ Some BadSpecs = rw (lt-leb (length spec.description.now) 40 long) refl in
-    subst (λ plan. IsMade plan (Err BadSpecs)) (sym (planned g spec (Some BadSpecs) first)) (refused_before BadSpecs)
+pub refused_long : (g : GraphOf) (t : List ℕ) (spec : InducedSpec) → 40 < length t → IsMade (plan_of_induced g t spec) (Err BadSpecs)
+refused_long g t spec long =
+    let first : refusal_of_induced g t ≡ Some BadSpecs = rw (lt-leb (length t) 40 long) refl in
+    subst (λ plan. IsMade plan (Err BadSpecs)) (sym (planned g t spec (Some BadSpecs) first)) (refused_before BadSpecs)
 
-pub refused_operand : (g : GraphOf) (spec : InducedSpec) (e : Refusal) → length spec.description.now ≤ 40 → refusal_of_operand g ≡ Some e → IsMade (plan_of_induced g spec) (Err e)
-refused_operand g spec e short refused =
-    let first : refusal_of_induced g spec ≡ Some e = first_refusal g spec short ∙ ap (λ o. option_or o (later g)) refused in
-    subst (λ plan. IsMade plan (Err e)) (sym (planned g spec (Some e) first)) (refused_before e)
+pub refused_operand : (g : GraphOf) (t : List ℕ) (spec : InducedSpec) (e : Refusal) → length t ≤ 40 → refusal_of_operand g ≡ Some e → IsMade (plan_of_induced g t spec) (Err e)
+refused_operand g t spec e short refused =
+    let first : refusal_of_induced g t ≡ Some e = first_refusal g t short ∙ ap (λ o. option_or o (later g)) refused in
+    subst (λ plan. IsMade plan (Err e)) (sym (planned g t spec (Some e) first)) (refused_before e)
 
-pub refused_fates : (g : GraphOf) (spec : InducedSpec) {e : Refusal} → length spec.description.now ≤ 40 → refusal_of_operand g ≡ None → (e ≡ NoRoom) ⊎ ((e ≡ BadOperand) × (have_fates g ≡ false)) → IsMade (plan_of_induced g spec) (Err e)
+pub refused_fates : (g : GraphOf) (t : List ℕ) (spec : InducedSpec) {e : Refusal} → length t ≤ 40 → refusal_of_operand g ≡ None → (e ≡ NoRoom) ⊎ ((e ≡ BadOperand) × (have_fates g ≡ false)) → IsMade (plan_of_induced g t spec) (Err e)
 unfolding later
-refused_fates g spec short fits (inl room) = inl room
-refused_fates g spec {e} short fits (inr bad) =
-    let first : refusal_of_induced g spec ≡ Some BadOperand = next_refusal g spec short fits ∙ rw bad.1 refl in
-    subst (λ r. IsMade (plan_of_induced g spec) (Err r)) (sym bad.0) (subst (λ plan. IsMade plan (Err BadOperand)) (sym (planned g spec (Some BadOperand) first)) (refused_before BadOperand))
+refused_fates g t spec short fits (inl room) = inl room
+refused_fates g t spec {e} short fits (inr bad) =
+    let first : refusal_of_induced g t ≡ Some BadOperand = next_refusal g t short fits ∙ rw bad.1 refl in
+    subst (λ r. IsMade (plan_of_induced g t spec) (Err r)) (sym bad.0) (subst (λ plan. IsMade plan (Err BadOperand)) (sym (planned g t spec (Some BadOperand) first)) (refused_before BadOperand))
 
-pub refused_long_names : (g : GraphOf) (spec : InducedSpec) → length spec.description.now ≤ 40 → refusal_of_operand g ≡ None → have_fates g ≡ true → have_names g (fates_of g) ≡ false → IsMade (plan_of_induced g spec) (Err BadOperand)
+pub refused_long_names : (g : GraphOf) (t : List ℕ) (spec : InducedSpec) → length t ≤ 40 → refusal_of_operand g ≡ None → have_fates g ≡ true → have_names g (fates_of g) ≡ false → IsMade (plan_of_induced g t spec) (Err BadOperand)
 unfolding later
-refused_long_names g spec short fits all long =
-    let first : refusal_of_induced g spec ≡ Some BadOperand = next_refusal g spec short fits ∙ rw (all, long) refl in
-    subst (λ plan. IsMade plan (Err BadOperand)) (sym (planned g spec (Some BadOperand) first)) (refused_before BadOperand)
+refused_long_names g t spec short fits all long =
+    let first : refusal_of_induced g t ≡ Some BadOperand = next_refusal g t short fits ∙ rw (all, long) refl in
+    subst (λ plan. IsMade plan (Err BadOperand)) (sym (planned g t spec (Some BadOperand) first)) (refused_before BadOperand)
 
-pub accepted : (g : GraphOf) (spec : InducedSpec) → length spec.description.now ≤ 40 → refusal_of_operand g ≡ None → have_fates g ≡ true → have_names g (fates_of g) ≡ true → plan_of_induced g spec ≡ Ok (induced_plan g spec)
+pub accepted : (g : GraphOf) (t : List ℕ) (spec : InducedSpec) → length t ≤ 40 → refusal_of_operand g ≡ None → have_fates g ≡ true → have_names g (fates_of g) ≡ true → plan_of_induced g t spec ≡ Ok (induced_plan g t spec)
 unfolding later
-accepted g spec short fits all fit =
-    let none : refusal_of_induced g spec ≡ None = next_refusal g spec short fits ∙ rw (all, fit) refl in
-    planned g spec None none
+accepted g t spec short fits all fit =
+    let none : refusal_of_induced g t ≡ None = next_refusal g t short fits ∙ rw (all, fit) refl in
+    planned g t spec None none
 
 -- ---- what is made of the plan
-pub begins : (g : GraphOf) (spec : InducedSpec) {id types : List ℕ} {b : Builder} → b ≡ record { graph = bare_graph id types []; directed = spec.directed } → id ≡ (induced_plan g spec).id → types ≡ (induced_plan g spec).types → b ≡ begun (induced_plan g spec)
+pub begins : (g : GraphOf) (t : List ℕ) (spec : InducedSpec) {id types : List ℕ} {b : Builder} → b ≡ record { graph = bare_graph id types []; directed = spec.directed } → id ≡ (induced_plan g t spec).id → types ≡ (induced_plan g t spec).types → b ≡ begun (induced_plan g t spec)
 unfolding induced_plan
-begins g spec is named letters = is ∙ ap₂ (λ i t. record { graph = bare_graph i t []; directed = spec.directed }) named letters
+begins g t spec is named letters = is ∙ ap₂ (λ i t. record { graph = bare_graph i t []; directed = spec.directed }) named letters
 
-pub refused_images : (g : GraphOf) (spec : InducedSpec) {e : Refusal} → (e ≡ NoRoom) ⊎ ((e ≡ TooLarge) × (65535 < start (fates_of g) (n_of g))) → IsMade (Ok (induced_plan g spec)) (Err e)
+pub refused_images : (g : GraphOf) (t : List ℕ) (spec : InducedSpec) {e : Refusal} → (e ≡ NoRoom) ⊎ ((e ≡ TooLarge) × (65535 < start (fates_of g) (n_of g))) → IsMade (Ok (induced_plan g t spec)) (Err e)
 unfolding induced_plan
-refused_images g spec (inl room) = inl room
-refused_images g spec (inr large) = many_vertices (induced_plan g spec) large.0 (omega (arith, large.1, length-named g (fates_of g)))
+refused_images g t spec (inl room) = inl room
+refused_images g t spec (inr large) = many_vertices (induced_plan g t spec) large.0 (omega (arith, large.1, length-named g (fates_of g)))
 
-pub named_all : (g : GraphOf) (spec : InducedSpec) {b c : Builder} → b ≡ begun (induced_plan g spec) → c ≡ with_named b (named g (fates_of g)) → c ≡ with_named (begun (induced_plan g spec)) (induced_plan g spec).vertices
+pub named_all : (g : GraphOf) (t : List ℕ) (spec : InducedSpec) {b c : Builder} → b ≡ begun (induced_plan g t spec) → c ≡ with_named b (named g (fates_of g)) → c ≡ with_named (begun (induced_plan g t spec)) (induced_plan g t spec).vertices
 unfolding induced_plan
-named_all g spec begun_so named_so = named_so ∙ ap (λ b. with_named b (named g (fates_of g))) begun_so
+named_all g t spec begun_so named_so = named_so ∙ ap (λ b. with_named b (named g (fates_of g))) begun_so
 
-pub refused_named : (g : GraphOf) (spec : InducedSpec) {b : Builder} {e : Refusal} → b ≡ begun (induced_plan g spec) → RefusesNames b (named g (fates_of g)) e → IsMade (Ok (induced_plan g spec)) (Err e)
+pub refused_named : (g : GraphOf) (t : List ℕ) (spec : InducedSpec) {b : Builder} {e : Refusal} → b ≡ begun (induced_plan g t spec) → RefusesNames b (named g (fates_of g)) e → IsMade (Ok (induced_plan g t spec)) (Err e)
 unfolding induced_plan
-refused_named g spec {b} {e} begun_so refused = refused_names (induced_plan g spec) (subst (λ c. RefusesNames c (named g (fates_of g)) e) begun_so refused)
+refused_named g t spec {b} {e} begun_so refused = refused_names (induced_plan g t spec) (subst (λ c. RefusesNames c (named g (fates_of g)) e) begun_so refused)
 
-pub n-named_all : (g : GraphOf) (spec : InducedSpec) {b c : Builder} → b ≡ begun (induced_plan g spec) → c ≡ with_named b (named g (fates_of g)) → n_of c.graph ≡ start (fates_of g) (n_of g)
+pub n-named_all : (g : GraphOf) (t : List ℕ) (spec : InducedSpec) {b c : Builder} → b ≡ begun (induced_plan g t spec) → c ≡ with_named b (named g (fates_of g)) → n_of c.graph ≡ start (fates_of g) (n_of g)
 unfolding induced_plan
-n-named_all g spec {b} {c} begun_so named_so =
+n-named_all g t spec {b} {c} begun_so named_so =
     let none : n_of b.graph ≡ 0 = ap (λ (d : Builder). n_of d.graph) begun_so in
     let all : n_of c.graph ≡ n_of (with_named b (named g (fates_of g))).graph = ap (λ (d : Builder). n_of d.graph) named_so in
     omega (arith, none, all, n-with_named b (named g (fates_of g)), length-named g (fates_of g))
 
 -- the insertions of the runs are those of the plan
-pub inserted_all : (g : GraphOf) (spec : InducedSpec) {is : List Image} {rs : List Run} → is ≡ map (image_of (fates_of g)) (range_with_len 0 (n_of g)) → rs ≡ runs_of spec.multi spec.directed g is → flat_map (expanded spec.loops spec.directed is) rs ≡ (induced_plan g spec).insertions
+pub inserted_all : (g : GraphOf) (t : List ℕ) (spec : InducedSpec) {is : List Image} {rs : List Run} → is ≡ map (image_of (fates_of g)) (range_with_len 0 (n_of g)) → rs ≡ runs_of spec.multi spec.directed g is → flat_map (expanded spec.loops spec.directed is) rs ≡ (induced_plan g t spec).insertions
 unfolding induced_plan
-inserted_all g spec {is} {rs} known gathered =
+inserted_all g t spec {is} {rs} known gathered =
     ap (flat_map (expanded spec.loops spec.directed is)) gathered ∙ expanded_all g (fates_of g) spec.loops spec.multi spec.directed known (long_enough g refl)
 
 pub known_all : (g : GraphOf) {fs : List Fate} {is : List Image} → fs ≡ fates_of g → is ≡ map (image_of fs) (range_with_len 0 (length fs)) → is ≡ map (image_of (fates_of g)) (range_with_len 0 (n_of g))

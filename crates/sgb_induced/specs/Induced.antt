@@ -9,13 +9,12 @@ use Rattle.sgb_graph.specs.Edit.{refusal_unless}
 use Rattle.sgb_graph.specs.Graph.{GraphOf, n_of}
 use Rattle.sgb_operand.specs.declared.spoke.Spoke.{Spoke}
 use Rattle.sgb_operand.specs.Operand.{refusal_of_operand, spokes}
-use Rattle.sgb_plan.specs.declared.part.Part.TheVariants.{Flag, Word}
-use Rattle.sgb_plan.specs.Id.{id_of_one, part_text}
+use Rattle.sgb_plan.specs.Id.{id_of_one, flag_text}
 use Rattle.sgb_plan.specs.Plan.{Plan, no_letters, plan_unless}
 use Rattle.sgb_induced.specs.declared.fate.Fate.{Fate}
 use Rattle.sgb_induced.specs.declared.inducing.InducedSpec.{InducedSpec}
 use Rattle.sgb_induced.specs.Fate.{fates_of, have_fates}
-use Rattle.sgb_induced.specs.Image.{images, leader, named, have_names}
+use Rattle.sgb_induced.specs.Image.{images, named, have_names}
 use Rattle.sgb_induced.specs.Least.{least}
 
 -- without a direction only the spokes of v that lead to v or to a later vertex count
@@ -30,7 +29,7 @@ is_wanted loops directed alone x y = (loops || not (x == y)) && (directed || (no
 -- from each image of v to each image of w
 unfoldable pub between : Bool → Bool → List Fate → ℕ → ℕ → ℤ → List Insertion
 between loops directed fs v w len =
-    let alone = leader fs v == leader fs w in
+    let alone = v == w in
     flat_map (λ x. map (λ y. insertion x y len) (filter (is_wanted loops directed alone x) (images fs w))) (images fs v)
 
 -- those that the spokes of v ask for, in their order
@@ -46,14 +45,13 @@ unfoldable pub insertions : GraphOf → List Fate → Bool → Bool → Bool →
 insertions g fs loops multi directed =
     if multi then asked g fs loops directed else least directed (asked g fs loops directed)
 
--- the words of the heading behind the graph's id
-abbrev pub words : InducedSpec → List (List ℕ)
-words spec =
-    map part_text (Word spec.description ∷ Flag spec.loops ∷ Flag spec.multi ∷ Flag spec.directed ∷ [])
+-- what stands in the id behind the graph's id
+abbrev pub words : List ℕ → InducedSpec → List (List ℕ)
+words description spec = description ∷ flag_text spec.loops ∷ flag_text spec.multi ∷ flag_text spec.directed ∷ []
 
-unfoldable pub induced_plan : GraphOf → InducedSpec → Plan
-induced_plan g spec = record {
-  id = id_of_one (codes "induced") g.id (words spec);
+unfoldable pub induced_plan : GraphOf → List ℕ → InducedSpec → Plan
+induced_plan g description spec = record {
+  id = id_of_one (codes "induced") g.id (words description spec);
   types = no_letters;
   vertices = named g (fates_of g);
   directed = spec.directed;
@@ -62,12 +60,12 @@ induced_plan g spec = record {
 
 -- the first refusal before the plan: a long description; an arc that leads to no vertex; a field z that does not say
 -- what becomes of its vertex; the name of a copy that is too long
-abbrev pub refusal_of_induced : GraphOf → InducedSpec → Option Refusal
-refusal_of_induced g spec =
-    refusal_unless (nat_le (length spec.description.now) 40) BadSpecs
+abbrev pub refusal_of_induced : GraphOf → List ℕ → Option Refusal
+refusal_of_induced g description =
+    refusal_unless (nat_le (length description) 40) BadSpecs
     (option_or (refusal_of_operand g)
     (refusal_unless (have_fates g) BadOperand
     (refusal_unless (have_names g (fates_of g)) BadOperand None)))
 
-abbrev pub plan_of_induced : GraphOf → InducedSpec → Result Plan Refusal
-plan_of_induced g spec = plan_unless (refusal_of_induced g spec) (induced_plan g spec)
+abbrev pub plan_of_induced : GraphOf → List ℕ → InducedSpec → Result Plan Refusal
+plan_of_induced g description spec = plan_unless (refusal_of_induced g description) (induced_plan g description spec)

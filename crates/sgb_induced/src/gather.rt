@@ -5,7 +5,8 @@ ghost use Rattle.sgb_induced.specs.Induced.{is_met};
 ghost use Rattle.sgb_induced.specs.Private.Run.{all_runs, is_run, run_at, runs_of};
 
 use crate::image::{Image, image_at};
-use crate::run::{Run, merge_runs};
+use crate::run::Run;
+use crate::twin::merge_runs;
 use sgb_graph::{Graph, VertexNo};
 use sgb_operand::{Spoke, read_spokes};
 use std::alloc::{AllocError, Global};

@@ -16,11 +16,9 @@ use sgb_operand::check_operand;
 use sgb_plan::{Part, id_of_one};
 use std::alloc::Global;
 
-/// The words of an induced graph's heading.
-#[derive(Clone, Copy, Debug)]
-pub struct InducedSpec<'a> {
-    /// What the id says of the graph: at most 40 bytes.
-    pub description: &'a Text,
+/// What an induced graph is asked for.
+#[derive(Clone, Copy, Debug, PartialEq, Eq)]
+pub struct InducedSpec {
     /// An arc may lead from a vertex to itself.
     pub loops: bool,
     /// All arcs between two vertices are kept, and not the first alone.
@@ -29,7 +27,8 @@ pub struct InducedSpec<'a> {
     pub directed: bool,
 }
 
-/// The graph that the fields z of `graph` induce, `induced` of the Stanford GraphBase.
+/// The graph that the fields z of `graph` induce, `induced` of the Stanford GraphBase. The description, of at most 40
+/// bytes, stands only in the id.
 ///
 /// `Zero` drops a vertex, `Int(k)` makes k copies of it, and `Int(-k)` puts it in class k. The new vertices stand in
 /// the order of `graph`: the copies of a vertex in its place, named as it is and from the second on `NAME:2`, `NAME:3`
@@ -42,10 +41,15 @@ pub struct InducedSpec<'a> {
 /// Refused `BadSpecs` where the description has more than 40 bytes; then `BadOperand` where an arc leads to no vertex,
 /// where the field z of a vertex is a vertex, an arc or a text, or where the name of a copy would have more than 4,095
 /// bytes; then `TooLarge` where there would be more than 65,535 vertices or 1,000,000 arcs.
-pub fn induced(alloc: Global, graph: &Graph, spec: &InducedSpec<'_>) -> Result<Graph, Refusal>
-    ensures made { IsMade (plan_of_induced graph.now spec.now) result }
+pub fn induced(
+    alloc: Global,
+    graph: &Graph,
+    description: &Text,
+    spec: &InducedSpec,
+) -> Result<Graph, Refusal>
+    ensures made { IsMade (plan_of_induced graph.now description.now spec.now) result }
 {
-    if spec.description.bytes().len() > 40 {
+    if description.bytes().len() > 40 {
         return Err(Refusal::BadSpecs);
     }
     check_operand(graph)?;
@@ -53,24 +57,25 @@ pub fn induced(alloc: Global, graph: &Graph, spec: &InducedSpec<'_>) -> Result<G
     if !have_names(graph, &fates) {
         return Err(Refusal::BadOperand);
     }
-    build_induced(alloc, graph, spec, &fates)
+    build_induced(alloc, graph, description, spec, &fates)
 }
 
 // The graph of the plan, whose names are none too long.
 fn build_induced(
     alloc: Global,
     graph: &Graph,
-    spec: &InducedSpec<'_>,
+    description: &Text,
+    spec: &InducedSpec,
     fates: &[Fate],
 ) -> Result<Graph, Refusal>
-    requires short { length spec.now.description.now ≤ 40 }
+    requires short { length description.now ≤ 40 }
     requires fates { fates.now ≡ fates_of graph.now }
     requires names { have_names graph.now fates.now ≡ true }
-    ensures { IsMade (Ok (induced_plan graph.now spec.now)) result }
+    ensures { IsMade (Ok (induced_plan graph.now description.now spec.now)) result }
 {
     let _ = graph.n();
     let images = place_images(alloc, fates)?;
-    let id = induced_id(alloc, graph, spec)?;
+    let id = induced_id(alloc, graph, description, spec)?;
     let mut builder = Builder::new(alloc, id, Types::none(), spec.directed);
     name_vertices(&mut builder, alloc, graph, &images)?;
     let runs = gather_runs(alloc, graph, &images, spec.multi, spec.directed)?;
@@ -80,14 +85,19 @@ fn build_induced(
 }
 
 // The id of the graph.
-fn induced_id(alloc: Global, graph: &Graph, spec: &InducedSpec<'_>) -> Result<Text, Refusal>
-    requires { length spec.now.description.now ≤ 40 }
-    ensures value { IfOk result (λ id. id ≡ id_of_one (codes "induced") graph.now.id (words spec.now)) }
+fn induced_id(
+    alloc: Global,
+    graph: &Graph,
+    description: &Text,
+    spec: &InducedSpec,
+) -> Result<Text, Refusal>
+    requires { length description.now ≤ 40 }
+    ensures value { IfOk result (λ id. id ≡ id_of_one (codes "induced") graph.now.id (words description.now spec.now)) }
     ensures short { IfOk result (λ id. length id ≤ 160) }
     ensures err { IfErr result (λ e. e ≡ Refusal.NoRoom) }
 {
     let parts = [
-        Part::Word(spec.description),
+        Part::Word(description),
         Part::Flag(spec.loops),
         Part::Flag(spec.multi),
         Part::Flag(spec.directed),

@@ -9,6 +9,7 @@ mod image;
 mod inducing;
 mod name;
 mod run;
+mod twin;
 
 pub use facts::least_law;
 pub use inducing::{InducedSpec, induced};

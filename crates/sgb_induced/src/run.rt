@@ -1,10 +1,7 @@
 //! Runs: insertions from each image of one vertex to each of another.
-ghost use Rattle.std.specs.Prelude.{◌≡◌, FitsSigned, IfOk, OnOk};
+ghost use Rattle.std.specs.Prelude.{◌≡◌, FitsSigned};
 ghost use Rattle.std.specs.Int.{w64};
-ghost use Rattle.sgb_induced.specs.Private.Run.{IsIndexed, key_of, lowered_run, merge, merged};
-
-use std::alloc::{AllocError, Global};
-use std::collections::HashMap;
+ghost use Rattle.sgb_induced.specs.Private.Run.{key_of, lowered_run};
 
 // Insertions of this length from each image of one vertex to each of another, by the vertices in whose place the images
 // stand.
@@ -26,49 +23,9 @@ impl Run {
     }
 }
 
-// The runs of which each pair of ends has only the first, with the least length.
-pub(crate) fn merge_runs(
-    alloc: Global,
-    runs: &[Run],
-    directed: bool,
-) -> Result<Vec<Run>, AllocError>
-    ensures { IfOk result (λ rs. rs.items ≡ merged directed runs.now) }
-{
-    let mut kept = Vec::new(alloc);
-    let mut places = HashMap::new(alloc);
-    for run in runs {
-        merge_run(&mut kept, &mut places, *run, directed)?;
-    }
-    Ok(kept)
-}
-
-// Puts a run last, or lowers the one with its ends.
-fn merge_run(
-    kept: &mut Vec<Run>,
-    places: &mut HashMap<(u32, u32), usize>,
-    run: Run,
-    directed: bool,
-) -> Result<(), AllocError>
-    requires { IsIndexed directed places.old kept.old.items }
-    ensures runs { OnOk result (kept.new.items ≡ merge directed kept.old.items run) }
-    ensures places { OnOk result (IsIndexed directed places.new kept.new.items) }
-{
-    let key = key_of(run, directed);
-    match places.get(&key).copied() {
-        Some(place) => {
-            kept[place] = lowered_run(kept[place], run);
-        }
-        None => {
-            places.insert(key, kept.len())?;
-            kept.push(run)?;
-        }
-    }
-    Ok(())
-}
-
 // A run with the smaller length of the two.
 #[inline]
-fn lowered_run(kept: Run, run: Run) -> Run
+pub(crate) fn lowered_run(kept: Run, run: Run) -> Run
     ensures { result ≡ lowered_run kept run }
 {
     Run {
@@ -79,7 +36,8 @@ fn lowered_run(kept: Run, run: Run) -> Run
 }
 
 // The ends of a run; without a direction the smaller is named first.
-fn key_of(run: Run, directed: bool) -> (u32, u32)
+#[inline]
+pub(crate) fn key_of(run: Run, directed: bool) -> (u32, u32)
     ensures { result ≡ key_of directed run }
 {
     if directed {

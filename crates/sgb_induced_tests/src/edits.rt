@@ -55,12 +55,11 @@ pub fn induce(
 ) -> Result<Graph, Refusal> {
     let description = Text::new(alloc, description)?;
     let spec = InducedSpec {
-        description: &description,
         loops,
         multi,
         directed,
     };
-    induced(alloc, graph, &spec)
+    induced(alloc, graph, &description, &spec)
 }
 
 /// The refusal of what is induced by the graph.

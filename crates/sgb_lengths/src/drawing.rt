@@ -1,11 +1,10 @@
 //! The arcs that draw a length.
-ghost use Rattle.std.specs.Prelude.{◌≡◌, ◌<◌, ◌≤◌, ◌++◌, length, IfOk, OnOk};
-ghost use Rattle.sgb_graph.specs.Edit.{entry_at};
-ghost use Rattle.sgb_graph.specs.Graph.{n_of, made_of};
-ghost use Rattle.sgb_operand.specs.Operand.{tip_number};
+ghost use Rattle.std.specs.Prelude.{◌≡◌, ◌<◌, ◌≤◌, ◌++◌, length, IsSome, IfOk, OnOk};
+ghost use Rattle.sgb_graph.specs.Graph.{n_of, made_of, arc_at};
 ghost use Rattle.sgb_lengths.specs.Drawing.{drawing, drawing_at, is_drawing};
 
-use sgb_graph::{ArcNo, Graph, Tip, VertexNo};
+use sgb_graph::{ArcNo, Graph, VertexNo};
+use sgb_operand::spoke_at;
 use std::alloc::{AllocError, Global};
 
 // The numbers of the arcs that draw, in their order.
@@ -45,29 +44,8 @@ fn append_drawing(
 
 // The arc of this vertex draws a length.
 fn is_drawing(graph: &Graph, vertex: VertexNo, number: ArcNo, directed: bool) -> bool
-    requires { number.0 < made_of graph.now }
+    requires { IsSome (arc_at graph.now number.0) }
     ensures { result ≡ is_drawing directed graph.now vertex.0 number.0 }
 {
-    directed || vertex.0 <= target(graph, number)
-}
-
-// The number of the vertex to which an arc leads.
-fn target(graph: &Graph, number: ArcNo) -> u32
-    requires { number.0 < made_of graph.now }
-    ensures { result ≡ tip_number (entry_at graph.now number.0).tip }
-{
-    match graph.arc(number) {
-        Some(arc) => tip_number(arc.tip),
-        None => 0,
-    }
-}
-
-// The number of the vertex to which a tip leads, or else 0.
-fn tip_number(tip: Tip) -> u32
-    ensures { result ≡ tip_number tip }
-{
-    match tip {
-        Tip::To(vertex) => vertex.0,
-        _ => 0,
-    }
+    directed || vertex.0 <= spoke_at(graph, number).to
 }

@@ -59,6 +59,17 @@ pub fn lengths(alloc: Global, graph: &Graph) -> Result<Vec<i64>, Refusal> {
     Ok(list)
 }
 
+/// Whether these are the lengths by number, of which -1 stands for a hole.
+pub fn has_lengths(graph: &Graph, wanted: &[i64]) -> bool {
+    let mut lengths = wanted.iter();
+    for number in 0..graph.made() {
+        if lengths.next() != Some(&length(graph, number)) {
+            return false;
+        }
+    }
+    lengths.next().is_none()
+}
+
 fn length(graph: &Graph, number: u32) -> i64 {
     if number >= graph.made() {
         return -1;

@@ -4,4 +4,6 @@
 #[cfg(test)]
 mod graphs;
 #[cfg(test)]
+mod growths;
+#[cfg(test)]
 mod tests;

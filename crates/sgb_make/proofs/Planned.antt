@@ -17,7 +17,9 @@ use Rattle.sgb_plan.specs.Plan.{Plan, IsMade, with_named}
 use Rattle.sgb_plan.proofs.Planning.{begun, n-with_named, many_vertices}
 use Rattle.sgb_make.specs.declared.side.Side.{Side}
 use Rattle.sgb_make.specs.declared.spec.BoardSpec.{BoardSpec}
-use Rattle.sgb_make.specs.Board.{sizes_asked, piece_of, most_of_piece, sides_of, board_vertex, board_id, board_plan, plan_of_board}
+use Rattle.sgb_make.specs.Board.{sizes_asked, piece_of, most_of_piece, sides_of, board_id, board_plan, plan_of_board}
+use Rattle.sgb_simplex.specs.Points.{point_vertex}
+use Rattle.sgb_simplex.specs.Room.{MayWant}
 use Rattle.sgb_make.specs.Ride.{positions}
 use Rattle.sgb_make.specs.Private.Rank.{volume, cells}
 use Rattle.sgb_make.specs.Private.Ridden.{ridden_plan}
@@ -28,11 +30,11 @@ use Rattle.sgb_make.proofs.Volumes.{ArePositive, cells-sides_of}
 pub begins : (p : Plan) (types : List ℕ) (b : Builder) → b ≡ record { graph = bare_graph p.id types []; directed = p.directed } → types ≡ p.types → b ≡ begun p
 begins p types b is letters = is ∙ ap (λ t. record { graph = bare_graph p.id t []; directed = p.directed }) letters
 
-pub named_n : (p : Plan) (sides : List Side) (a b : Builder) → a ≡ begun p → b ≡ with_named a p.vertices → p.vertices ≡ map board_vertex (positions sides) → n_of b.graph ≡ cells sides
+pub named_n : (p : Plan) (sides : List Side) (a b : Builder) → a ≡ begun p → b ≡ with_named a p.vertices → p.vertices ≡ map point_vertex (positions sides) → n_of b.graph ≡ cells sides
 named_n p sides a b begin named is =
     let none : n_of a.graph ≡ 0 = ap (λ (c : Builder). n_of c.graph) begin in
     let all : n_of b.graph ≡ n_of (with_named a p.vertices).graph = ap (λ (c : Builder). n_of c.graph) named in
-    omega (arith, none, all, n-with_named a p.vertices, ap length is, length-map (positions sides) board_vertex, length-positions sides)
+    omega (arith, none, all, n-with_named a p.vertices, ap length is, length-map (positions sides) point_vertex, length-positions sides)
 
 -- ---- the sizes
 pub length-listed : (more : ℕ) (ns : List ℤ) → length (listed more ns) ≡ count_of more ns
@@ -94,7 +96,16 @@ pub too_many_positions : (s : BoardSpec) (sizes : List ℕ) (e : Refusal) → e 
 unfolding board_plan
 too_many_positions s sizes e is many =
     let sides = sides_of s.wrap sizes in
-    many_vertices (board_plan s sides) is (omega (arith, many, length-map (positions sides) board_vertex, length-positions sides, cells-sides_of s.wrap sizes))
+    many_vertices (board_plan s sides) is (omega (arith, many, length-map (positions sides) point_vertex, length-positions sides, cells-sides_of s.wrap sizes))
+
+-- a board of few positions may want for memory
+pub few_positions : (s : BoardSpec) → length (listed 0 (sizes_asked s)) ≤ 20 → unsigned_abs (piece_of s) ≤ most_of_piece (length (listed 0 (sizes_asked s))) → volume (listed 0 (sizes_asked s)) ≤ 65535 → MayWant (plan_of_board s)
+unfolding board_plan
+few_positions s few small positions_few =
+    let sizes : List ℕ = listed 0 (sizes_asked s) in
+    let sides = sides_of s.wrap sizes in
+    subst MayWant (sym (planned s few small))
+    (omega (arith, positions_few, length-map (positions sides) point_vertex, length-positions sides, cells-sides_of s.wrap sizes))
 
 pub most_is : (d : ℕ) → most_of_piece d ≤ 128
 most_is d =

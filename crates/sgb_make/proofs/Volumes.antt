@@ -1,11 +1,12 @@
 -- Lemmas on sizes, their product, and the sides of a board.
-use Rattle.std.proofs.Common.{◌≡◌, ◌<◌, ◌≤◌, ◌+◌, ◌*◌, ℕ, zero, suc, ℤ, pos, List, [], ◌∷◌, ◌++◌, length, get_or, drop, All, Bool, refl, sym, ap, ap₂, ◌∙◌, arith, append_assoc}
-use Rattle.std.specs.Int.{int_div_euclid}
+use Rattle.std.proofs.Common.{◌≡◌, ◌<◌, ◌≤◌, ◌+◌, ◌*◌, ◌^◌, ℕ, zero, suc, ℤ, pos, negsuc, List, [], ◌∷◌, ◌++◌, length, map, get_or, drop, All, Bool, refl, sym, ap, ◌∙◌, arith, append_assoc}
+use Rattle.std.specs.Int.{int_div_euclid, int_shr}
+use Rattle.std.specs.List.{range_with_len, zip}
 use Rattle.std.proofs.Math.Nat.{mul_assoc, mul_comm, le-mul_of_pos_right}
 use Rattle.std.proofs.lemmas.List.{at_drop_more, drop_all, append-nil}
 use Rattle.std.proofs.lemmas.List.Elements.{All-nil, All-cons, All-head, All-tail}
 use Rattle.sgb_make.specs.declared.side.Side.{Side}
-use Rattle.sgb_make.specs.Board.{sides_of, has_bit}
+use Rattle.sgb_make.specs.Board.{side_at, sides_of, has_bit}
 use Rattle.sgb_make.specs.Private.Rank.{volume, cells, IsSmall}
 
 abbrev pub ArePositive : List ℕ → Type 0
@@ -74,32 +75,49 @@ small_sizes (n ∷ sizes) some few =
     (small_sizes sizes rest (omega (arith, le-mul_of_pos_left (volume sizes) first, few)))
 
 -- ---- the sides
-pub cells-sides_of : (wrap : ℤ) (sizes : List ℕ) → cells (sides_of wrap sizes) ≡ volume sizes
+-- those of sizes whose places are numbered from here
+abbrev pub sides_from : ℤ → ℕ → List ℕ → List Side
+sides_from wrap at sizes = map (side_at wrap) (zip sizes (range_with_len at (length sizes)))
+
+cells-sides_from : (wrap : ℤ) (at : ℕ) (sizes : List ℕ) → cells (sides_from wrap at sizes) ≡ volume sizes
 unfolding cells volume
-cells-sides_of wrap [] = refl
-cells-sides_of wrap (n ∷ sizes) = ap (λ k. n * k) (cells-sides_of (int_div_euclid wrap (pos 2)) sizes)
+cells-sides_from wrap at [] = refl
+cells-sides_from wrap at (n ∷ sizes) = ap (λ k. n * k) (cells-sides_from wrap (at + 1) sizes)
+
+pub cells-sides_of : (wrap : ℤ) (sizes : List ℕ) → cells (sides_of wrap sizes) ≡ volume sizes
+cells-sides_of wrap sizes = cells-sides_from wrap 0 sizes
+
+length-sides_from : (wrap : ℤ) (at : ℕ) (sizes : List ℕ) → length (sides_from wrap at sizes) ≡ length sizes
+length-sides_from wrap at [] = refl
+length-sides_from wrap at (n ∷ sizes) = omega (arith, length-sides_from wrap (at + 1) sizes)
 
 pub length-sides_of : (wrap : ℤ) (sizes : List ℕ) → length (sides_of wrap sizes) ≡ length sizes
-length-sides_of wrap [] = refl
-length-sides_of wrap (n ∷ sizes) = omega (arith, length-sides_of (int_div_euclid wrap (pos 2)) sizes)
+length-sides_of wrap sizes = length-sides_from wrap 0 sizes
 
-pub small-sides_of : (wrap : ℤ) (sizes : List ℕ) → ArePositive sizes → volume sizes ≤ 65535 → IsSmall (sides_of wrap sizes)
+small-sides_from : (wrap : ℤ) (at : ℕ) (sizes : List ℕ) → ArePositive sizes → volume sizes ≤ 65535 → IsSmall (sides_from wrap at sizes)
 unfolding cells volume
-small-sides_of wrap [] some few = tt
-small-sides_of wrap (n ∷ sizes) some few =
+small-sides_from wrap at [] some few = tt
+small-sides_from wrap at (n ∷ sizes) some few =
     let first : 0 < n = All-head (λ k. 0 < k) n sizes some in
     let rest = All-tail (λ k. 0 < k) n sizes some in
-    let halved : ℤ = int_div_euclid wrap (pos 2) in
-    (first, omega (arith, few, ap (λ k. n * k) (cells-sides_of halved sizes)), small-sides_of halved sizes rest (omega (arith, le-mul_of_pos_left (volume sizes) first, few)))
+    (first, omega (arith, few, ap (λ k. n * k) (cells-sides_from wrap (at + 1) sizes)), small-sides_from wrap (at + 1) sizes rest (omega (arith, le-mul_of_pos_left (volume sizes) first, few)))
 
--- one side more, from the bits that are left
-pub sides_more : (sizes : List ℕ) (now new all : List Side) (i : ℕ) (bits halved : ℤ) (odd : Bool) → i < length sizes → now ++ sides_of bits (drop i sizes) ≡ all → odd ≡ has_bit bits 0 → halved ≡ int_div_euclid bits (pos 2) → new ≡ now ++ record { size = get_or sizes i 0; wraps = odd } ∷ [] → new ++ sides_of halved (drop (i + 1) sizes) ≡ all
-sides_more sizes now new all i bits halved odd below so bit half pushed =
-    ap₂ (λ xs z. xs ++ sides_of z (drop (i + 1) sizes)) pushed half
-    ∙ (append_assoc now (record { size = get_or sizes i 0; wraps = odd } ∷ []) (sides_of (int_div_euclid bits (pos 2)) (drop (i + 1) sizes))
-    ∙ (ap (λ b. now ++ record { size = get_or sizes i 0; wraps = b } ∷ sides_of (int_div_euclid bits (pos 2)) (drop (i + 1) sizes)) bit
-    ∙ (sym (at_drop_more (λ ns. now ++ sides_of bits ns) sizes i 0 below) ∙ so)))
+pub small-sides_of : (wrap : ℤ) (sizes : List ℕ) → ArePositive sizes → volume sizes ≤ 65535 → IsSmall (sides_of wrap sizes)
+small-sides_of wrap sizes some few = small-sides_from wrap 0 sizes some few
 
-pub sides_end : (sizes : List ℕ) (now all : List Side) (i : ℕ) (bits : ℤ) → length sizes ≤ i → now ++ sides_of bits (drop i sizes) ≡ all → now ≡ all
-sides_end sizes now all i bits end so =
-    sym (append-nil now) ∙ (sym (ap (λ ns. now ++ sides_of bits ns) (drop_all i sizes end)) ∙ so)
+-- one side more
+pub sides_more : (wrap : ℤ) (sizes : List ℕ) (now new all : List Side) (k : ℕ) (bit : Bool) → k < length sizes → now ++ sides_from wrap k (drop k sizes) ≡ all → bit ≡ has_bit wrap k → new ≡ now ++ record { size = get_or sizes k 0; wraps = bit } ∷ [] → new ++ sides_from wrap (k + 1) (drop (k + 1) sizes) ≡ all
+sides_more wrap sizes now new all k bit below so is pushed =
+    ap (λ xs. xs ++ sides_from wrap (k + 1) (drop (k + 1) sizes)) pushed
+    ∙ (append_assoc now (record { size = get_or sizes k 0; wraps = bit } ∷ []) (sides_from wrap (k + 1) (drop (k + 1) sizes))
+    ∙ (ap (λ b. now ++ record { size = get_or sizes k 0; wraps = b } ∷ sides_from wrap (k + 1) (drop (k + 1) sizes)) is
+    ∙ (sym (at_drop_more (λ ns. now ++ sides_from wrap k ns) sizes k 0 below) ∙ so)))
+
+pub sides_end : (wrap : ℤ) (sizes : List ℕ) (now all : List Side) (k : ℕ) → length sizes ≤ k → now ++ sides_from wrap k (drop k sizes) ≡ all → now ≡ all
+sides_end wrap sizes now all k end so =
+    sym (append-nil now) ∙ (sym (ap (λ ns. now ++ sides_from wrap k ns) (drop_all k sizes end)) ∙ so)
+
+-- a shift divides, and rounds down
+pub shifted_is : (z : ℤ) (k : ℕ) → int_shr z k ≡ int_div_euclid z (pos (2 ^ k))
+shifted_is (pos n) k = refl
+shifted_is (negsuc n) k = refl

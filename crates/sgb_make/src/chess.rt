@@ -1,21 +1,24 @@
 //! Boards, and the pieces of chess and others that move on them.
-ghost use Rattle.std.specs.Prelude.{◌≡◌, ◌<◌, ◌≤◌, length, replicate, codes, map, pos, int_lt, IfOk, IfErr};
+ghost use Rattle.std.specs.Prelude.{◌≡◌, ◌<◌, ◌≤◌, length, map, pos, int_lt, IfOk, IfErr, IsErrOf};
 ghost use Rattle.sgb_graph.specs.Builder.{Inserts};
 ghost use Rattle.sgb_graph.specs.Graph.{n_of};
 ghost use Rattle.sgb_plan.specs.Plan.{IsMade};
+ghost use Rattle.sgb_simplex.specs.Room.{MayWant};
 ghost use Rattle.sgb_make.specs.Board.{sizes_asked, piece_of, most_of_piece, is_board, board_id, plan_of_board};
 ghost use Rattle.sgb_make.specs.Private.Rank.{IsSmall, cells};
 ghost use Rattle.sgb_make.specs.Private.Ridden.{along_all, ridden_plan};
 
 use crate::BoardSpec;
 use crate::course::Course;
+use crate::foresight::count_insertions;
 use crate::link::Links;
 use crate::position::{name_positions, zeros};
 use crate::side::Step;
 use crate::sizes::{count_of, sides_of};
 use crate::vector::insert_parts;
-use sgb_graph::{Builder, Graph, Refusal, Text, Types};
-use sgb_plan::{Part, id_of, list_of, shown_at};
+use sgb_graph::{Builder, Graph, Refusal, Text};
+use sgb_plan::{Part, id_of, shown_at};
+use sgb_simplex::{list_within, point_types};
 use std::alloc::{AllocError, Global};
 
 // The four numbers that stand for the sizes.
@@ -76,16 +79,6 @@ fn board_id(alloc: Global, spec: &BoardSpec, numbers: &[i64], piece: i64) -> Res
     id_of(alloc, "board", &parts)
 }
 
-// The letters of a board: numbers in the fields x, y and z of a vertex.
-fn board_types() -> Types
-    ensures { result ≡ codes "ZZZIIIZZZZZZZZ" }
-{
-    let Some(types) = Types::new(b"ZZZIIIZZZZZZZZ") else {
-        unreachable!()
-    };
-    types
-}
-
 // So many steps that lead nowhere.
 fn no_steps(alloc: Global, count: usize) -> Result<Vec<Step>, AllocError>
     ensures { IfOk result (λ list. length list.items ≡ count) }
@@ -110,6 +103,7 @@ fn insert_vectors(builder: &mut Builder, alloc: Global, course: &Course) -> Resu
     };
     let mut parts = zeros(alloc, course.sides.len())?;
     let mut steps = no_steps(alloc, course.sides.len())?;
+    builder.reserve(count_insertions(course, &mut parts, 0, course.most))?;
     insert_parts(
         builder,
         &mut tables,
@@ -136,7 +130,7 @@ fn build(
     requires most { course.now.most ≤ 128 }
     ensures { IsMade (Ok (ridden_plan id course.now.sides.items course.now.rides course.now.most directed)) result }
 {
-    let mut builder = Builder::new(alloc, id, board_types(), directed);
+    let mut builder = Builder::new(alloc, id, point_types(), directed);
     name_positions(&mut builder, alloc, &course.sides, count)?;
     insert_vectors(&mut builder, alloc, course)?;
     Ok(builder.finish())
@@ -151,16 +145,19 @@ fn build(
 /// Knuth's `board`.
 pub fn board(alloc: Global, spec: &BoardSpec) -> Result<Graph, Refusal>
     ensures made { IsMade (plan_of_board spec.now) result }
+    ensures room { IsErrOf result Refusal.NoRoom → MayWant (plan_of_board spec.now) }
 {
     let numbers = sizes_asked(spec);
     let piece = piece_of(spec);
-    let sizes = list_of(alloc, &numbers, 0, 20)?;
-    if piece.unsigned_abs() > most_of_piece(sizes.len()) {
+    let mut places = [0u64; 20];
+    let coordinates = list_within(&numbers, 0, &mut places)?;
+    if piece.unsigned_abs() > most_of_piece(coordinates) {
         return Err(Refusal::BadSpecs);
     }
-    let count = count_of(&sizes)?;
+    let sizes = &places[..coordinates];
+    let count = count_of(sizes)?;
     let course = Course {
-        sides: sides_of(alloc, &sizes, spec.wrap)?,
+        sides: sides_of(alloc, sizes, spec.wrap)?,
         rides: is_rider(piece),
         most: piece.unsigned_abs() as u32,
     };

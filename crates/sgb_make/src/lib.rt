@@ -3,6 +3,7 @@
 
 mod chess;
 mod course;
+mod foresight;
 mod law;
 mod link;
 mod position;

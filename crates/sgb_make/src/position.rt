@@ -1,13 +1,13 @@
 //! The positions of a board as its vertices.
 ghost use Rattle.std.specs.Prelude.{◌≡◌, ◌<◌, ◌≤◌, ◌+◌, length, map, replicate, IfOk};
 ghost use Rattle.sgb_plan.specs.Plan.{Names};
-ghost use Rattle.sgb_make.specs.Board.{board_vertex, coordinate_fields, coordinate};
+ghost use Rattle.sgb_simplex.specs.Points.{point_vertex};
 ghost use Rattle.sgb_make.specs.Ride.{positions};
 ghost use Rattle.sgb_make.specs.Private.Rank.{IsOn, IsSmall, cells, rank};
 
 use crate::side::Side;
-use sgb_graph::{Builder, Label, Refusal, Util};
-use sgb_plan::dotted;
+use sgb_graph::{Builder, Refusal};
+use sgb_simplex::push_point;
 use std::alloc::{AllocError, Global};
 
 // Goes on to the next position: the last coordinate counts up, and one that is at its end begins anew and lets the one
@@ -40,30 +40,6 @@ pub(crate) fn zeros(alloc: Global, count: usize) -> Result<Vec<u32>, AllocError>
     Ok(list)
 }
 
-// A coordinate as the value of a field, or Zero where there is none.
-fn coordinate(x: Option<u32>) -> Util
-    ensures { result ≡ coordinate x }
-{
-    match x {
-        Some(x) => Util::Int(x as i64),
-        None => Util::Zero,
-    }
-}
-
-// The six fields of a position.
-fn fields_of(position: &[u32]) -> [Util; 6]
-    ensures { result ≡ coordinate_fields position.now }
-{
-    [
-        Util::Zero,
-        Util::Zero,
-        Util::Zero,
-        coordinate(position.get(0).copied()),
-        coordinate(position.get(1).copied()),
-        coordinate(position.get(2).copied()),
-    ]
-}
-
 // Makes a vertex of each position, in order.
 pub(crate) fn name_positions(
     builder: &mut Builder,
@@ -74,13 +50,13 @@ pub(crate) fn name_positions(
     requires few { length sides.now ≤ 20 }
     requires small { IsSmall sides.now }
     requires count { count ≡ cells sides.now }
-    ensures { Names builder.old builder.new (map board_vertex (positions sides.now)) result }
+    ensures { Names builder.old builder.new (map point_vertex (positions sides.now)) result }
 {
     builder.reserve_vertices(count as usize)?;
     let mut position = zeros(alloc, sides.len())?;
+    let mut name = Vec::new(alloc);
     for _ in 0..count {
-        let label = dotted(alloc, &position)?;
-        builder.push_vertex(Label::new(label), fields_of(&position))?;
+        push_point(builder, alloc, &mut name, &position)?;
         advance(sides, &mut position);
     }
     Ok(())

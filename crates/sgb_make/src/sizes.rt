@@ -36,26 +36,26 @@ pub(crate) fn count_of(sizes: &[u64]) -> Result<u32, Refusal>
     Ok(count)
 }
 
-// Bit 0 of a number is set.
-fn is_odd(number: i64) -> bool
-    ensures { result ≡ has_bit number 0 }
+// Bit k of a number in two's complement.
+fn has_bit(number: i64, k: usize) -> bool
+    requires { k < 64 }
+    ensures { result ≡ has_bit number k }
 {
-    number.rem_euclid(2) == 1
+    (number >> k).rem_euclid(2) == 1
 }
 
 /// The sides of these sizes, and of these bits.
 pub(crate) fn sides_of(alloc: Global, sizes: &[u64], wrap: i64) -> Result<Vec<Side>, AllocError>
-    requires { All (λ size. size ≤ 65535) sizes.now }
+    requires small { All (λ size. size ≤ 65535) sizes.now }
+    requires few { length sizes.now ≤ 20 }
     ensures { IfOk result (λ sides. sides.items ≡ sides_of wrap sizes.now) }
 {
-    let mut sides = Vec::new(alloc);
-    let mut bits = wrap;
-    for size in sizes {
+    let mut sides = Vec::with_capacity(alloc, sizes.len())?;
+    for k in 0..sizes.len() {
         sides.push(Side {
-            size: *size as u32,
-            wraps: is_odd(bits),
+            size: sizes[k] as u32,
+            wraps: has_bit(wrap, k),
         })?;
-        bits = bits.div_euclid(2);
     }
     Ok(sides)
 }

@@ -65,7 +65,7 @@ fn root_end(left: u32) -> u32
 
 // The parts of a vector along this side are below this number: squares of others are too large, or they lead off the
 // side from each coordinate.
-fn parts_end(side: Side, left: u32) -> u32
+pub(crate) fn parts_end(side: Side, left: u32) -> u32
     requires { left ≤ 128 }
     ensures few { (a : ℕ) → a < result → a * a ≤ left }
     ensures all { (a : ℕ) → result ≤ a → (left < a * a) ⊎ ((side.wraps ≡ false) × (side.size ≤ a)) }
@@ -87,7 +87,7 @@ fn is_still(side: Side, part: u32, known: bool) -> bool
 }
 
 // A vector whose absolute values begin with the parts before `at` leads off the board or nowhere else.
-fn are_still(sides: &[Side], parts: &[u32], at: usize) -> bool
+pub(crate) fn are_still(sides: &[Side], parts: &[u32], at: usize) -> bool
     requires long { length parts.now ≡ length sides.now }
     requires small { IsSmall sides.now }
     ensures { result ≡ true → (k : ℕ) → k < length sides.now → IsStillAt sides.now parts.now at k }

@@ -8,5 +8,5 @@ mod spoke;
 
 pub use check::check_operand;
 pub use facts::spoke_law;
-pub use read::read_spokes;
+pub use read::{read_spokes, spoke_at};
 pub use spoke::Spoke;

@@ -8,9 +8,9 @@ use crate::Spoke;
 use sgb_graph::{ArcNo, Graph, Tip, VertexNo};
 use std::alloc::AllocError;
 
-/// Writes the spokes of a vertex behind those in the buffer: one for each arc, the newest first, and where `directed`
-/// is false none for the second halves of loops. Each leads to a vertex of the graph. Where memory is wanting, some of
-/// them may be written.
+/// Writes the spokes of a vertex behind those in the buffer: one for each arc, in the order of its list, and where
+/// `directed` is false none for the second halves of loops. Each leads to a vertex of the graph: that of an arc that
+/// leads to none leads to vertex 0. Where memory is wanting, some of them may be written.
 pub fn read_spokes(
     into: &mut Vec<Spoke>,
     graph: &Graph,
@@ -28,8 +28,10 @@ pub fn read_spokes(
     Ok(())
 }
 
-// The spoke of a live arc.
-fn spoke_at(graph: &Graph, number: ArcNo) -> Spoke
+/// The spoke of a live arc: the vertex to which it leads, or vertex 0 where it leads to none, and its length. Takes no
+/// memory.
+#[inline]
+pub fn spoke_at(graph: &Graph, number: ArcNo) -> Spoke
     requires { IsSome (arc_at graph.now number.0) }
     ensures { result ≡ spoke_of (entry_at graph.now number.0) }
 {

@@ -1,10 +1,12 @@
-//! Readers and writers that remember their failures, and graphs as they are printed.
+//! Readers and writers that remember their failures, how a program fails, and graphs as they are printed.
 #![tactic(auto)]
 
+mod fault;
 mod meter;
 mod print;
 mod show;
 
+pub use fault::RunFault;
 pub use meter::{Failed, MeteredReader, MeteredWriter};
 pub use print::{put, put_all};
 pub use show::{print_graph, print_made};

@@ -3,12 +3,12 @@ use Rattle.std.proofs.Common.{◌≡◌, ◌≢◌, ℕ, zero, suc, ◌<◌, ◌
 use Rattle.std.specs.Option.{option_and_then}
 use Rattle.std.specs.Result.{OkIff, result_ok}
 use Rattle.std.specs.Str.{all_ascii_digits, IsUtf8, IsAscii}
-use Rattle.std.specs.Str.Parse.{ParsesSigned, digits_value}
+use Rattle.std.specs.Str.Parse.{ParsesSigned, ParsesUnsigned, digits_value}
 use Rattle.std.proofs.lemmas.Bool.{cases_Bool, and_right, false_from_ne_true, eqb-true, eqb-false, ne_eqb, leb-true, le-leb, ltb-true, lt-ltb}
 use Rattle.std.proofs.lemmas.Str.{IsUtf8-from_ascii}
 use Rattle.std.proofs.lemmas.Fmt.{IsAscii-from_digits}
-use Rattle.std.proofs.lemmas.Str.Parse.{IsNumeralModel, numerals_by_value, tells_all_ascii_digits, parse_signed_minus, parse_signed_plain}
-use Rattle.sgb_script.specs.Numbers.{number_of, natural_of, index_of}
+use Rattle.std.proofs.lemmas.Str.Parse.{IsNumeralModel, numerals_by_value, tells_all_ascii_digits, parse_signed_minus, parse_signed_plain, parse_plain}
+use Rattle.sgb_script.specs.Numbers.{number_of, natural_of, index_of, bits_of}
 
 own : IsNumeralModel (λ ds. all_ascii_digits ds ≡ true) (digits_value 10)
 own = numerals_by_value _ tells_all_ascii_digits
@@ -78,6 +78,47 @@ pub text_read : {E : Type 0} (w text : List ℕ) (r : Result ℤ E) (plus : Bool
 text_read w text r plus same tested none h =
     let no_plus : get_or text 0 0 ≢ 43 = λ e. eqb-false (get_or w 0 0) 43 (sym tested ∙ none) (sym (ap (λ t. get_or t 0 0) same) ∙ e) in
     number_read text r h no_plus ∙ ap number_of same
+
+-- ---- digits alone, below 2^64
+
+bits_when : {E : Type 0} (r : Result ℕ E) (a b c : Bool) (P Q R : Type 0) (n : ℕ) → (a ≡ true → P) → (P → a ≡ true) → (b ≡ false → Q) → (Q → b ≡ false) → (c ≡ true → R) → (R → c ≡ true)
+    → OkIff r (P × Q × R) n → result_ok r ≡ option_and_then (λ k. cond c (Some n) None) (cond (not b && a) (Some n) None)
+bits_when (Ok x) a b c P Q R n _ to_a _ to_b _ to_c h = rw (to_a h.0.0, to_b h.0.1, to_c h.0.2) (ap Some h.1)
+bits_when (Err e) false true c P Q R n p _ q _ r _ h = refl
+bits_when (Err e) false false c P Q R n p _ q _ r _ h = refl
+bits_when (Err e) true true c P Q R n p _ q _ r _ h = refl
+bits_when (Err e) true false false P Q R n p _ q _ r _ h = refl
+bits_when (Err e) true false true P Q R n p _ q _ r _ h = absurd (h (p refl, q refl, r refl))
+
+of_itself : (a : Bool) (n : ℕ) (t : ℕ → Bool) → option_and_then (λ k. cond (t n) (Some n) None) (cond a (Some n) None) ≡ option_and_then (λ k. cond (t k) (Some k) None) (cond a (Some n) None)
+of_itself true n t = refl
+of_itself false n t = refl
+
+bits_of_digits : {E : Type 0} (w : List ℕ) (r : Result ℕ E) → ParsesUnsigned 64 10 w r → get_or w 0 0 ≢ 43 → result_ok r ≡ bits_of w
+unfolding bits_of natural_of
+bits_of_digits w r h plus =
+    bits_when r (all_ascii_digits w) (length w == 0) (nat_lt (digits_value 10 w) (2 ^ 64)) _ _ _ _ (λ e. e) (λ e. e) (no_digits w) (some_digits w)
+    (ltb-true (digits_value 10 w) (2 ^ 64)) (lt-ltb (digits_value 10 w) (2 ^ 64)) (parse_plain own 64 w r h plus)
+    ∙ of_itself (not (length w == 0) && all_ascii_digits w) (digits_value 10 w) (λ n. nat_lt n (2 ^ 64))
+
+pub bits_read : {E : Type 0} (w text : List ℕ) (r : Result ℕ E) (plus : Bool) → text ≡ w → plus ≡ (slice_index w 0 == 43) → plus ≡ false → ParsesUnsigned 64 10 text r → result_ok r ≡ bits_of w
+bits_read w text r plus same tested none h =
+    let no_plus : get_or text 0 0 ≢ 43 = λ e. eqb-false (get_or w 0 0) 43 (sym tested ∙ none) (sym (ap (λ t. get_or t 0 0) same) ∙ e) in
+    bits_of_digits text r h no_plus ∙ ap bits_of same
+
+no_bits : (w : List ℕ) → natural_of w ≡ None → bits_of w ≡ None
+unfolding bits_of
+no_bits w none = ap (option_and_then (λ n. cond (nat_lt n (2 ^ 64)) (Some n) None)) none
+
+pub bits_are_utf8 : (w : List ℕ) → (IsUtf8 w → ⊥) → bits_of w ≡ None
+bits_are_utf8 w not_text = no_bits w (natural_none w (false_from_ne_true _ (λ h. not_text (IsUtf8-from_ascii w (ascii_digits w h)))))
+
+pub no_plus_in_bits : (w : List ℕ) → (slice_index w 0 == 43) ≡ true → bits_of w ≡ None
+unfolding natural_of
+no_plus_in_bits [] plus = no_bits [] refl
+no_plus_in_bits (c ∷ cs) plus =
+    let first : c ≡ 43 = eqb-true c 43 plus in
+    rw first (no_bits (43 ∷ cs) (natural_none (43 ∷ cs) refl))
 
 -- digits alone: what `number_of` reads where no minus stands first
 pub index_is : (ds : List ℕ) → (slice_index ds 0 == 45) ≡ false → number_of ds ≡ index_of ds

@@ -1,5 +1,6 @@
 mod Digits
 mod Names
+mod Numbered
 mod Setting
 mod Splitting
 mod Texts

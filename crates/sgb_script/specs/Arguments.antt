@@ -1,5 +1,5 @@
 -- What a word says where a name, a number, a place or a value is wanted.
-use Rattle.std.specs.Prelude.{ℕ, ◌==◌, ◌&&◌, if◌then◌else◌, List, [], ◌∷◌, length, codes, ℤ, Option, None, Some, option_and_then}
+use Rattle.std.specs.Prelude.{ℕ, Bool, ◌==◌, ◌&&◌, if◌then◌else◌, List, [], ◌∷◌, length, codes, ℤ, Option, None, Some, option_and_then}
 use Rattle.std.specs.Option.{option_map}
 use Rattle.std.specs.List.{list_all}
 use Rattle.std.specs.Str.{bytes_eq}
@@ -16,13 +16,37 @@ use Rattle.sgb_graph.specs.declared.field.Place.TheVariants as places
 use Rattle.sgb_graph.specs.declared.field.Util.{Util}
 use Rattle.sgb_graph.specs.declared.field.Util.TheVariants as utils
 use Rattle.sgb_graph.specs.Types.{is_letter}
+use Rattle.sgb_plan.specs.declared.part.Seed.{Seed}
+use Rattle.sgb_plan.specs.declared.part.Seed.TheVariants as seeds
+use Rattle.sgb_text.specs.declared.restoring.CheckRule.{CheckRule}
+use Rattle.sgb_text.specs.declared.restoring.CheckRule.TheVariants as check_rules
 use Rattle.sgb_script.specs.Name.{is_name}
 use Rattle.sgb_script.specs.Words.{Word, Plain, Quoted}
-use Rattle.sgb_script.specs.Numbers.{number_of, index_of, vertex_no, arc_no}
+use Rattle.sgb_script.specs.Numbers.{number_of, index_of, bits_of, is_yes, vertex_no, arc_no}
 
 abbrev pub the_number : Word → Option ℤ
 the_number (Plain w) = number_of w
 the_number (Quoted t) = None
+
+abbrev pub the_flag : Word → Option Bool
+the_flag w = option_map is_yes (the_number w)
+
+-- digits alone, below 2^64
+abbrev pub the_bits : Word → Option ℕ
+the_bits (Plain w) = bits_of w
+the_bits (Quoted t) = None
+
+-- a number, or a minus alone for the generator as it stands
+abbrev pub the_seed : Word → Option Seed
+the_seed (Plain w) = if bytes_eq w (codes "-") then Some seeds.Current else option_map seeds.Number (number_of w)
+the_seed (Quoted t) = None
+
+abbrev pub the_rule : Word → Option CheckRule
+the_rule (Plain w) =
+    if bytes_eq w (codes "check") then Some check_rules.Match
+    else (if bytes_eq w (codes "any") then Some check_rules.Any
+    else None)
+the_rule (Quoted t) = None
 
 abbrev pub the_vertex : Word → Option VertexNo
 the_vertex w = option_map vertex_no (the_number w)
@@ -94,3 +118,33 @@ value_in (c ∷ cs) =
 abbrev pub the_value : Word → Option Util
 the_value (Plain w) = value_in w
 the_value (Quoted t) = Some (utils.Text t)
+
+-- ---- so many words, each of its kind
+
+abbrev pub none : {R : Type 0} → R → List Word → Option R
+none r [] = Some r
+none r (w ∷ ws) = None
+
+abbrev pub one : {A R : Type 0} → (Word → Option A) → (A → R) → List Word → Option R
+one f r (w ∷ []) = option_map r (f w)
+one f r ws = None
+
+abbrev pub two : {A B R : Type 0} → (Word → Option A) → (Word → Option B) → (A → B → R) → List Word → Option R
+two f g r (w ∷ ws) = option_and_then (λ a. one g (r a) ws) (f w)
+two f g r [] = None
+
+abbrev pub three : {A B C R : Type 0} → (Word → Option A) → (Word → Option B) → (Word → Option C) → (A → B → C → R) → List Word → Option R
+three f g h r (w ∷ ws) = option_and_then (λ a. two g h (r a) ws) (f w)
+three f g h r [] = None
+
+abbrev pub four : {A B C D R : Type 0} → (Word → Option A) → (Word → Option B) → (Word → Option C) → (Word → Option D) → (A → B → C → D → R) → List Word → Option R
+four f g h i r (w ∷ ws) = option_and_then (λ a. three g h i (r a) ws) (f w)
+four f g h i r [] = None
+
+-- a word of its kind first, and what the words behind it give
+abbrev pub first : {A R : Type 0} → (Word → Option A) → (A → List Word → Option R) → List Word → Option R
+first f next (w ∷ ws) = option_and_then (λ a. next a ws) (f w)
+first f next [] = None
+
+abbrev pub four_numbers : {R : Type 0} → (ℤ → ℤ → ℤ → ℤ → List Word → Option R) → List Word → Option R
+four_numbers next = first the_number (λ a. first the_number (λ b. first the_number (λ c. first the_number (next a b c))))

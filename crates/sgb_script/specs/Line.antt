@@ -1,25 +1,30 @@
 -- One line of a script: what its words ask for.
 use Rattle.std.specs.Prelude.{ℕ, ◌==◌, nat_lt, nat_le, Bool, true, false, not, ◌&&◌, ◌||◌, if◌then◌else◌, List, [], ◌∷◌, length, slice_index, codes, Option, None, Some, option_and_then}
-use Rattle.std.specs.Option.{option_map}
+use Rattle.std.specs.Option.{option_map, option_or}
 use Rattle.std.specs.List.{list_all}
 use Rattle.std.specs.Str.{bytes_eq}
 use Rattle.sgb_graph.specs.declared.field.Util.TheVariants as utils
 use Rattle.sgb_script.specs.Words.{Word, Plain, Quoted, words_of}
-use Rattle.sgb_script.specs.Arguments.{the_number, the_vertex, the_arc, the_name, the_text, the_letters, the_place, the_value}
+use Rattle.sgb_script.specs.Arguments.{the_number, the_rule, the_vertex, the_arc, the_name, the_text, the_letters, the_place, the_value, none, one, two, three, four, first}
+use Rattle.sgb_script.specs.Makers.{maker_after, drawn}
 use Rattle.sgb_script.specs.declared.line.Keyword.{Keyword}
 use Rattle.sgb_script.specs.declared.line.Keyword.TheVariants as keywords
-use Rattle.sgb_script.specs.declared.command.Command.TheVariants.{Seed, Next, Unif, Graph, Edit, Drop}
+use Rattle.sgb_script.specs.declared.makers.Kind.{Kind}
+use Rattle.sgb_script.specs.declared.makers.Kind.TheVariants as kinds
+use Rattle.sgb_script.specs.declared.command.Command.TheVariants.{Next, Unif, Make, Edit, Lengths, Drop}
+use Rattle.sgb_script.specs.declared.command.Command.TheVariants as commands
 use Rattle.sgb_script.specs.declared.command.Edit.TheVariants.{Arc, Edge, Cut, Len, Set, Types, Label, Id}
+use Rattle.sgb_script.specs.declared.command.Maker.TheVariants as makers
 use Rattle.sgb_script.specs.declared.command.Query.TheVariants as queries
 use Rattle.sgb_script.specs.declared.command.Line.{Line}
-use Rattle.sgb_script.specs.declared.command.Line.TheVariants.{Nothing, Change, Undo, Redo, Ask}
+use Rattle.sgb_script.specs.declared.command.Line.TheVariants.{Nothing, Change, Undo, Redo, Ask, Load}
 
-abbrev pub keyword_of : List ℕ → Option Keyword
-keyword_of w =
+-- numbers, edits and questions
+abbrev pub step_of : List ℕ → Option Keyword
+step_of w =
     if bytes_eq w (codes "seed") then Some keywords.Seed
     else (if bytes_eq w (codes "next") then Some keywords.Next
     else (if bytes_eq w (codes "unif") then Some keywords.Unif
-    else (if bytes_eq w (codes "graph") then Some keywords.Graph
     else (if bytes_eq w (codes "arc") then Some keywords.Arc
     else (if bytes_eq w (codes "edge") then Some keywords.Edge
     else (if bytes_eq w (codes "cut") then Some keywords.Cut
@@ -34,28 +39,38 @@ keyword_of w =
     else (if bytes_eq w (codes "gen") then Some keywords.Gen
     else (if bytes_eq w (codes "list") then Some keywords.List
     else (if bytes_eq w (codes "show") then Some keywords.Show
-    else None)))))))))))))))))
+    else None))))))))))))))))
 
--- so many words follow, each of its kind
-abbrev pub none : Line → List Word → Option Line
-none line [] = Some line
-none line (w ∷ ws) = None
+-- whole graphs
+abbrev pub whole_of : List ℕ → Option Keyword
+whole_of w =
+    if bytes_eq w (codes "graph") then Some (keywords.Make kinds.Empty)
+    else (if bytes_eq w (codes "board") then Some (keywords.Make kinds.Board)
+    else (if bytes_eq w (codes "simplex") then Some (keywords.Make kinds.Simplex)
+    else (if bytes_eq w (codes "subsets") then Some (keywords.Make kinds.Subsets)
+    else (if bytes_eq w (codes "perms") then Some (keywords.Make kinds.Perms)
+    else (if bytes_eq w (codes "binary") then Some (keywords.Make kinds.Binary)
+    else (if bytes_eq w (codes "random") then Some (keywords.Make kinds.Random)
+    else (if bytes_eq w (codes "complement") then Some (keywords.Make kinds.Complement)
+    else (if bytes_eq w (codes "gunion") then Some (keywords.Make kinds.Gunion)
+    else (if bytes_eq w (codes "intersection") then Some (keywords.Make kinds.Intersection)
+    else (if bytes_eq w (codes "product") then Some (keywords.Make kinds.Product)
+    else (if bytes_eq w (codes "induced") then Some (keywords.Make kinds.Induced)
+    else (if bytes_eq w (codes "lengths") then Some keywords.Lengths
+    else (if bytes_eq w (codes "load") then Some keywords.Load
+    else (if bytes_eq w (codes "save") then Some keywords.Save
+    else None))))))))))))))
 
-abbrev pub one : {A : Type 0} → (Word → Option A) → (A → Line) → List Word → Option Line
-one f line (w ∷ []) = option_map line (f w)
-one f line ws = None
+abbrev pub keyword_of : List ℕ → Option Keyword
+keyword_of w = option_or (step_of w) (whole_of w)
 
-abbrev pub two : {A B : Type 0} → (Word → Option A) → (Word → Option B) → (A → B → Line) → List Word → Option Line
-two f g line (w ∷ ws) = option_and_then (λ a. one g (line a) ws) (f w)
-two f g line [] = None
+-- the new graph's name first
+abbrev pub making : Kind → List Word → Option Line
+making kind = first the_name (λ name ws. option_map (λ maker. Change (Make name maker)) (maker_after ws kind))
 
-abbrev pub three : {A B C : Type 0} → (Word → Option A) → (Word → Option B) → (Word → Option C) → (A → B → C → Line) → List Word → Option Line
-three f g h line (w ∷ ws) = option_and_then (λ a. two g h (line a) ws) (f w)
-three f g h line [] = None
-
-abbrev pub four : {A B C D : Type 0} → (Word → Option A) → (Word → Option B) → (Word → Option C) → (Word → Option D) → (A → B → C → D → Line) → List Word → Option Line
-four f g h i line (w ∷ ws) = option_and_then (λ a. three g h i (line a) ws) (f w)
-four f g h i line [] = None
+-- a graph, whose arcs draw lengths
+abbrev pub drawing : List Word → Option Line
+drawing = first the_name (λ g ws. option_map (λ d. Change (Lengths g (record { directed = d.0; min = d.1; max = d.2 }) d.3)) (drawn ws))
 
 -- a graph, a place of it, a field of the place, and a value
 abbrev pub setting : List Word → Option Line
@@ -65,10 +80,10 @@ setting ws = None
 
 -- the words behind a keyword, and what the line then asks for
 abbrev pub line_after : List Word → Keyword → Option Line
-line_after ws keywords.Seed = one the_number (λ s. Change (Seed s)) ws
+line_after ws keywords.Seed = one the_number (λ s. Change (commands.Seed s)) ws
 line_after ws keywords.Next = none (Change Next) ws
 line_after ws keywords.Unif = one the_number (λ m. Change (Unif m)) ws
-line_after ws keywords.Graph = two the_name the_number (λ g n. Change (Graph g n)) ws
+line_after ws (keywords.Make kind) = making kind ws
 line_after ws keywords.Arc = four the_name the_vertex the_vertex the_number (λ g u v len. Change (Edit g (Arc u v len))) ws
 line_after ws keywords.Edge = four the_name the_vertex the_vertex the_number (λ g u v len. Change (Edit g (Edge u v len))) ws
 line_after ws keywords.Cut = two the_name the_arc (λ g k. Change (Edit g (Cut k))) ws
@@ -77,12 +92,15 @@ line_after ws keywords.Set = setting ws
 line_after ws keywords.Types = two the_name the_letters (λ g types. Change (Edit g (Types types))) ws
 line_after ws keywords.Label = three the_name the_vertex the_text (λ g v text. Change (Edit g (Label v text))) ws
 line_after ws keywords.Id = two the_name the_text (λ g text. Change (Edit g (Id text))) ws
+line_after ws keywords.Lengths = drawing ws
 line_after ws keywords.Drop = one the_name (λ g. Change (Drop g)) ws
 line_after ws keywords.Undo = none Undo ws
 line_after ws keywords.Redo = none Redo ws
 line_after ws keywords.Gen = none (Ask queries.Gen) ws
 line_after ws keywords.List = none (Ask queries.List) ws
 line_after ws keywords.Show = one the_name (λ g. Ask (queries.Show g)) ws
+line_after ws keywords.Save = one the_name (λ g. Ask (queries.Save g)) ws
+line_after ws keywords.Load = two the_name the_rule Load ws
 
 abbrev pub asked_of : List Word → Option Line
 asked_of [] = Some Nothing
@@ -105,6 +123,8 @@ abbrev pub has_text : Line → Bool
 has_text (Change (Edit g (Set p (utils.Text t)))) = true
 has_text (Change (Edit g (Label v t))) = true
 has_text (Change (Edit g (Id t))) = true
+has_text (Change (Make name (makers.Induced g t spec))) = true
+has_text (Change (Make name (makers.Load t rule))) = true
 has_text line = false
 
 abbrev pub takes_memory : Option Line → Bool

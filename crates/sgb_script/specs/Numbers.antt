@@ -1,5 +1,5 @@
 -- The numbers of a line.
-use Rattle.std.specs.Prelude.{ℕ, ◌-◌, ◌^◌, ◌==◌, nat_lt, nat_le, not, ◌&&◌, if◌then◌else◌, List, [], ◌∷◌, length, min, ℤ, pos, negsuc, neg_ℤ, Option, None, Some, option_and_then}
+use Rattle.std.specs.Prelude.{ℕ, ◌-◌, ◌^◌, ◌==◌, nat_lt, nat_le, Bool, true, not, ◌&&◌, if◌then◌else◌, List, [], ◌∷◌, length, min, ℤ, pos, negsuc, neg_ℤ, Option, None, Some, option_and_then}
 use Rattle.std.specs.Str.{all_ascii_digits}
 use Rattle.std.specs.Str.Parse.{digits_value}
 use Rattle.sgb_graph.specs.declared.field.VertexNo.{VertexNo}
@@ -20,6 +20,15 @@ number_of (c ∷ cs) =
 -- the k of Vk or Ak, which fits in 63 bits
 unfoldable pub index_of : List ℕ → Option ℤ
 index_of ds = option_and_then (λ n. if nat_lt n (2 ^ 63) then Some (pos n) else None) (natural_of ds)
+
+-- digits alone, of a number below 2^64
+unfoldable pub bits_of : List ℕ → Option ℕ
+bits_of ds = option_and_then (λ n. if nat_lt n (2 ^ 64) then Some n else None) (natural_of ds)
+
+-- 0 is no, and every other number yes
+abbrev pub is_yes : ℤ → Bool
+is_yes (pos n) = not (n == 0)
+is_yes (negsuc n) = true
 
 -- a number as one of 32 bits; what is none of them becomes the greatest
 abbrev pub in_32_bits : ℤ → ℕ

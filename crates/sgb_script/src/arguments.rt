@@ -2,12 +2,14 @@
 ghost use Rattle.std.specs.Prelude.{◌≡◌};
 ghost use Rattle.std.specs.Option.{option_map, option_copied};
 ghost use Rattle.sgb_script.specs.Private.Words.{seen};
-ghost use Rattle.sgb_script.specs.Arguments.{the_number, the_vertex, the_arc, the_name, the_text, the_letters, the_place, place_in, value_in, vertex_field, arc_field, graph_field};
+ghost use Rattle.sgb_script.specs.Arguments.{the_number, the_flag, the_bits, the_seed, the_rule, the_vertex, the_arc, the_name, the_text, the_letters, the_place, place_in, value_in, vertex_field, arc_field, graph_field};
 
 use crate::Name;
-use crate::numbers::{in_32_bits, index, number};
+use crate::numbers::{bits, in_32_bits, index, is_yes, number};
 use crate::words::Word;
 use sgb_graph::{ArcField, ArcNo, GraphField, Place, Types, Util, VertexField, VertexNo};
+use sgb_make::Seed;
+use sgb_text::CheckRule;
 
 pub(crate) fn the_number(word: Word<'_>) -> Option<i64>
     ensures { result ≡ the_number (seen word.entry) }
@@ -15,6 +17,45 @@ pub(crate) fn the_number(word: Word<'_>) -> Option<i64>
     match word {
         Word::Plain(bytes) => number(bytes),
         Word::Quoted(_) => None,
+    }
+}
+
+pub(crate) fn the_flag(word: Word<'_>) -> Option<bool>
+    ensures { result ≡ the_flag (seen word.entry) }
+{
+    let flag = the_number(word)?;
+    Some(is_yes(flag))
+}
+
+/// `size_bits`, a number below 2^64.
+pub(crate) fn the_bits(word: Word<'_>) -> Option<u64>
+    ensures { result ≡ the_bits (seen word.entry) }
+{
+    match word {
+        Word::Plain(bytes) => bits(bytes),
+        Word::Quoted(_) => None,
+    }
+}
+
+/// A number, or `-`.
+pub(crate) fn the_seed(word: Word<'_>) -> Option<Seed>
+    ensures { result ≡ the_seed (seen word.entry) }
+{
+    match word {
+        Word::Plain(b"-") => Some(Seed::Current),
+        Word::Plain(bytes) => Some(Seed::Number(number(bytes)?)),
+        Word::Quoted(_) => None,
+    }
+}
+
+/// `check` or `any`.
+pub(crate) fn the_rule(word: Word<'_>) -> Option<CheckRule>
+    ensures { result ≡ the_rule (seen word.entry) }
+{
+    match word {
+        Word::Plain(b"check") => Some(CheckRule::Match),
+        Word::Plain(b"any") => Some(CheckRule::Any),
+        _ => None,
     }
 }
 

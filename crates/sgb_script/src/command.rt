@@ -1,7 +1,10 @@
 //! What a script can ask for.
 
 use crate::Name;
-use sgb_graph::{ArcNo, Place, Text, Types, Util, VertexNo};
+use sgb_combine::{ComplementSpec, GunionSpec, InducedSpec, LengthsSpec, ProductSpec};
+use sgb_graph::{ArcNo, Items, Place, Text, Types, Util, VertexNo};
+use sgb_make::{BinarySpec, BoardSpec, PermsSpec, RandomSpec, Seed, SimplexSpec, SubsetsSpec};
+use sgb_text::CheckRule;
 
 /// A command that changes the session. It stands in the journal, so that it can be undone.
 #[derive(Debug, Drop, PartialEq, Eq)]
@@ -12,12 +15,45 @@ pub enum Command {
     Next,
     /// `unif M`: a uniform number below M is drawn (`gb_unif_rand`).
     Unif(i64),
-    /// `graph NAME N`: a graph of N vertices without arcs (`gb_new_graph`).
-    Graph(Name, i64),
+    /// A graph is made, and stands last in the table under a new name.
+    Make(Name, Maker),
     /// A graph of the table is edited.
     Edit(Name, Edit),
+    /// `lengths G directed min max SEED`: the arcs of a graph draw new lengths (`random_lengths`).
+    Lengths(Name, LengthsSpec, Seed),
     /// `drop G`: the graph leaves the table.
     Drop(Name),
+}
+
+/// How a new graph is made. The names are those of graphs of the table, in the order of the line's words.
+#[derive(Debug, Drop, PartialEq, Eq)]
+pub enum Maker {
+    /// `graph NAME N`: N vertices without arcs (`gb_new_graph`).
+    Empty(i64),
+    /// `board NAME n1 n2 n3 n4 piece wrap directed`: moves on a board.
+    Board(BoardSpec),
+    /// `simplex NAME n n0 n1 n2 n3 n4 directed`: the points of a simplex.
+    Simplex(SimplexSpec),
+    /// `subsets NAME n n0 n1 n2 n3 n4 size_bits directed`: subsets by the sizes of their overlaps.
+    Subsets(SubsetsSpec),
+    /// `perms NAME n0 n1 n2 n3 n4 max_inv directed`: permutations of a multiset.
+    Perms(PermsSpec),
+    /// `binary NAME n max_height directed`: binary trees and their rotations.
+    Binary(BinarySpec),
+    /// `random NAME n m multi self directed min max SEED`: a random graph (`random_graph`).
+    Random(RandomSpec, Seed),
+    /// `complement NAME G copy self directed`: what G does not join.
+    Complement(Name, ComplementSpec),
+    /// `gunion NAME G H multi directed`: what G or H joins.
+    Gunion(Name, Name, GunionSpec),
+    /// `intersection NAME G H directed`: what G and H join.
+    Intersection(Name, Name, bool),
+    /// `product NAME G H type directed`: pairs of vertices.
+    Product(Name, Name, ProductSpec),
+    /// `induced NAME G "D" self multi directed`: what the fields z of G ask for.
+    Induced(Name, Text, InducedSpec),
+    /// `load NAME check` or `load NAME any`, and the lines of a saved text (`restore_graph`).
+    Load(Items<u8>, CheckRule),
 }
 
 /// An edit of a graph.
@@ -53,6 +89,8 @@ pub enum Query {
     List,
     /// `show G`: a graph with its vertices, arcs and fields.
     Show(Name),
+    /// `save G`: a graph as a saved text (`save_graph`).
+    Save(Name),
 }
 
 /// One line of a script, as it was read.
@@ -68,4 +106,6 @@ pub enum Line {
     Redo,
     /// A question.
     Ask(Query),
+    /// `load NAME check` or `load NAME any`: a graph is made of the text in the lines that follow, up to the line `.`.
+    Load(Name, CheckRule),
 }

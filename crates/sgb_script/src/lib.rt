@@ -4,12 +4,14 @@
 mod arguments;
 mod command;
 mod line;
+mod makers;
 mod name;
 mod numbers;
 mod refusal;
+mod text;
 mod words;
 
-pub use command::{Command, Edit, Line, Query};
+pub use command::{Command, Edit, Line, Maker, Query};
 pub use line::{LINE_LIMIT, parse};
 pub use name::{NAME_LIMIT, Name};
 pub use refusal::ShellRefusal;

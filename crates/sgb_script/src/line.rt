@@ -2,22 +2,25 @@
 ghost use Rattle.std.specs.Prelude.{◌≡◌, ◌⊎◌, MatchOption, IfOk, IfErr, IsTrue, length, ◌==◌, ◌∷◌, [], slice_index, Some, None};
 ghost use Rattle.std.specs.List.{list_all};
 ghost use Rattle.std.specs.Option.{option_and_then};
-ghost use Rattle.sgb_graph.specs.Text.{IsText};
+ghost use Rattle.std.specs.Str.{bytes_eq};
 ghost use Rattle.sgb_script.specs.Words.{words_of};
-ghost use Rattle.sgb_script.specs.Arguments.{the_value};
-ghost use Rattle.sgb_script.specs.Line.{line_of, asked_of, line_after, keyword_of, none, takes_memory, is_printable_byte};
+ghost use Rattle.sgb_script.specs.Arguments.{the_value, none};
+ghost use Rattle.sgb_script.specs.Line.{line_of, asked_of, line_after, keyword_of, step_of, whole_of, takes_memory, is_printable_byte};
 ghost use Rattle.sgb_script.specs.Private.Words.{seen, AreTexts, HasTexts};
 ghost use Rattle.sgb_script.specs.Private.Reading.{is_text, Reads};
 ghost use Rattle.sgb_script.specs.declared.refusal.ShellRefusal.TheVariants.{NoRoom, ScriptSyntax};
 ghost use Rattle.sgb_script.specs.declared.line.Keyword.TheVariants as keywords;
 
 use crate::arguments::{
-    the_arc, the_letters, the_name, the_number, the_place, the_text, the_vertex, value_in,
+    the_arc, the_letters, the_name, the_number, the_place, the_rule, the_text, the_vertex, value_in,
 };
 use crate::command::{Command, Edit, Line, Query};
+use crate::makers::{Kind, drawn, make};
 use crate::refusal::ShellRefusal;
+use crate::text::text;
 use crate::words::{Word, four_words, is_blank, one_word, split_word, three_words, two_words};
-use sgb_graph::{Text, Util};
+use sgb_combine::LengthsSpec;
+use sgb_graph::Util;
 use std::alloc::Global;
 
 /// The most bytes of a line, its newline not counted.
@@ -29,7 +32,7 @@ enum Keyword {
     Seed,
     Next,
     Unif,
-    Graph,
+    Make(Kind),
     Arc,
     Edge,
     Cut,
@@ -38,12 +41,15 @@ enum Keyword {
     Types,
     Label,
     Id,
+    Lengths,
     Drop,
     Undo,
     Redo,
     Gen,
     List,
     Show,
+    Save,
+    Load,
 }
 
 /// Reads one line of a script, without its newline. Refused 100 where it is no line of the language. Memory is taken
@@ -82,11 +88,20 @@ fn asked(alloc: Global, line: &[u8]) -> Result<Line, ShellRefusal>
 fn recognize(word: &[u8]) -> Option<Keyword>
     ensures { result ≡ keyword_of word.now }
 {
+    match recognize_step(word) {
+        Some(keyword) => Some(keyword),
+        None => recognize_whole(word),
+    }
+}
+
+// Numbers, edits and questions.
+fn recognize_step(word: &[u8]) -> Option<Keyword>
+    ensures { result ≡ step_of word.now }
+{
     match word {
         b"seed" => Some(Keyword::Seed),
         b"next" => Some(Keyword::Next),
         b"unif" => Some(Keyword::Unif),
-        b"graph" => Some(Keyword::Graph),
         b"arc" => Some(Keyword::Arc),
         b"edge" => Some(Keyword::Edge),
         b"cut" => Some(Keyword::Cut),
@@ -105,6 +120,51 @@ fn recognize(word: &[u8]) -> Option<Keyword>
     }
 }
 
+// Whole graphs.
+fn recognize_whole(word: &[u8]) -> Option<Keyword>
+    ensures { result ≡ whole_of word.now }
+{
+    if is(word, "graph") {
+        Some(Keyword::Make(Kind::Empty))
+    } else if is(word, "board") {
+        Some(Keyword::Make(Kind::Board))
+    } else if is(word, "simplex") {
+        Some(Keyword::Make(Kind::Simplex))
+    } else if is(word, "subsets") {
+        Some(Keyword::Make(Kind::Subsets))
+    } else if is(word, "perms") {
+        Some(Keyword::Make(Kind::Perms))
+    } else if is(word, "binary") {
+        Some(Keyword::Make(Kind::Binary))
+    } else if is(word, "random") {
+        Some(Keyword::Make(Kind::Random))
+    } else if is(word, "complement") {
+        Some(Keyword::Make(Kind::Complement))
+    } else if is(word, "gunion") {
+        Some(Keyword::Make(Kind::Gunion))
+    } else if is(word, "intersection") {
+        Some(Keyword::Make(Kind::Intersection))
+    } else if is(word, "product") {
+        Some(Keyword::Make(Kind::Product))
+    } else if is(word, "induced") {
+        Some(Keyword::Make(Kind::Induced))
+    } else if is(word, "lengths") {
+        Some(Keyword::Lengths)
+    } else if is(word, "load") {
+        Some(Keyword::Load)
+    } else if is(word, "save") {
+        Some(Keyword::Save)
+    } else {
+        None
+    }
+}
+
+fn is(word: &[u8], keyword: &str) -> bool
+    ensures { result ≡ bytes_eq word.now keyword.now }
+{
+    word == keyword.as_bytes()
+}
+
 // What the keyword asks for with the words that follow it.
 #[inline(never)]
 fn asked_after(alloc: Global, keyword: Keyword, rest: &[u8]) -> Result<Line, ShellRefusal>
@@ -116,7 +176,7 @@ fn asked_after(alloc: Global, keyword: Keyword, rest: &[u8]) -> Result<Line, She
         Keyword::Seed => seed(rest).ok_or(refused),
         Keyword::Next => alone(rest, Line::Change(Command::Next)).ok_or(refused),
         Keyword::Unif => unif(rest).ok_or(refused),
-        Keyword::Graph => graph(rest).ok_or(refused),
+        Keyword::Make(kind) => make(alloc, kind, rest),
         Keyword::Arc => arc(rest).ok_or(refused),
         Keyword::Edge => edge(rest).ok_or(refused),
         Keyword::Cut => cut(rest).ok_or(refused),
@@ -125,12 +185,15 @@ fn asked_after(alloc: Global, keyword: Keyword, rest: &[u8]) -> Result<Line, She
         Keyword::Types => types(rest).ok_or(refused),
         Keyword::Label => label(alloc, rest),
         Keyword::Id => id(alloc, rest),
+        Keyword::Lengths => lengths(rest).ok_or(refused),
         Keyword::Drop => drop_graph(rest).ok_or(refused),
         Keyword::Undo => alone(rest, Line::Undo).ok_or(refused),
         Keyword::Redo => alone(rest, Line::Redo).ok_or(refused),
         Keyword::Gen => alone(rest, Line::Ask(Query::Gen)).ok_or(refused),
         Keyword::List => alone(rest, Line::Ask(Query::List)).ok_or(refused),
         Keyword::Show => show(rest).ok_or(refused),
+        Keyword::Save => save(rest).ok_or(refused),
+        Keyword::Load => load(rest).ok_or(refused),
     }
 }
 
@@ -155,16 +218,6 @@ fn unif(rest: &[u8]) -> Option<Line>
 {
     let bound = the_number(one_word(rest)?)?;
     Some(Line::Change(Command::Unif(bound)))
-}
-
-#[inline(never)]
-fn graph(rest: &[u8]) -> Option<Line>
-    ensures { result ≡ option_and_then (λ ws. line_after ws keywords.Graph) (words_of rest.now) }
-{
-    let (name, count) = two_words(rest)?;
-    let name = the_name(name)?;
-    let count = the_number(count)?;
-    Some(Line::Change(Command::Graph(name, count)))
 }
 
 #[inline(never)]
@@ -239,6 +292,35 @@ fn show(rest: &[u8]) -> Option<Line>
 }
 
 #[inline(never)]
+fn save(rest: &[u8]) -> Option<Line>
+    ensures { result ≡ option_and_then (λ ws. line_after ws keywords.Save) (words_of rest.now) }
+{
+    let name = the_name(one_word(rest)?)?;
+    Some(Line::Ask(Query::Save(name)))
+}
+
+#[inline(never)]
+fn load(rest: &[u8]) -> Option<Line>
+    ensures { result ≡ option_and_then (λ ws. line_after ws keywords.Load) (words_of rest.now) }
+{
+    let (name, rule) = two_words(rest)?;
+    let name = the_name(name)?;
+    let rule = the_rule(rule)?;
+    Some(Line::Load(name, rule))
+}
+
+#[inline(never)]
+fn lengths(rest: &[u8]) -> Option<Line>
+    ensures { result ≡ option_and_then (λ ws. line_after ws keywords.Lengths) (words_of rest.now) }
+{
+    let (graph, rest) = split_word(rest)?;
+    let graph = the_name(graph)?;
+    let (directed, min, max, seed) = drawn(rest)?;
+    let spec = LengthsSpec { directed, min, max };
+    Some(Line::Change(Command::Lengths(graph, spec, seed)))
+}
+
+#[inline(never)]
 fn set(alloc: Global, rest: &[u8]) -> Result<Line, ShellRefusal>
     requires { HasTexts (words_of rest.now) }
     ensures { Reads (option_and_then (λ ws. line_after ws keywords.Set) (words_of rest.now)) result }
@@ -287,18 +369,6 @@ fn id(alloc: Global, rest: &[u8]) -> Result<Line, ShellRefusal>
     let name = the_name(name).ok_or(refused)?;
     let bytes = the_text(bytes).ok_or(refused)?;
     Ok(Line::Change(Command::Edit(name, Edit::Id(text(alloc, bytes)?))))
-}
-
-// A copy of the bytes of a text.
-fn text(alloc: Global, bytes: &[u8]) -> Result<Text, ShellRefusal>
-    requires { IsText bytes.now }
-    ensures ok { IfOk result (λ t. t ≡ bytes.now) }
-    ensures err { IfErr result (λ e. e ≡ NoRoom) }
-{
-    match Text::new(alloc, bytes) {
-        Ok(text) => Ok(text),
-        Err(_) => Err(ShellRefusal::NoRoom),
-    }
 }
 
 fn is_comment(line: &[u8]) -> bool

@@ -1,6 +1,6 @@
 //! The numbers of a line.
 ghost use Rattle.std.specs.Prelude.{◌≡◌, ◌==◌, slice_index};
-ghost use Rattle.sgb_script.specs.Numbers.{number_of, index_of, in_32_bits};
+ghost use Rattle.sgb_script.specs.Numbers.{number_of, index_of, bits_of, is_yes, in_32_bits};
 
 use std::str::from_utf8;
 
@@ -25,6 +25,26 @@ pub(crate) fn index(digits: &[u8]) -> Option<i64>
         return None;
     }
     number(digits)
+}
+
+/// Digits alone, of a number below 2^64.
+pub(crate) fn bits(digits: &[u8]) -> Option<u64>
+    ensures { result ≡ bits_of digits.now }
+{
+    if has_plus(digits) {
+        return None;
+    }
+    match from_utf8(digits) {
+        Ok(text) => text.parse().ok(),
+        Err(_) => None,
+    }
+}
+
+/// Whether a flag says yes: every number but 0 does.
+pub(crate) fn is_yes(flag: i64) -> bool
+    ensures { result ≡ is_yes flag }
+{
+    flag != 0
 }
 
 /// The number as one of 32 bits. What is none of them becomes the greatest.

@@ -3,7 +3,10 @@ ghost use Rattle.std.specs.Prelude.{◌≡◌, ◌<◌, ◌≤◌, ◌==◌, ◌
 ghost use Rattle.std.specs.Option.{option_map};
 ghost use Rattle.std.specs.List.{prefix_len, list_any};
 ghost use Rattle.sgb_script.specs.Words.{words_of, is_quotable};
-ghost use Rattle.sgb_script.specs.Private.Words.{seen, Splits, is_nothing, one_of, two_of, three_of, four_of};
+ghost use Rattle.sgb_script.specs.Arguments.{the_number};
+ghost use Rattle.sgb_script.specs.Private.Words.{seen, Splits, is_nothing, one_of, two_of, three_of, four_of, SplitsFirst, SplitsNumbers};
+
+use crate::arguments::the_number;
 
 const SPACE: u8 = b' ';
 
@@ -77,6 +80,25 @@ pub(crate) fn split_word(line: &[u8]) -> Option<(Word<'_>, &[u8])>
         return split_quoted(&text[1..]);
     }
     split_plain(text)
+}
+
+/// The first word, where it is a number, and what follows it.
+pub(crate) fn split_number(line: &[u8]) -> Option<(i64, &[u8])>
+    ensures { SplitsFirst the_number (words_of line.now) result }
+{
+    let (word, rest) = split_word(line)?;
+    Some((the_number(word)?, rest))
+}
+
+/// Four numbers, where they come first, and what follows them.
+pub(crate) fn four_numbers(line: &[u8]) -> Option<(i64, i64, i64, i64, &[u8])>
+    ensures { SplitsNumbers (words_of line.now) result }
+{
+    let (first, rest) = split_number(line)?;
+    let (second, rest) = split_number(rest)?;
+    let (third, rest) = split_number(rest)?;
+    let (fourth, rest) = split_number(rest)?;
+    Some((first, second, third, fourth, rest))
 }
 
 // The text between the quotes, of which one stands before `inside`, and what follows.

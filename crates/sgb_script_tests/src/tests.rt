@@ -2,7 +2,9 @@
 //! test stays short.
 
 use sgb_graph::{ArcField, ArcNo, GraphField, Place, Util, VertexField, VertexNo};
-use sgb_script::{Command, Edit, Line, Name, Query, ShellRefusal, parse};
+use sgb_make::Seed;
+use sgb_script::{Command, Edit, Line, Maker, Name, Query, ShellRefusal, parse};
+use sgb_text::CheckRule;
 use std::alloc::{AllocError, Global};
 use std::test::Fail;
 
@@ -70,10 +72,198 @@ fn has_its_bytes(bytes: &[u8]) -> bool {
     }
 }
 
+// Whether this is the name g.
+fn is_g(name: Name) -> bool {
+    name.bytes() == b"g".as_slice()
+}
+
+// Whether the line makes a graph g.
+fn makes_g(alloc: Global, line: &[u8]) -> bool {
+    match &read(alloc, line) {
+        Ok(Line::Change(Command::Make(name, _))) => is_g(*name),
+        _ => false,
+    }
+}
+
+// What makes the graph g that a line asks for.
+fn maker_of(alloc: Global, line: &[u8]) -> Option<Maker> {
+    if !makes_g(alloc, line) {
+        return None;
+    }
+    match read(alloc, line) {
+        Ok(Line::Change(Command::Make(_, maker))) => Some(maker),
+        _ => None,
+    }
+}
+
 // How many vertices the graph has that a line asks for.
 fn vertices_of(alloc: Global, line: &[u8]) -> Option<i64> {
-    match read(alloc, line) {
-        Ok(Line::Change(Command::Graph(_, n))) => Some(n),
+    match maker_of(alloc, line) {
+        Some(Maker::Empty(n)) => Some(n),
+        _ => None,
+    }
+}
+
+// The numbers of a board, and whether it is directed.
+fn board_of(alloc: Global, line: &[u8]) -> Option<([i64; 6], bool)> {
+    match maker_of(alloc, line) {
+        Some(Maker::Board(spec)) => {
+            let numbers = [spec.n1, spec.n2, spec.n3, spec.n4, spec.piece, spec.wrap];
+            Some((numbers, spec.directed))
+        }
+        _ => None,
+    }
+}
+
+fn simplex_of(alloc: Global, line: &[u8]) -> Option<([i64; 6], bool)> {
+    match maker_of(alloc, line) {
+        Some(Maker::Simplex(spec)) => {
+            let numbers = [spec.n, spec.n0, spec.n1, spec.n2, spec.n3, spec.n4];
+            Some((numbers, spec.directed))
+        }
+        _ => None,
+    }
+}
+
+fn subsets_of(alloc: Global, line: &[u8]) -> Option<([i64; 6], u64, bool)> {
+    match maker_of(alloc, line) {
+        Some(Maker::Subsets(spec)) => {
+            let numbers = [spec.n, spec.n0, spec.n1, spec.n2, spec.n3, spec.n4];
+            Some((numbers, spec.size_bits, spec.directed))
+        }
+        _ => None,
+    }
+}
+
+// The sizes of the overlaps that join two subsets.
+fn bits_of(alloc: Global, line: &[u8]) -> Option<u64> {
+    match maker_of(alloc, line) {
+        Some(Maker::Subsets(spec)) => Some(spec.size_bits),
+        _ => None,
+    }
+}
+
+fn perms_of(alloc: Global, line: &[u8]) -> Option<([i64; 6], bool)> {
+    match maker_of(alloc, line) {
+        Some(Maker::Perms(spec)) => {
+            let numbers = [spec.n0, spec.n1, spec.n2, spec.n3, spec.n4, spec.max_inv];
+            Some((numbers, spec.directed))
+        }
+        _ => None,
+    }
+}
+
+fn binary_of(alloc: Global, line: &[u8]) -> Option<(i64, i64, bool)> {
+    match maker_of(alloc, line) {
+        Some(Maker::Binary(spec)) => Some((spec.n, spec.max_height, spec.directed)),
+        _ => None,
+    }
+}
+
+// The numbers of a random graph, with its flags for loops and arcs.
+fn random_of(alloc: Global, line: &[u8]) -> Option<([i64; 5], bool, bool)> {
+    match maker_of(alloc, line) {
+        Some(Maker::Random(spec, _)) => {
+            let numbers = [spec.n, spec.m, spec.multi, spec.min, spec.max];
+            Some((numbers, spec.loops, spec.directed))
+        }
+        _ => None,
+    }
+}
+
+fn random_seed(alloc: Global, line: &[u8]) -> Option<Seed> {
+    match maker_of(alloc, line) {
+        Some(Maker::Random(_, seed)) => Some(seed),
+        _ => None,
+    }
+}
+
+// Whether this is the name h.
+fn is_h(name: Name) -> bool {
+    name.bytes() == b"h".as_slice()
+}
+
+// Whether these are the names h and i.
+fn are_h_and_i(first: Name, second: Name) -> bool {
+    is_h(first) && second.bytes() == b"i".as_slice()
+}
+
+// The flags of a complement of h: copies, loops, arcs.
+fn complement_of(alloc: Global, line: &[u8]) -> Option<(bool, bool, bool)> {
+    match &maker_of(alloc, line) {
+        Some(Maker::Complement(graph, spec)) if is_h(*graph) => {
+            Some((spec.copy, spec.loops, spec.directed))
+        }
+        _ => None,
+    }
+}
+
+// The flags of a union of h and i.
+fn gunion_of(alloc: Global, line: &[u8]) -> Option<(bool, bool)> {
+    match &maker_of(alloc, line) {
+        Some(Maker::Gunion(graph, other, spec)) if are_h_and_i(*graph, *other) => {
+            Some((spec.multi, spec.directed))
+        }
+        _ => None,
+    }
+}
+
+// The flag of an intersection of h and i.
+fn intersection_of(alloc: Global, line: &[u8]) -> Option<bool> {
+    match &maker_of(alloc, line) {
+        Some(Maker::Intersection(graph, other, directed)) if are_h_and_i(*graph, *other) => {
+            Some(*directed)
+        }
+        _ => None,
+    }
+}
+
+// The type and the flag of a product of h and i.
+fn product_of(alloc: Global, line: &[u8]) -> Option<(i64, bool)> {
+    match &maker_of(alloc, line) {
+        Some(Maker::Product(graph, other, spec)) if are_h_and_i(*graph, *other) => {
+            Some((spec.kind, spec.directed))
+        }
+        _ => None,
+    }
+}
+
+// The flags of a graph that h induces with this description: loops, several arcs, arcs.
+fn induced_of(alloc: Global, line: &[u8], text: &[u8]) -> Option<(bool, bool, bool)> {
+    match &maker_of(alloc, line) {
+        Some(Maker::Induced(graph, description, spec)) => {
+            if is_h(*graph) && description.bytes() == text {
+                Some((spec.loops, spec.multi, spec.directed))
+            } else {
+                None
+            }
+        }
+        _ => None,
+    }
+}
+
+// How the arcs of h draw lengths.
+fn lengths_of(alloc: Global, line: &[u8]) -> Option<(bool, i64, i64, Seed)> {
+    match &read(alloc, line) {
+        Ok(Line::Change(Command::Lengths(graph, spec, seed))) if is_h(*graph) => {
+            Some((spec.directed, spec.min, spec.max, *seed))
+        }
+        _ => None,
+    }
+}
+
+// The rule of a line that loads h.
+fn rule_of(alloc: Global, line: &[u8]) -> Option<CheckRule> {
+    match &read(alloc, line) {
+        Ok(Line::Load(name, rule)) if is_h(*name) => Some(*rule),
+        _ => None,
+    }
+}
+
+// The name of the graph that a line saves.
+fn saved(alloc: Global, line: &[u8]) -> Option<Name> {
+    match &read(alloc, line) {
+        Ok(Line::Ask(Query::Save(name))) => Some(*name),
         _ => None,
     }
 }
@@ -415,4 +605,153 @@ fn lines_that_change(rt: HostRuntime) {
     assert!(rt; len_of(alloc, b"len g 5 -1") == Some((ArcNo(5), -1)));
     assert!(rt; label_len(alloc, b"label g 2 \"four\"") == Some((VertexNo(2), 4)));
     assert!(rt; dropped(alloc, b"drop g") == Name::new(b"g"));
+}
+
+#[test]
+fn boards(rt: HostRuntime) {
+    let alloc = rt.alloc();
+    let knights = board_of(alloc, b"board g 8 9 0 -1 5 3 0");
+    assert!(rt; knights == Some(([8, 9, 0, -1, 5, 3], false)));
+    assert!(rt; is_refused(alloc, b"board g 8 9 0 -1 5 3"));
+    assert!(rt; is_refused(alloc, b"board 8 9 0 -1 5 3 0"));
+    assert!(rt; is_refused(alloc, b"board g 8 9 0 x 5 3 0"));
+}
+
+#[test]
+fn flags(rt: HostRuntime) {
+    let alloc = rt.alloc();
+    let numbers = [1, 2, 3, 4, 5, 6];
+    assert!(rt; board_of(alloc, b"board g 1 2 3 4 5 6 2") == Some((numbers, true)));
+    assert!(rt; board_of(alloc, b"board g 1 2 3 4 5 6 -1") == Some((numbers, true)));
+    assert!(rt; board_of(alloc, b"board g 1 2 3 4 5 6 -0") == Some((numbers, false)));
+}
+
+#[test]
+fn simplices(rt: HostRuntime) {
+    let alloc = rt.alloc();
+    let line = simplex_of(alloc, b"simplex g 3 4 5 6 7 -8 1");
+    assert!(rt; line == Some(([3, 4, 5, 6, 7, -8], true)));
+    assert!(rt; is_refused(alloc, b"simplex g 3 4 5 6 7 -8 1 0"));
+}
+
+#[test]
+fn families_of_subsets(rt: HostRuntime) {
+    let alloc = rt.alloc();
+    let line = subsets_of(alloc, b"subsets g 2 1 3 4 0 -5 18446744073709551615 0");
+    assert!(rt; line == Some(([2, 1, 3, 4, 0, -5], u64::MAX, false)));
+    assert!(rt; is_refused(alloc, b"subsets g 2 1 3 4 0 -5 1"));
+}
+
+#[test]
+fn sizes_of_overlaps(rt: HostRuntime) {
+    let alloc = rt.alloc();
+    assert!(rt; bits_of(alloc, b"subsets g 2 1 1 1 0 0 0007 0") == Some(7));
+    assert!(rt; is_refused(alloc, b"subsets g 2 1 1 1 0 0 -1 0"));
+    assert!(rt; is_refused(alloc, b"subsets g 2 1 1 1 0 0 -0 0"));
+    assert!(rt; is_refused(alloc, b"subsets g 2 1 1 1 0 0 +1 0"));
+    assert!(rt; is_refused(alloc, b"subsets g 2 1 1 1 0 0 18446744073709551616 0"));
+}
+
+#[test]
+fn arrangements(rt: HostRuntime) {
+    let alloc = rt.alloc();
+    let line = perms_of(alloc, b"perms g 1 2 3 4 -5 6 1");
+    assert!(rt; line == Some(([1, 2, 3, 4, -5, 6], true)));
+    assert!(rt; is_refused(alloc, b"perms g 1 2 3 4 -5 6"));
+}
+
+#[test]
+fn trees(rt: HostRuntime) {
+    let alloc = rt.alloc();
+    assert!(rt; binary_of(alloc, b"binary g 5 4 0") == Some((5, 4, false)));
+    assert!(rt; is_refused(alloc, b"binary g 5 4"));
+    assert!(rt; is_refused(alloc, b"binary g 5 4 \"0\""));
+}
+
+#[test]
+fn random_graphs(rt: HostRuntime) {
+    let alloc = rt.alloc();
+    let line = random_of(alloc, b"random g 9 8 -1 0 3 -7 6 5");
+    assert!(rt; line == Some(([9, 8, -1, -7, 6], false, true)));
+    assert!(rt; is_refused(alloc, b"random g 9 8 -1 0 3 -7 6"));
+    assert!(rt; is_refused(alloc, b"random g 9 8 -1 0 - -7 6 5"));
+}
+
+#[test]
+fn seeds(rt: HostRuntime) {
+    let alloc = rt.alloc();
+    let number = random_seed(alloc, b"random g 9 8 1 0 0 1 1 -5");
+    assert!(rt; number == Some(Seed::Number(-5)));
+    let current = random_seed(alloc, b"random g 9 8 1 0 0 1 1 -");
+    assert!(rt; current == Some(Seed::Current));
+    assert!(rt; is_refused(alloc, b"random g 9 8 1 0 0 1 1 --"));
+    assert!(rt; is_refused(alloc, b"random g 9 8 1 0 0 1 1 \"-\""));
+}
+
+#[test]
+fn complements(rt: HostRuntime) {
+    let alloc = rt.alloc();
+    let line = complement_of(alloc, b"complement g h 0 1 0");
+    assert!(rt; line == Some((false, true, false)));
+    assert!(rt; is_refused(alloc, b"complement g 0 1 0"));
+}
+
+#[test]
+fn unions(rt: HostRuntime) {
+    let alloc = rt.alloc();
+    let line = gunion_of(alloc, b"gunion g h i 1 0");
+    assert!(rt; line == Some((true, false)));
+    assert!(rt; is_refused(alloc, b"gunion g h 1 0"));
+}
+
+#[test]
+fn intersections(rt: HostRuntime) {
+    let alloc = rt.alloc();
+    let line = intersection_of(alloc, b"intersection g h i 1");
+    assert!(rt; line == Some(true));
+    assert!(rt; is_refused(alloc, b"intersection g h i 1 0"));
+}
+
+#[test]
+fn products(rt: HostRuntime) {
+    let alloc = rt.alloc();
+    let line = product_of(alloc, b"product g h i 3 1");
+    assert!(rt; line == Some((3, true)));
+    assert!(rt; is_refused(alloc, b"product g h i direct 1"));
+}
+
+#[test]
+fn induced_graphs(rt: HostRuntime) {
+    let alloc = rt.alloc();
+    let line = induced_of(alloc, b"induced g h \"two words\" 1 0 1", b"two words");
+    assert!(rt; line == Some((true, false, true)));
+    assert!(rt; is_refused(alloc, b"induced g h words 1 0 1"));
+    assert!(rt; is_refused(alloc, b"induced g h \"two words\" 1 0"));
+    assert!(rt; is_refused(alloc, b"induced g \"h\" \"two words\" 1 0 1"));
+}
+
+#[test]
+fn lengths(rt: HostRuntime) {
+    let alloc = rt.alloc();
+    let line = lengths_of(alloc, b"lengths h 1 -2 9 -");
+    assert!(rt; line == Some((true, -2, 9, Seed::Current)));
+    assert!(rt; is_refused(alloc, b"lengths h 1 -2 -"));
+}
+
+#[test]
+fn loads(rt: HostRuntime) {
+    let alloc = rt.alloc();
+    assert!(rt; rule_of(alloc, b"load h check") == Some(CheckRule::Match));
+    assert!(rt; rule_of(alloc, b" load h any ") == Some(CheckRule::Any));
+    assert!(rt; is_refused(alloc, b"load h"));
+    assert!(rt; is_refused(alloc, b"load h Check"));
+    assert!(rt; is_refused(alloc, b"load h \"any\""));
+}
+
+#[test]
+fn saves(rt: HostRuntime) {
+    let alloc = rt.alloc();
+    assert!(rt; saved(alloc, b"save g") == Name::new(b"g"));
+    assert!(rt; is_refused(alloc, b"save"));
+    assert!(rt; is_refused(alloc, b"save g h"));
 }

@@ -1,84 +1,69 @@
 -- How a run goes on by a byte.
 use Rattle.std.proofs.Common.{append_assoc, append-nil, get_or, drop, take-append-drop, ◌^◌, inl, inr, ◌≡◌, ℕ, ◌+◌, ◌<◌, ◌≤◌, Bool, true, false, ◌==◌, List, [], ◌∷◌, ◌++◌, length, take, Option, Result, Ok, Err, refl, sym, ap, ◌∙◌, subst, arith, length-append, length-take, min}
-use Rattle.std.proofs.lemmas.Bool.{cases_Bool, eqb-true, ne_eqb, eq-eqb, lt-ltb, le-ltb}
-use Rattle.std.proofs.lemmas.List.{take_all, take-append-le, take_more}
-use Rattle.std.specs.Prelude.{nat_lt}
+use Rattle.std.proofs.lemmas.Bool.{cases_Bool, eqb-true, ne_eqb}
+use Rattle.std.proofs.lemmas.List.{take_more}
+use Rattle.sgb_shell.specs.declared.pending.Pending.{Pending}
+use Rattle.sgb_shell.specs.Private.Holding.{HeldLine, held_line}
 use Rattle.sgb_shell.specs.Lines.{whole_lines, unfinished, lines}
 use Rattle.sgb_shell.specs.Private.Performing.{Kept}
-use Rattle.sgb_shell.specs.Private.Reaching.{Reached, Stopped, Holds, Progress, Finishes, Takes}
-use Rattle.sgb_shell.proofs.Courses.{stopped-append, stopped-earlier}
+use Rattle.sgb_shell.specs.Private.Reaching.{Reached, Stopped, StoppedAtEnd, Progress, Finishes, Concludes, Takes}
+use Rattle.sgb_shell.proofs.Reaching.{stopped-append, stopped-earlier, stopped_earlier}
 use Rattle.sgb_shell.proofs.LineEnds.{parts-split, whole-newline, unfinished-newline, whole-byte, unfinished-byte}
 
-pub newline_taken : {X E : Type 0} (held now : Option (List ℕ)) (failed failed' : Bool) (script : List ℕ) (byte : ℕ) (journal : Kept) (kept : List ℕ) (is_long : Bool) (count refused : ℕ) (result : Result X E)
-    → byte ≡ 10 → Finishes held now failed failed' (whole_lines script) (whole_lines script ++ unfinished script ∷ []) journal count refused result → kept ≡ [] → is_long ≡ false
-    → Takes held now failed failed' script (script ++ byte ∷ []) journal kept is_long count refused result
-newline_taken held now failed failed' script byte journal kept is_long count refused (Ok x) newline f empty short =
+pub newline_taken : {X E : Type 0} (held now : Option (List ℕ)) (failed failed' : Bool) (script : List ℕ) (byte : ℕ) (journal : Kept) (pending : Option Pending) (line : HeldLine) (count refused : ℕ) (result : Result X E)
+    → byte ≡ 10 → Finishes held now failed failed' (whole_lines script) (whole_lines script ++ unfinished script ∷ []) journal pending count refused result → line ≡ held_line []
+    → Takes held now failed failed' script (script ++ byte ∷ []) journal pending line count refused result
+newline_taken held now failed failed' script byte journal pending line count refused (Ok x) newline f empty =
     let same : script ++ 10 ∷ [] ≡ script ++ byte ∷ [] = ap (λ b. script ++ b ∷ []) (sym newline) in
     let none : unfinished (script ++ byte ∷ []) ≡ [] = ap unfinished (sym same) ∙ unfinished-newline script in (
       record {
-        reached = subst (λ ls. Reached held now ls journal count refused) (sym (whole-newline script) ∙ ap whole_lines same) f.0;
-        holds = record { bytes = empty ∙ sym (ap (take 8192) none); long = short ∙ sym (ap (λ l. nat_lt 8192 (length l)) none) };
+        reached = subst (λ ls. Reached held now ls journal pending count refused) (sym (whole-newline script) ∙ ap whole_lines same) f.0;
+        holds = empty ∙ ap held_line (sym none);
       },
       f.1,
     )
-newline_taken held now failed failed' script byte journal kept is_long count refused (Err e) newline f empty short =
+newline_taken held now failed failed' script byte journal pending line count refused (Err e) newline f empty =
     let same : script ++ 10 ∷ [] ≡ script ++ byte ∷ [] = ap (λ b. script ++ b ∷ []) (sym newline) in
     (subst (Stopped held now (whole_lines script)) (sym (whole-newline script) ∙ ap whole_lines same) f.0, f.1)
 
--- what is kept of a line has its length, up to 8,192
-length-kept : (kept line : List ℕ) (is_long : Bool) → Holds kept is_long line → length kept ≡ min 8192 (length line)
-length-kept kept line is_long h = ap length h.bytes ∙ length-take 8192 line
-
-one_longer : (script : List ℕ) (byte : ℕ) → (byte == 10) ≡ false → length (unfinished (script ++ byte ∷ [])) ≡ length (unfinished script) + 1
-one_longer script byte other = ap length (unfinished-byte script byte other) ∙ length-append (unfinished script) (byte ∷ [])
-
-pub byte_kept : (held now : Option (List ℕ)) (script : List ℕ) (byte : ℕ) (journal : Kept) (kept kept' : List ℕ) (is_long : Bool) (count refused : ℕ)
-    → (byte ≡ 10 → ⊥) → length kept < 8192 → kept' ≡ kept ++ byte ∷ [] → Progress held now script journal kept is_long count refused
-    → Progress held now (script ++ byte ∷ []) journal kept' is_long count refused
-byte_kept held now script byte journal kept kept' is_long count refused ne room more p =
-    let other : (byte == 10) ≡ false = ne_eqb byte 10 ne in
-    let line = unfinished script in
-    let short : length line < 8192 = omega (arith, length-kept kept line is_long p.holds) in
-    let whole : kept ≡ line = p.holds.bytes ∙ take_all 8192 line (omega arith) in
-    let longer : length (unfinished (script ++ byte ∷ [])) ≡ length line + 1 = one_longer script byte other in record {
-      reached = subst (λ ls. Reached held now ls journal count refused) (sym (whole-byte script byte other)) p.reached;
-      holds = record {
-        bytes = more ∙ ap (λ l. l ++ byte ∷ []) whole ∙ sym (unfinished-byte script byte other) ∙ sym (take_all 8192 (unfinished (script ++ byte ∷ [])) (omega arith));
-        long = p.holds.long ∙ le-ltb 8192 (length line) (omega arith) ∙ sym (le-ltb 8192 (length (unfinished (script ++ byte ∷ []))) (omega arith));
-      };
-    }
-
-pub byte_dropped : (held now : Option (List ℕ)) (script : List ℕ) (byte : ℕ) (journal : Kept) (kept : List ℕ) (is_long : Bool) (count refused : ℕ)
-    → (byte ≡ 10 → ⊥) → 8192 ≤ length kept → Progress held now script journal kept is_long count refused
-    → Progress held now (script ++ byte ∷ []) journal kept true count refused
-byte_dropped held now script byte journal kept is_long count refused ne full p =
-    let other : (byte == 10) ≡ false = ne_eqb byte 10 ne in
-    let line = unfinished script in
-    let long : 8192 ≤ length line = omega (arith, length-kept kept line is_long p.holds) in
-    let longer : length (unfinished (script ++ byte ∷ [])) ≡ length line + 1 = one_longer script byte other in record {
-      reached = subst (λ ls. Reached held now ls journal count refused) (sym (whole-byte script byte other)) p.reached;
-      holds = record {
-        bytes = p.holds.bytes ∙ sym (take-append-le 8192 line (byte ∷ []) long) ∙ ap (take 8192) (sym (unfinished-byte script byte other));
-        long = sym (lt-ltb 8192 (length (unfinished (script ++ byte ∷ []))) (omega arith));
-      };
+pub byte_taken : (held now : Option (List ℕ)) (script : List ℕ) (byte : ℕ) (journal : Kept) (pending : Option Pending) (line line' : HeldLine) (count refused : ℕ)
+    → (byte ≡ 10 → ⊥) → ((l : List ℕ) → line ≡ held_line l → line' ≡ held_line (l ++ byte ∷ [])) → Progress held now script journal pending line count refused
+    → Progress held now (script ++ byte ∷ []) journal pending line' count refused
+byte_taken held now script byte journal pending line line' count refused ne more p =
+    let other : (byte == 10) ≡ false = ne_eqb byte 10 ne in record {
+      reached = subst (λ ls. Reached held now ls journal pending count refused) (sym (whole-byte script byte other)) p.reached;
+      holds = more (unfinished script) p.holds ∙ ap held_line (sym (unfinished-byte script byte other));
     }
 
 -- ---- the end of the script
 
-pub ended_line : {X E : Type 0} (held now : Option (List ℕ)) (failed failed' : Bool) (script : List ℕ) (journal : Kept) (kept : List ℕ) (is_long : Bool) (count refused : ℕ) (result : Result X E)
-    → Holds kept is_long (unfinished script) → (length kept ≡ 0 → ⊥) → Finishes held now failed failed' (whole_lines script) (whole_lines script ++ unfinished script ∷ []) journal count refused result
-    → Finishes held now failed failed' (whole_lines script) (lines script) journal count refused result
-ended_line held now failed failed' script journal kept is_long count refused result h some f =
-    let ne : (length (unfinished script) == 0) ≡ false = ne_eqb (length (unfinished script)) 0 (λ e. some (omega (arith, length-kept kept (unfinished script) is_long h))) in
-    let all : lines script ≡ whole_lines script ++ unfinished script ∷ [] = rw ne (parts-split script) in
-    subst (λ ls. Finishes held now failed failed' (whole_lines script) ls journal count refused result) (sym all) f
+pub ended_line : {X E : Type 0} (held now : Option (List ℕ)) (failed failed' : Bool) (script : List ℕ) (journal : Kept) (pending : Option Pending) (count refused : ℕ) (result : Result X E)
+    → (length (unfinished script) == 0) ≡ false → Finishes held now failed failed' (whole_lines script) (whole_lines script ++ unfinished script ∷ []) journal pending count refused result
+    → Finishes held now failed failed' (whole_lines script) (lines script) journal pending count refused result
+ended_line held now failed failed' script journal pending count refused result some f =
+    let all : lines script ≡ whole_lines script ++ unfinished script ∷ [] = rw some (parts-split script) in
+    subst (λ ls. Finishes held now failed failed' (whole_lines script) ls journal pending count refused result) (sym all) f
 
-pub ended_none : (held now : Option (List ℕ)) (script : List ℕ) (journal : Kept) (kept : List ℕ) (is_long : Bool) (count refused : ℕ)
-    → Progress held now script journal kept is_long count refused → length kept ≡ 0 → Reached held now (lines script) journal count refused
-ended_none held now script journal kept is_long count refused p none =
-    let e : (length (unfinished script) == 0) ≡ true = eq-eqb (length (unfinished script)) 0 (omega (arith, length-kept kept (unfinished script) is_long p.holds)) in
-    let all : lines script ≡ whole_lines script = rw e refl in
-    subst (λ ls. Reached held now ls journal count refused) (sym all) p.reached
+pub ended_none : (held now : Option (List ℕ)) (script : List ℕ) (journal : Kept) (pending : Option Pending) (line : HeldLine) (count refused : ℕ)
+    → Progress held now script journal pending line count refused → (length (unfinished script) == 0) ≡ true → Reached held now (lines script) journal pending count refused
+ended_none held now script journal pending line count refused p none =
+    let all : lines script ≡ whole_lines script = rw none refl in
+    subst (λ ls. Reached held now ls journal pending count refused) (sym all) p.reached
+
+-- the last line stands behind the whole ones
+lines-behind : (script : List ℕ) → (rest : List (List ℕ)) × (lines script ≡ whole_lines script ++ rest)
+lines-behind script = elim (cases_Bool (length (unfinished script) == 0)) [
+  | inl none ↦ ([], rw none (sym (append-nil (whole_lines script))))
+  | inr some ↦ (unfinished script ∷ [], rw some (parts-split script))
+]
+
+pub ended_unit : {X E : Type 0} (held now : Option (List ℕ)) (failed middle failed' : Bool) (script : List ℕ) (count refused : ℕ) (result : Result X E)
+    → middle ≡ failed → Concludes held now middle failed' (lines script) (lines script) count refused result
+    → Concludes held now failed failed' (whole_lines script) (lines script) count refused result
+ended_unit held now failed middle failed' script count refused (Ok x) same c = (c.0, c.1 ∙ same)
+ended_unit held now failed middle failed' script count refused (Err e) same c =
+    let behind = lines-behind script in
+    (stopped_earlier held now (whole_lines script) behind.0 (lines script) (subst (λ ls. StoppedAtEnd held now ls (lines script)) behind.1 c.0), c.1)
 
 -- ---- one byte after another
 

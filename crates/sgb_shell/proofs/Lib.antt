@@ -1,9 +1,9 @@
-mod Drawings
-mod Tables
-mod Sessions
 mod Performing
+mod Holding
+mod Gathering
 mod LineEnds
 mod Courses
+mod Reaching
 mod Standing
 mod Bytes
 mod Taking

@@ -2,7 +2,7 @@
 use Rattle.std.proofs.Common.{◌≡◌, ℕ, ◌+◌, ◌≤◌, false, ◌==◌, List, [], ◌∷◌, ◌++◌, length, refl, sym, ap, ◌∙◌, arith, inl, inr, length-append}
 use Rattle.std.proofs.lemmas.Bool.{cases_Bool}
 use Rattle.std.specs.List.{onto_first}
-use Rattle.sgb_shell.specs.Lines.{all_but_last, last_part, parts, whole_lines, unfinished}
+use Rattle.sgb_shell.specs.Lines.{all_but_last, last_part, parts, whole_lines, unfinished, lines}
 use Rattle.sgb_shell.proofs.Performing.{all_but_last-push}
 
 last_part-push : (ps : List (List ℕ)) (p : List ℕ) → last_part (ps ++ p ∷ []) ≡ p
@@ -91,3 +91,9 @@ length-parts (x ∷ s) = elim (cases_Bool (x == 10)) [
 
 pub length-whole_lines : (s : List ℕ) → length (whole_lines s) ≤ length s
 length-whole_lines s = omega (arith, length-parts s, ap length (parts-split s), length-append (whole_lines s) (unfinished s ∷ []))
+
+pub length-lines : (s : List ℕ) → length (lines s) ≤ length s + 1
+length-lines s = elim (cases_Bool (length (unfinished s) == 0)) [
+  | inl none ↦ rw none (omega (arith, length-whole_lines s))
+  | inr some ↦ rw some (length-parts s)
+]

@@ -1,5 +1,5 @@
 -- What the journal's calls do to the lists of a script's course.
-use Rattle.std.proofs.Common.{◌≡◌, ◌↔◌, ◌⊎◌, Bool, true, false, cond, IsTrue, ◌==◌, List, [], ◌∷◌, ◌++◌, length, Option, None, Some, Result, Ok, Err, refl, sym, ap, ◌∙◌, subst, inl, inr}
+use Rattle.std.proofs.Common.{◌≡◌, ℕ, ◌↔◌, ◌⊎◌, Bool, true, false, cond, IsTrue, ◌==◌, List, [], ◌∷◌, ◌++◌, length, Option, None, Some, Result, Ok, Err, refl, sym, ap, ◌∙◌, subst, inl, inr}
 use Rattle.std.specs.Prelude.{unwrap_or, IfOk, OnErr, IsErrOf, ◌&&◌, ◌||◌}
 use Rattle.std.proofs.lemmas.Bool.{ne_eqb, eq-eqb, or_left}
 use Rattle.sgb_undo.specs.History.{IsJournal, Applies, Undoes, Redoes, FirstMayWant, grows_at}
@@ -11,17 +11,20 @@ use Rattle.sgb_shell.specs.declared.answer.Answer.{Answer}
 use Rattle.sgb_shell.specs.declared.answer.Answer.TheVariants as answers
 use Rattle.sgb_script.specs.declared.command.Command.{Command}
 use Rattle.sgb_script.specs.declared.command.Line.{Line}
-use Rattle.sgb_script.specs.declared.command.Line.TheVariants.{Nothing, Change, Undo, Redo, Ask}
+use Rattle.sgb_script.specs.declared.command.Line.TheVariants.{Nothing, Change, Undo, Redo, Ask, Load}
 use Rattle.sgb_script.specs.declared.command.Query.{Query}
-use Rattle.sgb_script.specs.Line.{has_text, takes_memory}
-use Rattle.sgb_shell.specs.declared.reply.Reply.{Reply}
+use Rattle.sgb_script.specs.Line.{line_of, has_text, takes_memory}
+use Rattle.sgb_session.specs.declared.reply.Reply.{Reply}
 use Rattle.sgb_script.specs.declared.refusal.ShellRefusal.{ShellRefusal}
 use Rattle.sgb_script.specs.declared.refusal.ShellRefusal.TheVariants.{NoRoom, CheckWrong, Syntax, BadSpecs, LengthRange, TooLarge, NoGraph, BadOperand, ScriptSyntax, TableFull, NameTaken, NothingToUndo, NothingToRedo, JournalFull, Stuck}
 use Rattle.sgb_shell.specs.Lines.{all_but_last}
-use Rattle.sgb_shell.specs.Private.Performing.{Kept, IsBegun, Does, lists_of, answer_from}
+use Rattle.sgb_shell.specs.Private.Performing.{Kept, IsBegun, Does, Answers, by_command, by_line, by_unit, lists_of, answer_from}
+use Rattle.sgb_shell.specs.Private.Gathering.{IsRefused}
 use Rattle.sgb_script.specs.Refusal.{is_no_room}
-use Rattle.sgb_shell.specs.State.{empty, step, before, may_want}
-use Rattle.sgb_shell.specs.Transcript.{Lists, Told, asked_of, state_of, answered, with_command, are_none, grows, changing, last_command, undoing, redoing}
+use Rattle.sgb_session.specs.State.{empty, step, before, may_want}
+use Rattle.sgb_shell.specs.Transcript.{Lists, Told, asked_of, state_of, answered, with_command, are_none, grows, changing, last_command, undoing, redoing, line_told, unit_told}
+use Rattle.sgb_shell.specs.Unit.{ScriptUnit, takes_text}
+use Rattle.sgb_text.specs.declared.restoring.CheckRule.{CheckRule}
 
 pub all_but_last-push : {X : Type 0} (xs : List X) (x : X) → all_but_last (xs ++ x ∷ []) ≡ xs
 all_but_last-push [] x = refl
@@ -90,7 +93,7 @@ pub changed : (old new : Kept) (c : Command) (r : Result Reply (JournalRefusal S
     → (IsErrOf r journals.Full ↔ (length old.standing ≡ 65535))
     → (IsErrOf r journals.NothingToRedo → ⊥)
     → ((f : ShellRefusal) → IsErrOf r (journals.Machine f) → ((is_no_room f ≡ true) × (may_want old.machine c ≡ true)) ⊎ (step old.machine c ≡ Refused f))
-    → OnErr r (new ≡ old) → IsJournal step before new → Does old new (Some (Change c)) (answer_from r)
+    → OnErr r (new ≡ old) → IsJournal step before new → Does (by_command c) old new (answer_from r)
 changed old new c (Ok reply) b a no_room full nothing refused same sound =
     let not_full : (length old.standing == 65535) ≡ false = ne_eqb _ _ (λ e. let bad = full.1 e in cc) in record {
       no_room = false;
@@ -126,7 +129,7 @@ changed old new c (Err (journals.Machine f)) b a no_room full nothing refused sa
       }
     ]
 
-pub undid : (old new : Kept) → IsBegun old → Undoes step before old new → IsJournal step before new → Does old new (Some Undo) answers.Undone
+pub undid : (old new : Kept) → IsBegun old → Undoes step before old new → IsJournal step before new → Does (by_line (Some Undo)) old new answers.Undone
 undid old new b u sound = record {
   no_room = false;
   told = ap (undoing (lists_of old)) (ap last_command u.standing ∙ last_command-push new.standing u.command)
@@ -144,7 +147,7 @@ pub redid : (old new : Kept) (r : Result Reply (JournalRefusal ShellRefusal)) �
     → (IsErrOf r journals.NoRoom → ⊥)
     → (IsErrOf r journals.Full → ⊥)
     → ((f : ShellRefusal) → IsErrOf r (journals.Machine f) → (is_no_room f ≡ true) × FirstMayWant may_want old.machine old.undone)
-    → OnErr r (new ≡ old) → IsJournal step before new → Does old new (Some Redo) (answer_from r)
+    → OnErr r (new ≡ old) → IsJournal step before new → Does (by_line (Some Redo)) old new (answer_from r)
 redid old new (Ok reply) b d nothing no_room full refused same sound = record {
   no_room = false;
   told = ap (redoing false old.standing) d.undone
@@ -170,26 +173,50 @@ redid old new (Err (journals.Machine f)) b d nothing no_room full refused same s
 
 -- ---- the line that was read
 
-pub read_does : (old new : Kept) (o : Option Line) (l l' : Line) (answer : Answer) → o ≡ Some l → l ≡ l' → Does old new (Some l') answer → Does old new o answer
-read_does old new o l l' answer e same d = subst (λ p. Does old new p answer) (sym (e ∙ ap Some same)) d
+pub read_does : (old new : Kept) (o : Option Line) (l l' : Line) (answer : Answer) → o ≡ Some l → l ≡ l' → Does (by_line (Some l')) old new answer → Does (by_line o) old new answer
+read_does old new o l l' answer e same d = subst (λ p. Does (by_line p) old new answer) (sym (e ∙ ap Some same)) d
 
-pub asked_does : (j : Kept) (q : Query) (answer : Answer) → IsBegun j → answer ≡ asked_of j.machine q → Does j j (Some (Ask q)) answer
-asked_does j q answer b e = record {
+pub changed_does : (old new : Kept) (c : Command) (answer : Answer) → Does (by_command c) old new answer → Does (by_line (Some (Change c))) old new answer
+changed_does old new c answer d = record { no_room = d.no_room; told = d.told; begun = d.begun }
+
+pub asked_does : (j : Kept) (q : Query) (answer : Answer) → IsBegun j → Answers j.machine q answer → Does (by_line (Some (Ask q))) j j answer
+asked_does j q answer b (no_room, e) = record {
+  no_room = no_room;
+  told = ap (λ s. tells (lists_of j) (asked_of no_room s q)) (machine_is j b) ∙ ap (tells (lists_of j)) (sym e);
+  begun = b;
+}
+
+-- a line that takes a text is no unit of its own
+pub load_does : (j : Kept) (o : Option Line) (l : Line) (name : List ℕ) (rule : CheckRule) → o ≡ Some l → l ≡ Load name rule → IsBegun j → Does (by_line o) j j (answers.Refused ScriptSyntax)
+load_does j o l name rule e same b = record {
   no_room = false;
-  told = ap (λ s. tells (lists_of j) (asked_of s q)) (machine_is j b) ∙ ap (tells (lists_of j)) (sym e);
+  told = ap (λ p. line_told false (lists_of j) p) (e ∙ ap Some same);
   begun = b;
 }
 
 -- a text that found no room
-wanted : (j : Kept) (o : Option Line) → IsBegun j → takes_memory o ≡ true → Does j j o (answers.Refused NoRoom)
+wanted : (j : Kept) (o : Option Line) → IsBegun j → takes_memory o ≡ true → Does (by_line o) j j (answers.Refused NoRoom)
 wanted j None b e = absurd cc
 wanted j (Some Nothing) b e = absurd cc
 wanted j (Some Undo) b e = absurd cc
 wanted j (Some Redo) b e = absurd cc
 wanted j (Some (Ask q)) b e = absurd cc
+wanted j (Some (Load name rule)) b e = absurd cc
 wanted j (Some (Change c)) b e = record { no_room = true; told = rw e refl; begun = b }
 
-pub refused_does : (j : Kept) (o : Option Line) (r : ShellRefusal) → IsBegun j → ((r ≡ ScriptSyntax) × (o ≡ None)) ⊎ ((r ≡ NoRoom) × IsTrue (takes_memory o)) → Does j j o (answers.Refused r)
+pub refused_does : (j : Kept) (o : Option Line) (r : ShellRefusal) → IsBegun j → ((r ≡ ScriptSyntax) × (o ≡ None)) ⊎ ((r ≡ NoRoom) × IsTrue (takes_memory o)) → Does (by_line o) j j (answers.Refused r)
 refused_does j o r b (inl none) =
-    subst (λ p. Does j j p (answers.Refused r)) (sym none.1) (subst (λ f. Does j j None (answers.Refused f)) (sym none.0) (record { no_room = false; told = refl; begun = b }))
-refused_does j o r b (inr room) = subst (λ f. Does j j o (answers.Refused f)) (sym room.0) (wanted j o b room.1)
+    subst (λ p. Does (by_line p) j j (answers.Refused r)) (sym none.1) (subst (λ f. Does (by_line None) j j (answers.Refused f)) (sym none.0) (record { no_room = false; told = refl; begun = b }))
+refused_does j o r b (inr room) = subst (λ f. Does (by_line o) j j (answers.Refused f)) (sym room.0) (wanted j o b room.1)
+
+-- ---- the unit that ends
+
+pub line_does : (old new : Kept) (u : ScriptUnit) (answer : Answer) → takes_text u.first ≡ false → Does (by_line (line_of u.first)) old new answer → Does (by_unit u) old new answer
+line_does old new u answer other d = record { no_room = d.no_room; told = rw other d.told; begun = d.begun }
+
+pub closed_does : (old new : Kept) (u : ScriptUnit) (c : Command) (answer : Answer) → ((no_room : Bool) (l : Lists) → unit_told no_room l u ≡ changing no_room l c)
+    → Does (by_command c) old new answer → Does (by_unit u) old new answer
+closed_does old new u c answer same d = record { no_room = d.no_room; told = same d.no_room (lists_of old) ∙ d.told; begun = d.begun }
+
+pub refusal_does : (j : Kept) (u : ScriptUnit) (r : ShellRefusal) → IsBegun j → IsRefused u r → Does (by_unit u) j j (answers.Refused r)
+refusal_does j u r b refused = record { no_room = refused.no_room; told = refused.told (lists_of j); begun = b }

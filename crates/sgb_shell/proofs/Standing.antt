@@ -1,20 +1,25 @@
 -- The standing commands of a course are accepted.
 use Rattle.std.proofs.Common.{◌≡◌, ℕ, ◌+◌, Bool, true, false, cond, ◌==◌, List, [], ◌∷◌, ◌++◌, length, Option, None, Some, IsSome, refl, sym, ap, subst}
-use Rattle.std.specs.Prelude.{unwrap_or, fold as fold_list, ◌&&◌, ◌||◌}
+use Rattle.std.specs.Prelude.{unwrap_or, not, ◌&&◌, ◌||◌}
 use Rattle.std.specs.List.{list_any}
 use Rattle.sgb_undo.specs.Outcome.{Accepted, Refused, on_accepted}
 use Rattle.sgb_undo.specs.Replay.{fold}
 use Rattle.sgb_script.specs.declared.command.Command.{Command}
+use Rattle.sgb_script.specs.declared.command.Command.TheVariants.{Make}
+use Rattle.sgb_script.specs.declared.command.Maker.TheVariants as makers
 use Rattle.sgb_script.specs.declared.command.Line.{Line}
-use Rattle.sgb_script.specs.declared.command.Line.TheVariants.{Nothing, Change, Undo, Redo, Ask}
-use Rattle.sgb_script.specs.declared.refusal.ShellRefusal.TheVariants.{NoRoom, JournalFull}
+use Rattle.sgb_script.specs.declared.command.Line.TheVariants.{Nothing, Change, Undo, Redo, Ask, Load}
+use Rattle.sgb_script.specs.declared.refusal.ShellRefusal.TheVariants.{NoRoom, ScriptSyntax, JournalFull}
 use Rattle.sgb_script.specs.Line.{line_of, has_text}
 use Rattle.sgb_shell.specs.declared.answer.Answer.TheVariants as answers
-use Rattle.sgb_shell.specs.declared.reply.Delta.{Delta}
-use Rattle.sgb_shell.specs.declared.reply.Reply.{Reply}
+use Rattle.sgb_session.specs.declared.reply.Delta.{Delta}
+use Rattle.sgb_session.specs.declared.reply.Reply.{Reply}
 use Rattle.sgb_shell.specs.Lines.{all_but_last}
-use Rattle.sgb_shell.specs.State.{State, StepOutcome, empty, step, may_want}
-use Rattle.sgb_shell.specs.Transcript.{Lists, Told, Course, course, start, advance, answered, with_command, grows, state_of, last_command, undoing, redoing, unit_told}
+use Rattle.sgb_session.specs.State.{State, StepOutcome, empty, step, may_want}
+use Rattle.sgb_shell.specs.Transcript.{Lists, Told, Course, course, start, advance, answered, with_command, grows, changing, state_of, last_command, undoing, redoing, line_told, load_told, unit_told}
+use Rattle.sgb_shell.specs.Unit.{ScriptUnit, takes_text, is_whole, text_in}
+use Rattle.sgb_shell.specs.Private.Reaching.{Taken, GoesOn, Ends, unit_by}
+use Rattle.sgb_shell.proofs.Courses.{course_from, stepped, resolved, advance-by}
 
 abbrev Stand : List Command → Type 0
 Stand cs = IsSome (fold step empty cs)
@@ -73,26 +78,52 @@ redoing_stands b standing (c ∷ cs) h =
     either_stands (b && may_want (state_of standing) c) (l, answers.Refused NoRoom) (answered l (record { standing = standing ++ c ∷ []; undone = cs }) (step (state_of standing) c)) h
     (answered_stands l (record { standing = standing ++ c ∷ []; undone = cs }) (step (state_of standing) c) h (λ s d r. Stand-push standing c s d r h))
 
-told_stands : (b : Bool) (l : Lists) (o : Option Line) → Stand l.standing → Stand (unit_told b l o).0.standing
-told_stands b l None h = h
-told_stands b l (Some Nothing) h = h
-told_stands b l (Some (Change c)) h =
+changing_stands : (b : Bool) (l : Lists) (c : Command) → Stand l.standing → Stand (changing b l c).0.standing
+changing_stands b l c h =
     let done : Told = answered l (with_command l c) (step (state_of l.standing) c) in
     let stands : Stand done.0.standing = answered_stands l (with_command l c) (step (state_of l.standing) c) h (λ s d r. Stand-push l.standing c s d r h) in
     let room : Told = cond (b && (grows l || may_want (state_of l.standing) c)) (l, answers.Refused NoRoom) done in
     let some : Stand room.0.standing = either_stands (b && (grows l || may_want (state_of l.standing) c)) (l, answers.Refused NoRoom) done h stands in
     let full : Told = cond (length l.standing == 65535) (l, answers.Refused JournalFull) room in
     either_stands (b && has_text (Change c)) (l, answers.Refused NoRoom) full h (either_stands (length l.standing == 65535) (l, answers.Refused JournalFull) room h some)
-told_stands b l (Some Undo) h = undoing_stands l (last_command l.standing) h
-told_stands b l (Some Redo) h = redoing_stands b l.standing l.undone h
-told_stands b l (Some (Ask q)) h = h
+
+line_stands : (b : Bool) (l : Lists) (o : Option Line) → Stand l.standing → Stand (line_told b l o).0.standing
+line_stands b l None h = h
+line_stands b l (Some Nothing) h = h
+line_stands b l (Some (Change c)) h = changing_stands b l c h
+line_stands b l (Some Undo) h = undoing_stands l (last_command l.standing) h
+line_stands b l (Some Redo) h = redoing_stands b l.standing l.undone h
+line_stands b l (Some (Ask q)) h = h
+line_stands b l (Some (Load name rule)) h = h
+
+load_stands : (b : Bool) (l : Lists) (o : Option Line) (u : ScriptUnit) → Stand l.standing → Stand (load_told b l o u).0.standing
+load_stands b l None u h = h
+load_stands b l (Some Nothing) u h = h
+load_stands b l (Some (Change c)) u h = h
+load_stands b l (Some Undo) u h = h
+load_stands b l (Some Redo) u h = h
+load_stands b l (Some (Ask q)) u h = h
+load_stands b l (Some (Load name rule)) u h =
+    let made : Told = changing b l (Make name (makers.Load (text_in u) rule)) in
+    let stands : Stand made.0.standing = changing_stands b l (Make name (makers.Load (text_in u) rule)) h in
+    let ends : Told = cond (is_whole u) made (l, answers.Refused ScriptSyntax) in
+    either_stands (b && not (length u.inner == 0)) (l, answers.Refused NoRoom) ends h (either_stands (is_whole u) made (l, answers.Refused ScriptSyntax) stands h)
+
+unit_stands : (b : Bool) (l : Lists) (u : ScriptUnit) → Stand l.standing → Stand (unit_told b l u).0.standing
+unit_stands b l u h =
+    either_stands (takes_text u.first) (load_told b l (line_of u.first) u) (line_told b l (line_of u.first)) (load_stands b l (line_of u.first) u h) (line_stands b l (line_of u.first) h)
 
 -- ---- a course
 
-course_from_stands : (no_room : List ℕ) (c : Course) (ls : List (List ℕ)) → Stand c.lists.standing → Stand (fold_list (advance no_room) c ls).lists.standing
+resolved_stands : (no_room : List ℕ) (c : Course) (t : Taken) → Stand c.lists.standing → Stand (resolved no_room c t).lists.standing
+resolved_stands no_room c (GoesOn u) h = h
+resolved_stands no_room c (Ends u) h = unit_stands (list_any (λ n. n == u.number) no_room) c.lists u h
+
+course_from_stands : (no_room : List ℕ) (c : Course) (ls : List (List ℕ)) → Stand c.lists.standing → Stand (course_from no_room c ls).lists.standing
 course_from_stands no_room c [] h = h
 course_from_stands no_room c (l ∷ ls) h =
-    course_from_stands no_room (advance no_room c l) ls (told_stands (list_any (λ n. n == c.lines + 1) no_room) c.lists (line_of l) h)
+    course_from_stands no_room (advance no_room c l) ls
+    (subst (λ d. Stand d.lists.standing) (sym (advance-by no_room c l)) (resolved_stands no_room (stepped c) (unit_by (c.lines + 1) c.pending l) h))
 
 pub course_stands : (no_room : List ℕ) (ls : List (List ℕ)) → IsSome (fold step empty (course no_room ls).lists.standing)
 unfolding course

@@ -8,11 +8,11 @@ use Rattle.sgb_script.specs.declared.refusal.ShellRefusal.{ShellRefusal}
 use Rattle.sgb_script.specs.Refusal.{number_of, text_of}
 use Rattle.sgb_shell.specs.declared.answer.Answer.{Answer}
 use Rattle.sgb_shell.specs.declared.answer.Answer.TheVariants as answers
-use Rattle.sgb_shell.specs.declared.reply.Reply.{Reply}
-use Rattle.sgb_shell.specs.declared.reply.Reply.TheVariants.{Done, Number, Made, Arc, Edge}
-use Rattle.sgb_shell.specs.declared.table.Entry.{Entry}
-use Rattle.sgb_shell.specs.Drawing.{generator_of}
-use Rattle.sgb_shell.specs.State.{State}
+use Rattle.sgb_session.specs.declared.reply.Reply.{Reply}
+use Rattle.sgb_session.specs.declared.reply.Reply.TheVariants.{Done, Number, Made, Arc, Edge}
+use Rattle.sgb_session.specs.declared.table.Entry.{Entry}
+use Rattle.sgb_session.specs.Drawing.{generator_of}
+use Rattle.sgb_session.specs.State.{State}
 
 abbrev pub reply_text : Reply → List ℕ
 reply_text Done = codes "ok\n"
@@ -55,4 +55,5 @@ answer_text n s (answers.Replied reply) = reply_text reply
 answer_text n s answers.Generator = generator_text s
 answer_text n s answers.Graphs = list_text s
 answer_text n s (answers.Graph i) = shown_text s i
+answer_text n s (answers.Saved saved) = saved.text ++ codes "cleaned " ++ decimal saved.cleaned ++ codes "\n"
 answer_text n s (answers.Refused r) = refusal_text n r

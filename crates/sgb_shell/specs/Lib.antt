@@ -1,10 +1,7 @@
 pub mod Answer
-pub mod Drawing
-pub mod Edits
 pub mod Lines
 pub mod Run
-pub mod State
 pub mod Status
-pub mod Table
+pub mod Unit
 pub mod Transcript
 pub mod Private

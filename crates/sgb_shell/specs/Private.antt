@@ -1,6 +1,6 @@
 -- What serves private functions only.
-pub mod Slots
-pub mod Making
+pub mod Holding
 pub mod Performing
+pub mod Gathering
 pub mod Reaching
 pub mod Taking

@@ -2,10 +2,10 @@
 use Rattle.std.specs.Prelude.{◌≡◌, ℕ, ◌+◌, ◌≤◌, ◌⊎◌, Bool, true, false, List, [], ◌∷◌, ◌++◌, length, Option, Result, Ok, Err}
 use Rattle.std.specs.Io.KnownBytes.{Appends, Consumes, IsAtEnd}
 use Rattle.sgb_shell.specs.declared.fault.RunEnd.{RunEnd}
-use Rattle.sgb_shell.specs.declared.fault.RunFault.{RunFault}
-use Rattle.sgb_shell.specs.declared.fault.RunFault.TheVariants.{Read, Write, TooLong, NoRoom}
+use Rattle.sgb_print.specs.declared.fault.RunFault.{RunFault}
+use Rattle.sgb_print.specs.declared.fault.RunFault.TheVariants.{Read, Write, TooLong, NoRoom}
 use Rattle.sgb_shell.specs.Lines.{lines}
-use Rattle.sgb_shell.specs.Transcript.{course, transcript, whole_transcript}
+use Rattle.sgb_shell.specs.Transcript.{whole_course, transcript, whole_transcript}
 
 -- known bytes grow by a front of bs that goes past `first`
 pub record AppendsPast (old new : Option (List ℕ)) (first bs : List ℕ) : Type 0 where
@@ -22,7 +22,7 @@ abbrev pub Ends : List ℕ → List ℕ → Option (List ℕ) → Option (List �
 Ends script no_room left left' read_failed reads last held held' write_failed (Ok end) =
     Consumes left left' script × IsAtEnd left' × (read_failed ≡ false) × (write_failed ≡ false)
     × Appends held held' (transcript no_room script)
-    × (end.lines ≡ length (lines script)) × (end.refused ≡ (course no_room (lines script)).refused)
+    × (end.lines ≡ length (lines script)) × (end.refused ≡ (whole_course no_room (lines script)).refused)
 Ends script no_room left left' read_failed reads last held held' write_failed (Err Read) =
     Consumes left left' script × (read_failed ≡ true) × (write_failed ≡ false)
     × Appends held held' (whole_transcript no_room script)

@@ -1,22 +1,29 @@
 -- What a script is answered.
-use Rattle.std.specs.Prelude.{ℕ, ◌+◌, ◌==◌, Bool, true, false, if◌then◌else◌, List, [], ◌∷◌, ◌++◌, length, Option, None, Some, ◌&&◌, ◌||◌, unwrap_or, fold as fold_list}
+use Rattle.std.specs.Prelude.{ℕ, ◌+◌, ◌==◌, Bool, true, false, not, if◌then◌else◌, List, [], ◌∷◌, ◌++◌, length, Option, None, Some, ◌&&◌, ◌||◌, unwrap_or, fold as fold_list}
 use Rattle.std.specs.List.{list_any}
+use Rattle.sgb_graph.specs.Graph.{GraphOf}
 use Rattle.sgb_undo.specs.Outcome.{Accepted, Refused}
 use Rattle.sgb_undo.specs.Replay.{fold}
 use Rattle.sgb_undo.specs.History.{grows_at}
 use Rattle.sgb_script.specs.declared.command.Command.{Command}
+use Rattle.sgb_script.specs.declared.command.Command.TheVariants.{Make}
+use Rattle.sgb_script.specs.declared.command.Maker.TheVariants as makers
 use Rattle.sgb_script.specs.declared.command.Query.{Query}
 use Rattle.sgb_script.specs.declared.command.Query.TheVariants as queries
 use Rattle.sgb_script.specs.declared.command.Line.{Line}
-use Rattle.sgb_script.specs.declared.command.Line.TheVariants.{Nothing, Change, Undo, Redo, Ask}
+use Rattle.sgb_script.specs.declared.command.Line.TheVariants.{Nothing, Change, Undo, Redo, Ask, Load}
 use Rattle.sgb_shell.specs.declared.answer.Answer.{Answer}
 use Rattle.sgb_shell.specs.declared.answer.Answer.TheVariants as answers
 use Rattle.sgb_script.specs.declared.refusal.ShellRefusal.TheVariants.{NoRoom, NoGraph, ScriptSyntax, NothingToUndo, NothingToRedo, JournalFull}
 use Rattle.sgb_shell.specs.Answer.{answer_text}
 use Rattle.sgb_script.specs.Line.{line_of, has_text}
 use Rattle.sgb_shell.specs.Lines.{all_but_last, whole_lines, lines}
-use Rattle.sgb_shell.specs.State.{State, StepOutcome, empty, step, may_want}
-use Rattle.sgb_shell.specs.Table.{find}
+use Rattle.sgb_shell.specs.Unit.{ScriptUnit, alone, opened, with_line, as_closed, takes_text, is_dot, is_whole, text_in}
+use Rattle.sgb_text.specs.declared.saving.Saved.{Saved}
+use Rattle.sgb_text.specs.Clean.{clean_of, dirt_of}
+use Rattle.sgb_text.specs.Save.{text_of}
+use Rattle.sgb_session.specs.State.{State, StepOutcome, empty, step, may_want}
+use Rattle.sgb_session.specs.Table.{find, graph_in}
 
 -- the commands that stand, and those that are undone, the next to redo first
 pub record Lists : Type 0 where
@@ -79,55 +86,98 @@ abbrev pub shown_or_refused : Option ℕ → Answer
 shown_or_refused None = answers.Refused NoGraph
 shown_or_refused (Some i) = answers.Graph i
 
--- what a question is answered
-abbrev pub asked_of : State → Query → Answer
-asked_of s queries.Gen = answers.Generator
-asked_of s queries.List = answers.Graphs
-asked_of s (queries.Show name) = shown_or_refused (find s.table name)
+-- a graph as a saved text, and the count of its values that their letters do not allow
+abbrev pub saved_of : GraphOf → Saved
+saved_of g = record { text = text_of (clean_of g); cleaned = dirt_of g }
 
--- What a unit does. Want of memory touches only a command and a redo that may want for it, and a command for which the
--- journal grows.
-abbrev pub unit_told : Bool → Lists → Option Line → Told
-unit_told no_room l None = (l, answers.Refused ScriptSyntax)
-unit_told no_room l (Some Nothing) = (l, answers.Silent)
-unit_told no_room l (Some (Change c)) = changing no_room l c
-unit_told no_room l (Some Undo) = undoing l (last_command l.standing)
-unit_told no_room l (Some Redo) = redoing no_room l.standing l.undone
-unit_told no_room l (Some (Ask q)) = (l, asked_of (state_of l.standing) q)
+abbrev pub saved_or_refused : Bool → State → Option ℕ → Answer
+saved_or_refused no_room s None = answers.Refused NoGraph
+saved_or_refused no_room s (Some i) = if no_room then answers.Refused NoRoom else answers.Saved (saved_of (graph_in s.table i))
+
+-- what a question is answered; of all of them a saved text alone takes memory
+abbrev pub asked_of : Bool → State → Query → Answer
+asked_of no_room s queries.Gen = answers.Generator
+asked_of no_room s queries.List = answers.Graphs
+asked_of no_room s (queries.Show name) = shown_or_refused (find s.table name)
+asked_of no_room s (queries.Save name) = saved_or_refused no_room s (find s.table name)
+
+-- What a line does that is a unit of its own. Want of memory touches only a command and a redo that may want for it, a
+-- command for which the journal grows, and a saved text.
+abbrev pub line_told : Bool → Lists → Option Line → Told
+line_told no_room l None = (l, answers.Refused ScriptSyntax)
+line_told no_room l (Some Nothing) = (l, answers.Silent)
+line_told no_room l (Some (Change c)) = changing no_room l c
+line_told no_room l (Some Undo) = undoing l (last_command l.standing)
+line_told no_room l (Some Redo) = redoing no_room l.standing l.undone
+line_told no_room l (Some (Ask q)) = (l, asked_of no_room (state_of l.standing) q)
+line_told no_room l (Some (Load name rule)) = (l, answers.Refused ScriptSyntax)
+
+-- What a unit with a text does: where its first line is good the text is gathered, which may want for memory, and where
+-- the text is whole it makes a graph.
+abbrev pub load_told : Bool → Lists → Option Line → ScriptUnit → Told
+load_told no_room l (Some (Load name rule)) u =
+    if no_room && not (length u.inner == 0) then (l, answers.Refused NoRoom)
+    else (if is_whole u then changing no_room l (Make name (makers.Load (text_in u) rule))
+    else (l, answers.Refused ScriptSyntax))
+load_told no_room l line u = (l, answers.Refused ScriptSyntax)
+
+abbrev pub unit_told : Bool → Lists → ScriptUnit → Told
+unit_told no_room l u =
+    if takes_text u.first then load_told no_room l (line_of u.first) u else line_told no_room l (line_of u.first)
 
 abbrev pub refusals : Answer → ℕ
 refusals (answers.Refused r) = 1
 refusals answer = 0
 
--- how far a script has come: its lines, the lists, the refusals, and the text so far
+-- how far a script has come: its lines, the unit whose text goes on, the lists, the refusals, and the text so far
 pub record Course : Type 0 where
   pub lines : ℕ
+  pub pending : Option ScriptUnit
   pub lists : Lists
   pub refused : ℕ
   pub text : List ℕ
 
 abbrev pub start : Course
-start = record { lines = 0; lists = record { standing = []; undone = [] }; refused = 0; text = [] }
+start = record { lines = 0; pending = None; lists = record { standing = []; undone = [] }; refused = 0; text = [] }
 
-abbrev pub goes_on : Course → Told → Course
-goes_on course told = record {
-  lines = course.lines + 1;
+abbrev pub goes_on : Course → ℕ → Told → Course
+goes_on c number told = record {
+  lines = c.lines;
+  pending = None;
   lists = told.0;
-  refused = course.refused + refusals told.1;
-  text = course.text ++ answer_text (course.lines + 1) (state_of told.0.standing) told.1;
+  refused = c.refused + refusals told.1;
+  text = c.text ++ answer_text number (state_of told.0.standing) told.1;
 }
 
--- one line more; `no_room` lists the numbers of the lines that want for memory
+-- a unit is answered; `no_room` lists the numbers of the units that want for memory
+abbrev pub answered_unit : List ℕ → Course → ScriptUnit → Course
+answered_unit no_room c u = goes_on c u.number (unit_told (list_any (λ n. n == u.number) no_room) c.lists u)
+
+-- the line of the course's last number, behind a unit whose text goes on, or behind none
+abbrev pub taken : List ℕ → Course → Option ScriptUnit → List ℕ → Course
+taken no_room c None line =
+    if takes_text line then record c { pending = Some (opened c.lines line) } else answered_unit no_room c (alone c.lines line)
+taken no_room c (Some u) line =
+    if is_dot line then answered_unit no_room c (as_closed u) else record c { pending = Some (with_line u line) }
+
+-- one line more
 abbrev pub advance : List ℕ → Course → List ℕ → Course
-advance no_room course line =
-    goes_on course (unit_told (list_any (λ n. n == course.lines + 1) no_room) course.lists (line_of line))
+advance no_room c line = taken no_room (record c { lines = c.lines + 1 }) c.pending line
 
 unfoldable pub course : List ℕ → List (List ℕ) → Course
 course no_room ls = fold_list (advance no_room) start ls
 
-abbrev pub transcript : List ℕ → List ℕ → List ℕ
-transcript no_room script = (course no_room (lines script)).text
+-- at the end of the script a unit whose text goes on is answered too
+abbrev pub ended : List ℕ → Course → Option ScriptUnit → Course
+ended no_room c None = c
+ended no_room c (Some u) = answered_unit no_room c u
 
--- the transcript of the lines that a newline ends
+unfoldable pub whole_course : List ℕ → List (List ℕ) → Course
+whole_course no_room ls = ended no_room (course no_room ls) (course no_room ls).pending
+
+abbrev pub transcript : List ℕ → List ℕ → List ℕ
+transcript no_room script = (whole_course no_room (lines script)).text
+
+-- the transcript of the units that the lines end which a newline ends
 abbrev pub whole_transcript : List ℕ → List ℕ → List ℕ
 whole_transcript no_room script = (course no_room (whole_lines script)).text

@@ -1,19 +1,20 @@
-//! What a line of a script is answered, and how that is printed.
+//! What a unit of a script is answered, and how that is printed.
 ghost use Rattle.sgb_print.specs.Print.{Prints};
-ghost use Rattle.std.specs.Prelude.{◌<◌, length};
+ghost use Rattle.std.specs.Prelude.{◌<◌, ◌++◌, codes, length};
+ghost use Rattle.std.specs.Fmt.{decimal};
 ghost use Rattle.std.specs.List.{flat_map};
 ghost use Rattle.sgb_shell.specs.Answer.{answer_text, reply_text, generator_text, refusal_text, count_text, list_text, entry_text, shown_text};
-ghost use Rattle.sgb_shell.specs.Table.{entry_in};
+ghost use Rattle.sgb_session.specs.Table.{entry_in};
 
-use crate::reply::Reply;
-use crate::session::Session;
 use itoa::Buffer;
 use sgb_print::{Failed, MeteredWriter, print_graph, print_made, put, put_all};
 use sgb_script::ShellRefusal;
+use sgb_session::{Reply, Session};
+use sgb_text::Saved;
 use std::io::Write;
 
-/// The answer to a line.
-#[derive(Clone, Copy, Debug, PartialEq, Eq)]
+/// The answer to a unit.
+#[derive(Debug, Drop)]
 pub(crate) enum Answer {
     /// Nothing is said.
     Silent,
@@ -27,11 +28,13 @@ pub(crate) enum Answer {
     Graphs,
     /// The graph at a place of the table was asked for.
     Graph(usize),
-    /// The line was refused.
+    /// A graph was saved.
+    Saved(Saved),
+    /// The unit was refused.
     Refused(ShellRefusal),
 }
 
-/// Prints the answer to the line of a number, at the session after it.
+/// Prints the answer to the unit of a number, at the session after it.
 pub(crate) fn print_answer<W: Write>(
     writer: &mut MeteredWriter<W>,
     number: u64,
@@ -48,6 +51,7 @@ pub(crate) fn print_answer<W: Write>(
         Answer::Generator => print_generator(writer, session),
         Answer::Graphs => print_list(writer, session),
         Answer::Graph(place) => print_graph_at(writer, session, *place),
+        Answer::Saved(saved) => print_saved(writer, saved),
         Answer::Refused(refusal) => print_refusal(writer, number, *refusal),
     }
 }
@@ -101,6 +105,22 @@ fn print_generator<W: Write>(writer: &mut MeteredWriter<W>, session: &Session) -
             draws_digits.format(draws).as_bytes(),
             b", unread ",
             unread_digits.format(unread).as_bytes(),
+            b"\n",
+        ],
+    )
+}
+
+fn print_saved<W: Write>(writer: &mut MeteredWriter<W>, saved: &Saved) -> Result<(), Failed>
+    ensures { Prints (W.contents writer.old.inner) (W.contents writer.new.inner) writer.old.failed writer.new.failed
+        result (saved.now.text ++ codes "cleaned " ++ decimal saved.now.cleaned ++ codes "\n") }
+{
+    let mut digits = Buffer::new();
+    put_all(
+        writer,
+        &[
+            saved.text.as_slice(),
+            b"cleaned ",
+            digits.format(saved.cleaned).as_bytes(),
             b"\n",
         ],
     )

@@ -1,26 +1,27 @@
-//! The session, its script language and its transcript.
+//! The transcript of a script: its units, and what each is answered.
 #![tactic(auto)]
 
 mod answer;
-mod edit;
+mod buffer;
 mod fault;
+mod first;
 mod laws;
-mod mark;
+mod pending;
 mod perform;
-mod reply;
 mod script;
-mod session;
 mod shell;
 mod status;
-mod table;
+mod unit;
 
-pub use fault::{RunEnd, RunFault};
+pub use fault::RunEnd;
 pub use laws::course_law;
-pub use mark::Mark;
-pub use reply::{Delta, Reply};
 pub use script::{Ended, SCRIPT_LIMIT, run, run_metered};
-pub use session::{MOST_DRAWS, MOST_UNIFORM, Session};
-pub use sgb_print::{Failed, MeteredReader, MeteredWriter};
-pub use sgb_script::{Command, Edit, LINE_LIMIT, Line, Name, Query, ShellRefusal, parse};
+pub use sgb_print::{Failed, MeteredReader, MeteredWriter, RunFault};
+pub use sgb_script::{
+    Command, Edit, LINE_LIMIT, Line, Maker, NAME_LIMIT, Name, Query, ShellRefusal, parse,
+};
+pub use sgb_session::{
+    Delta, Entry, MOST_DRAWS, MOST_GRAPHS, MOST_UNIFORM, Mark, Reply, Session, Source,
+};
+pub use sgb_text::CheckRule;
 pub use status::exit_status;
-pub use table::{Entry, MOST_GRAPHS};

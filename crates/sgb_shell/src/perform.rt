@@ -1,40 +1,42 @@
 //! Does what a line says to the session's journal.
 ghost use Rattle.std.specs.Prelude.{◌≡◌, Some};
 ghost use Rattle.sgb_script.specs.Line.{line_of};
-ghost use Rattle.sgb_shell.specs.Transcript.{asked_of};
-ghost use Rattle.sgb_shell.specs.Private.Performing.{IsBegun, Does, answer_from, refusal_from};
-ghost use Rattle.sgb_script.specs.declared.command.Line.TheVariants.{Change, Undo, Redo};
+ghost use Rattle.sgb_shell.specs.Private.Performing.{IsBegun, Does, Answers, Saves, by_command, by_line, answer_from, refusal_from};
+ghost use Rattle.sgb_script.specs.declared.command.Line.TheVariants.{Undo, Redo};
 
 use crate::answer::Answer;
-use crate::reply::Reply;
-use crate::session::Session;
+use sgb_graph::Graph;
 use sgb_script::{Command, Line, Query, ShellRefusal, parse};
+use sgb_session::{Reply, Session};
+use sgb_text::save;
 use sgb_undo::{Journal, JournalRefusal};
 use std::alloc::Global;
 
-/// Reads a line, without its newline, and does what it says.
+/// Reads a line without a text, and does what it says.
 pub(crate) fn perform(alloc: Global, journal: &mut Journal<Session>, line: &[u8]) -> Answer
-    ensures { IsBegun journal.old → Does journal.old journal.new (line_of line.now) result }
+    ensures { IsBegun journal.old → Does (by_line (line_of line.now)) journal.old journal.new result }
 {
     match parse(alloc, line) {
         Ok(Line::Nothing) => Answer::Silent,
         Ok(Line::Change(command)) => change(journal, command),
         Ok(Line::Undo) => undo(journal),
         Ok(Line::Redo) => redo(journal),
-        Ok(Line::Ask(query)) => ask(journal.machine(), query),
+        Ok(Line::Ask(query)) => ask(alloc, journal.machine(), query),
+        Ok(Line::Load(_, _)) => Answer::Refused(ShellRefusal::ScriptSyntax),
         Err(refusal) => Answer::Refused(refusal),
     }
 }
 
-fn change(journal: &mut Journal<Session>, command: Command) -> Answer
-    ensures { IsBegun journal.old → Does journal.old journal.new (Some (Change command)) result }
+/// Performs a command.
+pub(crate) fn change(journal: &mut Journal<Session>, command: Command) -> Answer
+    ensures { IsBegun journal.old → Does (by_command command) journal.old journal.new result }
 {
     let outcome = journal.apply(command);
     answer_to(outcome)
 }
 
 fn undo(journal: &mut Journal<Session>) -> Answer
-    ensures { IsBegun journal.old → Does journal.old journal.new (Some Undo) result }
+    ensures { IsBegun journal.old → Does (by_line (Some Undo)) journal.old journal.new result }
 {
     match journal.undo() {
         Ok(()) => Answer::Undone,
@@ -43,7 +45,7 @@ fn undo(journal: &mut Journal<Session>) -> Answer
 }
 
 fn redo(journal: &mut Journal<Session>) -> Answer
-    ensures { IsBegun journal.old → Does journal.old journal.new (Some Redo) result }
+    ensures { IsBegun journal.old → Does (by_line (Some Redo)) journal.old journal.new result }
 {
     let outcome = journal.redo();
     answer_to(outcome)
@@ -69,8 +71,8 @@ fn refusal_of(refusal: JournalRefusal<ShellRefusal>) -> ShellRefusal
     }
 }
 
-fn ask(session: &Session, query: Query) -> Answer
-    ensures { result ≡ asked_of session.now query }
+fn ask(alloc: Global, session: &Session, query: Query) -> Answer
+    ensures { Answers session.now query result }
 {
     match query {
         Query::Gen => Answer::Generator,
@@ -79,5 +81,18 @@ fn ask(session: &Session, query: Query) -> Answer
             Some(place) => Answer::Graph(place),
             None => Answer::Refused(ShellRefusal::NoGraph),
         },
+        Query::Save(name) => match session.find(&name) {
+            Some(place) => saved(alloc, session.graph_at(place)),
+            None => Answer::Refused(ShellRefusal::NoGraph),
+        },
+    }
+}
+
+fn saved(alloc: Global, graph: &Graph) -> Answer
+    ensures { Saves graph.now result }
+{
+    match save(alloc, graph) {
+        Ok(saved) => Answer::Saved(saved),
+        Err(_) => Answer::Refused(ShellRefusal::NoRoom),
     }
 }

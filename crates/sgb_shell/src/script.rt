@@ -1,14 +1,14 @@
 //! Runs a script from a reader to a writer.
-ghost use Rattle.std.specs.Prelude.{◌≡◌, ◌+◌, ◌<◌, ◌≤◌, ◌^◌, ◌||◌, false, length, take, MatchResult, IfOk, IsErrOf, is_err, vec_capacity, [], List, ℕ};
+ghost use Rattle.std.specs.Prelude.{◌≡◌, ◌+◌, ◌<◌, ◌≤◌, ◌^◌, ◌||◌, false, length, take, MatchResult, IfOk, IsErrOf, is_err, [], List, ℕ};
 ghost use Rattle.sgb_shell.specs.Transcript.{transcript};
 ghost use Rattle.std.specs.Io.KnownBytes.{Consumes, IsAtEnd, Keeps};
 ghost use Rattle.sgb_shell.specs.Private.Reaching.{Progress};
 ghost use Rattle.sgb_shell.specs.Private.Taking.{TakesScript, ReadsOn};
 ghost use Rattle.sgb_shell.specs.Run.{Runs};
 
-use crate::fault::{RunEnd, RunFault};
+use crate::fault::RunEnd;
 use crate::shell::Shell;
-use sgb_print::{Failed, MeteredReader, MeteredWriter};
+use sgb_print::{Failed, MeteredReader, MeteredWriter, RunFault};
 use std::alloc::Global;
 use std::io::{Read, Write};
 
@@ -45,8 +45,8 @@ pub fn run<R: Read, W: Write>(alloc: Global, reader: R, writer: W) -> Ended<R, W
 
 /// Runs the script that the reader gives, and writes its transcript.
 ///
-/// At most 16,777,216 bytes are taken, and one further read tells whether more follow. Lines are
-/// answered as they come, and before each read all that was written is flushed, so that who gives the script
+/// At most 16,777,216 bytes are taken, and one further read tells whether more follow. Units are
+/// answered as they end, and before each read all that was written is flushed, so that who gives the script
 /// can wait for an answer before the next line. After a failed write or flush nothing more is read. Room for one
 /// line is taken at the start; where it is refused nothing is read or written.
 pub fn run_metered<R: Read, W: Write>(
@@ -73,7 +73,7 @@ pub fn run_metered<R: Read, W: Write>(
     }
 }
 
-// Takes all the bytes of the script, and answers each line that a newline ends.
+// Takes all the bytes of the script, and answers each unit that its whole lines end.
 fn take_script<R: Read, W: Write>(
     shell: &mut Shell,
     reader: &mut MeteredReader<R>,
@@ -82,12 +82,11 @@ fn take_script<R: Read, W: Write>(
     requires unread { reader.old.reads ≡ 0 }
     requires reader { reader.old.failed ≡ false }
     requires writer { writer.old.failed ≡ false }
-    requires room { 8192 ≤ vec_capacity shell.old.line }
     requires begun { Progress (W.contents writer.old.inner) (W.contents writer.old.inner) []
-        shell.old.journal shell.old.line.items shell.old.is_long shell.old.lines shell.old.refused }
+        shell.old.journal shell.old.pending shell.old.line shell.old.lines shell.old.refused }
     ensures { TakesScript (R.remaining reader.old.inner) (R.remaining reader.new.inner) reader.new.failed reader.new.reads reader.new.last
         (W.contents writer.old.inner) (W.contents writer.new.inner) writer.new.failed
-        shell.new.journal shell.new.line.items shell.new.is_long shell.new.lines shell.new.refused result }
+        shell.new.journal shell.new.pending shell.new.line shell.new.lines shell.new.refused result }
 {
     let mut chunk = [0u8; CHUNK];
     let mut room = SCRIPT_LIMIT;

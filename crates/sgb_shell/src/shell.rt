@@ -1,16 +1,18 @@
 //! Answers a script line by line, as its bytes come.
-ghost use Rattle.std.specs.Prelude.{◌≡◌, ◌<◌, ◌≤◌, ◌^◌, ◌++◌, ◌∷◌, [], List, ℕ, Option, IfOk, false, length, vec_capacity};
-ghost use Rattle.sgb_script.specs.Line.{line_of};
-ghost use Rattle.sgb_shell.specs.Private.Performing.{IsBegun, Does};
-ghost use Rattle.sgb_shell.specs.Private.Reaching.{Holds, Reached, Finishes, Takes, Progress};
+ghost use Rattle.std.specs.Prelude.{◌≡◌, ◌<◌, ◌≤◌, ◌+◌, ◌-◌, ◌^◌, ◌++◌, ◌∷◌, [], min, List, ℕ, Option, IfOk, length};
+ghost use Rattle.sgb_print.specs.Print.{Prints};
+ghost use Rattle.sgb_shell.specs.Answer.{answer_text};
 ghost use Rattle.sgb_shell.specs.Lines.{lines, whole_lines};
+ghost use Rattle.sgb_shell.specs.Private.Holding.{held_line};
+ghost use Rattle.sgb_shell.specs.Private.Reaching.{Reached, Finishes, Takes, Progress, Concludes};
 ghost use Rattle.sgb_shell.specs.Transcript.{refusals};
 
 use crate::answer::{Answer, print_answer};
-use crate::perform::perform;
-use crate::session::Session;
+use crate::buffer::LineBuffer;
+use crate::pending::Pending;
+use crate::unit::take_line;
 use sgb_print::{Failed, MeteredWriter};
-use sgb_script::{LINE_LIMIT, ShellRefusal};
+use sgb_session::Session;
 use sgb_undo::Journal;
 use std::alloc::{AllocError, Global};
 use std::io::Write;
@@ -22,45 +24,42 @@ pub(crate) struct Shell {
     alloc: Global,
     /// The commands that stand and those that are undone, with the session.
     pub(crate) journal: Journal<Session>,
-    /// The first bytes of the line that is not finished.
-    pub(crate) line: Vec<u8>,
-    /// Whether that line has more bytes than are kept.
-    pub(crate) is_long: bool,
+    /// The unit whose text goes on.
+    pub(crate) pending: Option<Pending>,
+    /// The line that is not finished.
+    pub(crate) line: LineBuffer,
     /// How many lines were finished.
     pub(crate) lines: u64,
-    /// How many of them were refused.
+    /// How many units were refused.
     pub(crate) refused: u64,
 }
 
 impl Shell {
     /// An empty session and no bytes. Room for a whole line is taken at once.
     pub(crate) fn new(alloc: Global) -> Result<Shell, AllocError>
-        ensures room { IfOk result (λ s. 8192 ≤ vec_capacity s.line) }
-        ensures begun { IfOk result (λ s. (held : Option (List ℕ)) → Progress held held [] s.journal s.line.items s.is_long s.lines s.refused) }
+        ensures { IfOk result (λ s. (held : Option (List ℕ)) → Progress held held [] s.journal s.pending s.line s.lines s.refused) }
     {
-        let line = Vec::with_capacity(alloc, LINE_LIMIT)?;
+        let line = LineBuffer::new(alloc)?;
         Ok(Shell {
             alloc,
             journal: Journal::new(alloc, Session::new(alloc)),
+            pending: None,
             line,
-            is_long: false,
             lines: 0,
             refused: 0,
         })
     }
 
-    /// Takes the next bytes, and answers each line that they finish.
+    /// Takes the next bytes, and answers each unit that they finish.
     pub(crate) fn take<W: Write>(
         &mut self,
         writer: &mut MeteredWriter<W>,
         bytes: &[u8],
     ) -> Result<(), Failed>
-        requires { 8192 ≤ vec_capacity self.old.line }
-        ensures room { vec_capacity self.new.line ≡ vec_capacity self.old.line }
-        ensures takes { (held : Option (List ℕ)) (script : List ℕ) → length (script ++ bytes.now) < 2 ^ 32
-            → Progress held (W.contents writer.old.inner) script self.old.journal self.old.line.items self.old.is_long self.old.lines self.old.refused
+        ensures { (held : Option (List ℕ)) (script : List ℕ) → length (script ++ bytes.now) < 2 ^ 32
+            → Progress held (W.contents writer.old.inner) script self.old.journal self.old.pending self.old.line self.old.lines self.old.refused
             → Takes held (W.contents writer.new.inner) writer.old.failed writer.new.failed script (script ++ bytes.now)
-            self.new.journal self.new.line.items self.new.is_long self.new.lines self.new.refused result }
+            self.new.journal self.new.pending self.new.line self.new.lines self.new.refused result }
     {
         for byte in bytes {
             self.take_byte(writer, *byte)?;
@@ -69,30 +68,35 @@ impl Shell {
     }
 
     fn take_byte<W: Write>(&mut self, writer: &mut MeteredWriter<W>, byte: u8) -> Result<(), Failed>
-        requires { 8192 ≤ vec_capacity self.old.line }
-        ensures room { vec_capacity self.new.line ≡ vec_capacity self.old.line }
-        ensures takes { (held : Option (List ℕ)) (script : List ℕ) → length script < 2 ^ 32
-            → Progress held (W.contents writer.old.inner) script self.old.journal self.old.line.items self.old.is_long self.old.lines self.old.refused
+        ensures { (held : Option (List ℕ)) (script : List ℕ) → length script < 2 ^ 32
+            → Progress held (W.contents writer.old.inner) script self.old.journal self.old.pending self.old.line self.old.lines self.old.refused
             → Takes held (W.contents writer.new.inner) writer.old.failed writer.new.failed script (script ++ byte ∷ [])
-            self.new.journal self.new.line.items self.new.is_long self.new.lines self.new.refused result }
+            self.new.journal self.new.pending self.new.line self.new.lines self.new.refused result }
     {
         if byte == b'\n' {
             return self.finish(writer);
         }
-        if self.line.len() < LINE_LIMIT {
-            self.line.push_reserved(byte);
-        } else {
-            self.is_long = true;
-        }
+        self.line.push(byte);
         Ok(())
     }
 
-    /// Answers the line that no newline ends, where there is one.
+    /// Answers the line that no newline ends, where there is one, and the unit whose text has no end.
     pub(crate) fn end<W: Write>(&mut self, writer: &mut MeteredWriter<W>) -> Result<(), Failed>
-        ensures ends { (held : Option (List ℕ)) (script : List ℕ) → length script < 2 ^ 32
-            → Progress held (W.contents writer.old.inner) script self.old.journal self.old.line.items self.old.is_long self.old.lines self.old.refused
+        ensures { (held : Option (List ℕ)) (script : List ℕ) → length script < 2 ^ 32
+            → Progress held (W.contents writer.old.inner) script self.old.journal self.old.pending self.old.line self.old.lines self.old.refused
+            → Concludes held (W.contents writer.new.inner) writer.old.failed writer.new.failed (whole_lines script) (lines script)
+            self.new.lines self.new.refused result }
+    {
+        self.end_line(writer)?;
+        self.end_unit(writer)
+    }
+
+    // Answers the line that no newline ends, where there is one.
+    fn end_line<W: Write>(&mut self, writer: &mut MeteredWriter<W>) -> Result<(), Failed>
+        ensures { (held : Option (List ℕ)) (script : List ℕ) → length script < 2 ^ 32
+            → Progress held (W.contents writer.old.inner) script self.old.journal self.old.pending self.old.line self.old.lines self.old.refused
             → Finishes held (W.contents writer.new.inner) writer.old.failed writer.new.failed (whole_lines script) (lines script)
-            self.new.journal self.new.lines self.new.refused result }
+            self.new.journal self.new.pending self.new.lines self.new.refused result }
     {
         if self.line.is_empty() {
             return Ok(());
@@ -100,28 +104,64 @@ impl Shell {
         self.finish(writer)
     }
 
-    /// Answers the line that is not finished.
+    // Answers the unit whose text has no end, where there is one.
+    fn end_unit<W: Write>(&mut self, writer: &mut MeteredWriter<W>) -> Result<(), Failed>
+        ensures { (held : Option (List ℕ)) (ls : List (List ℕ)) → length ls ≤ 2 ^ 32
+            → Reached held (W.contents writer.old.inner) ls self.old.journal self.old.pending self.old.lines self.old.refused
+            → Concludes held (W.contents writer.new.inner) writer.old.failed writer.new.failed ls ls self.new.lines self.new.refused result }
+    {
+        let Some(unit) = self.pending.take() else {
+            return Ok(());
+        };
+        let answer = Answer::Refused(unit.refusal());
+        let session = self.journal.machine();
+        tell(writer, &mut self.refused, unit.number, session, &answer)
+    }
+
+    // Takes the line that is not finished, and answers the unit that it ends.
     fn finish<W: Write>(&mut self, writer: &mut MeteredWriter<W>) -> Result<(), Failed>
-        ensures empty { self.new.line.items ≡ [] }
-        ensures short { self.new.is_long ≡ false }
-        ensures room { vec_capacity self.new.line ≡ vec_capacity self.old.line }
+        ensures line { self.new.line ≡ held_line [] }
         ensures finishes { (held : Option (List ℕ)) (ls : List (List ℕ)) (line : List ℕ) → length ls < 2 ^ 32
-            → Reached held (W.contents writer.old.inner) ls self.old.journal self.old.lines self.old.refused
-            → Holds self.old.line.items self.old.is_long line
+            → Reached held (W.contents writer.old.inner) ls self.old.journal self.old.pending self.old.lines self.old.refused
+            → self.old.line ≡ held_line line
             → Finishes held (W.contents writer.new.inner) writer.old.failed writer.new.failed ls (ls ++ line ∷ [])
-            self.new.journal self.new.lines self.new.refused result }
+            self.new.journal self.new.pending self.new.lines self.new.refused result }
     {
         let alloc = self.alloc;
-        let answer = answer_line(alloc, &mut self.journal, self.line.as_slice(), self.is_long);
-        self.line.clear();
-        self.is_long = false;
         self.lines = self.lines.saturating_add(1);
-        self.refused = self.refused.saturating_add(refusal_count(&answer));
-        print_answer(writer, self.lines, self.journal.machine(), &answer)
+        let told = take_line(
+            alloc,
+            &mut self.journal,
+            &mut self.pending,
+            self.lines,
+            &self.line,
+        );
+        self.line.clear();
+        let Some((number, answer)) = told else {
+            return Ok(());
+        };
+        let session = self.journal.machine();
+        tell(writer, &mut self.refused, number, session, &answer)
     }
 }
 
-// A refused line counts once.
+// Counts the answer to the unit of a number where it is a refusal, and prints it.
+fn tell<W: Write>(
+    writer: &mut MeteredWriter<W>,
+    refused: &mut u64,
+    number: u64,
+    session: &Session,
+    answer: &Answer,
+) -> Result<(), Failed>
+    ensures refused { refused.new ≡ min (refused.old + refusals answer.now) (2 ^ 64 - 1) }
+    ensures prints { Prints (W.contents writer.old.inner) (W.contents writer.new.inner) writer.old.failed writer.new.failed
+        result (answer_text number session.now answer.now) }
+{
+    *refused = refused.saturating_add(refusal_count(answer));
+    print_answer(writer, number, session, answer)
+}
+
+// A refused unit counts once.
 fn refusal_count(answer: &Answer) -> u64
     ensures { result ≡ refusals answer.now }
 {
@@ -129,14 +169,4 @@ fn refusal_count(answer: &Answer) -> u64
         Answer::Refused(_) => 1,
         _ => 0,
     }
-}
-
-// Answers a line of which at most 8,192 bytes are kept.
-fn answer_line(alloc: Global, journal: &mut Journal<Session>, bytes: &[u8], is_long: bool) -> Answer
-    ensures { (line : List ℕ) → Holds bytes.now is_long line → IsBegun journal.old → Does journal.old journal.new (line_of line) result }
-{
-    if is_long {
-        return Answer::Refused(ShellRefusal::ScriptSyntax);
-    }
-    perform(alloc, journal, bytes)
 }

@@ -2,7 +2,7 @@
 ghost use Rattle.std.specs.Prelude.{◌≡◌};
 ghost use Rattle.sgb_shell.specs.Status.{status_of};
 
-use crate::fault::RunFault;
+use sgb_print::RunFault;
 
 /// The status that a program ends with: 0 where all went well, 1 where something was refused, and
 /// 2 after a fault.

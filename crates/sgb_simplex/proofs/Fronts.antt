@@ -1,6 +1,7 @@
 -- Lemmas on bounds by the numbers that are given.
-use Rattle.std.proofs.Common.{◌≡◌, ◌<◌, ◌≤◌, ◌+◌, ℕ, ℤ, pos, negsuc, unsigned_abs, int_lt, min, List, length, get_or, map, replicate, true, false, ltb, All, refl, sym, ap, ◌∙◌, arith}
-use Rattle.std.proofs.lemmas.Bool.{ltb-true}
+use Rattle.std.proofs.Common.{◌≡◌, ◌<◌, ◌≤◌, ◌+◌, ℕ, ℤ, pos, negsuc, unsigned_abs, int_lt, min, List, length, get_or, map, replicate, true, false, ltb, All, inl, inr, refl, sym, ap, subst, ◌∙◌, arith}
+use Rattle.std.proofs.lemmas.Bool.{cases_Bool, ltb-true}
+use Rattle.std.proofs.lemmas.List.{get_or-replicate, length-replicate}
 use Rattle.std.proofs.lemmas.List.Elements.{All-map}
 use Rattle.std.proofs.lemmas.List.FromFn.{length-map-range_with_len}
 use Rattle.sgb_plan.specs.Listing.{listed, listed_at, count_of}
@@ -28,3 +29,11 @@ length_listed more numbers = length-map-range_with_len (listed_at numbers) 0 (co
 
 pub all_below : (total : ℕ) (bounds : List ℕ) → total ≤ 65535 → All (λ b. b ≤ 65535) (map (λ b. min b total) bounds)
 all_below total bounds small = All-map (λ b. b ≤ 65535) (λ b. min b total) bounds (λ k d below. omega (arith, small))
+
+pub bounds_below : (total : ℕ) (numbers : List ℤ) → total ≤ 65535 → All (λ b. b ≤ 65535) (bounds_of total numbers)
+bounds_below total numbers small =
+    let first : ℤ = get_or numbers 0 (pos 0) in
+    elim (cases_Bool (int_lt first (pos 0))) [
+      | inl below ↦ subst (All (λ b. b ≤ 65535)) (sym (equal_bounds total numbers first refl below)) (λ k d inside. omega (arith, small, get_or-replicate (unsigned_abs first + 1) k total d (omega (arith, inside, length-replicate (unsigned_abs first + 1) total))))
+      | inr above ↦ subst (All (λ b. b ≤ 65535)) (sym (listed_bounds total numbers first refl above)) (all_below total (listed 1 numbers) small)
+    ]

@@ -15,6 +15,7 @@ use Rattle.sgb_plan.specs.Plan.{Plan, IsMade, with_named}
 use Rattle.sgb_plan.proofs.Planning.{RefusesNames, n-with_named, many_vertices, refused_before, refused_insertions, made}
 use Rattle.sgb_simplex.specs.Bounds.{first_of, bounds_of, is_total, are_in_range, points_within, plan_within, shown_bound, shown_parts}
 use Rattle.sgb_simplex.specs.Points.{point_types, point_vertex, point_plan}
+use Rattle.sgb_simplex.specs.Room.{MayWant}
 use Rattle.sgb_simplex.specs.Private.Started.{RefusesPoints, started}
 
 pub in_range : (n : ℤ) (numbers : List ℤ) → are_in_range n numbers ≡ true → (p : Plan) (r : Result GraphOf Refusal) → IsMade (Ok p) r → IsMade (plan_within n numbers p) r
@@ -28,6 +29,13 @@ points_refused n numbers id directed es e (inr (inl bad)) =
 points_refused n numbers id directed es e (inr (inr large)) =
     in_range n numbers large.1 (point_plan id directed (points_within n numbers) es) (Err e)
     (many_vertices (point_plan id directed (points_within n numbers) es) large.0 (omega (arith, large.2, length-map (points_within n numbers) point_vertex)))
+
+-- memory is wanted only for points that are not too many
+pub may_want : (n m : ℤ) (numbers given : List ℤ) (p : Plan) → m ≡ n → given ≡ numbers → (are_in_range m given ≡ true) × (length (points_within m given) ≤ 65535) → length p.vertices ≡ length (points_within n numbers) → MayWant (plan_within n numbers p)
+may_want n m numbers given p read same (fits, few) long =
+    let inside : are_in_range n numbers ≡ true = sym (ap₂ (λ z ns. are_in_range z ns) read same) ∙ fits in
+    subst (λ b. MayWant (if b then Ok p else Err BadSpecs)) (sym inside)
+    (omega (arith, long, few, ap₂ (λ z ns. length (points_within z ns)) read same))
 
 -- the builder that the arcs are inserted into, by the plan
 started_as : (id other : List ℕ) (directed : Bool) (all others : List (List ℕ)) (b : Builder) → b ≡ started other directed others → other ≡ id → others ≡ all → b ≡ started id directed all

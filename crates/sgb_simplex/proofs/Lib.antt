@@ -1,7 +1,9 @@
+pub mod Counting
 pub mod Fronts
 pub mod Generators
 pub mod Inserted
 pub mod Ones
+pub mod Named
 pub mod Parts
 pub mod Rows
 pub mod Runs

@@ -3,5 +3,6 @@ pub mod Moves
 pub mod Overlap
 pub mod Points
 pub mod Private
+pub mod Room
 pub mod Simplex
 pub mod Subsets

@@ -1,4 +1,4 @@
--- The graph of a simplex: its points, and the moves of one unit from a coordinate to a later one.
+-- The graph of a simplex: each point is reached from those that have one less at a coordinate and one more at a later one.
 use Rattle.std.specs.Prelude.{◌++◌, ℕ, ℤ, unsigned_abs, List, [], ◌∷◌, codes, Result}
 use Rattle.sgb_graph.specs.declared.refusal.Refusal.{Refusal}
 use Rattle.sgb_plan.specs.Id.{id_of, flag_text}

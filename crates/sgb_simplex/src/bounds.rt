@@ -1,10 +1,10 @@
 //! The bounds of coordinates, by the numbers that are given.
-ghost use Rattle.std.specs.Prelude.{◌≡◌, ◌⊎◌, ◌≤◌, ◌<◌, pos, false, get_or, length, All, IfOk, IfErr, vec_len, map, min};
+ghost use Rattle.std.specs.Prelude.{◌≡◌, ◌≤◌, ◌<◌, pos, false, get_or, length, take, replicate, IfOk, IfErr, map, min};
 ghost use Rattle.sgb_simplex.specs.Bounds.{first_of, bounds_of, is_total, shown_bound};
 
+use crate::listing::list_within;
 use sgb_graph::Refusal;
-use sgb_plan::{list_of, shown_at};
-use std::alloc::{AllocError, Global};
+use sgb_plan::shown_at;
 
 /// The first number, where 0 stands for -2.
 pub(crate) fn first_of(n0: i64) -> i64
@@ -32,40 +32,50 @@ pub(crate) fn total_of(n: i64) -> Result<u32, Refusal>
     Ok(n as u32)
 }
 
-/// The bounds of the coordinates. Refused `BadSpecs` where they are more than 16.
+/// Writes the bounds of the coordinates to the first of 16 places, and tells how many they are. Refused `BadSpecs` where
+/// they are more than 16.
 pub(crate) fn bounds_of(
-    alloc: Global,
     total: u32,
     first: i64,
     numbers: &[i64],
-) -> Result<Vec<u32>, Refusal>
-    requires small { total ≤ 65535 }
+    places: &mut [u32],
+) -> Result<usize, Refusal>
     requires first { first ≡ get_or numbers.now 0 (pos 0) }
-    ensures list { IfOk result (λ bounds. bounds.items ≡ bounds_of total numbers.now) }
-    ensures narrow { IfOk result (λ bounds. vec_len bounds ≤ 16) }
-    ensures bounded { IfOk result (λ bounds. All (λ b. b ≤ 65535) bounds.items) }
-    ensures err { IfErr result (λ e. (e ≡ Refusal.NoRoom)
-        ⊎ ((e ≡ Refusal.BadSpecs) × (16 < length (bounds_of total numbers.now)))) }
+    requires places { length places.old ≡ 16 }
+    ensures list { IfOk result (λ width. take width places.new ≡ bounds_of total numbers.now) }
+    ensures narrow { IfOk result (λ width. width ≤ 16) }
+    ensures err { IfErr result (λ e. (e ≡ Refusal.BadSpecs) × (16 < length (bounds_of total numbers.now))) }
 {
     if first < -15 {
         return Err(Refusal::BadSpecs);
     }
     if first < 0 {
-        let bounds = vec![in alloc; total; first.unsigned_abs() as usize + 1]?;
-        return Ok(bounds);
+        let width = first.unsigned_abs() as usize + 1;
+        repeat_to(total, width, places);
+        return Ok(width);
     }
-    let list = list_of(alloc, numbers, 1, 16)?;
-    let bounds = cut_to(alloc, total, &list)?;
-    Ok(bounds)
+    let mut list = [0u64; 16];
+    let width = list_within(numbers, 1, &mut list)?;
+    cut_to(total, &list[..width], places);
+    Ok(width)
 }
 
-// The numbers, where none is above n.
-fn cut_to(alloc: Global, n: u32, list: &[u64]) -> Result<Vec<u32>, AllocError>
-    ensures { IfOk result (λ cut. cut.items ≡ map (λ b. min b n) list.now) }
+// Writes n to the first places.
+fn repeat_to(n: u32, count: usize, places: &mut [u32])
+    requires { count ≤ length places.old }
+    ensures { take count places.new ≡ replicate count n }
 {
-    let mut cut = Vec::with_capacity(alloc, list.len())?;
-    for number in list {
-        cut.push((*number).min(u64::from(n)) as u32)?;
+    for i in 0..count {
+        places[i] = n;
     }
-    Ok(cut)
+}
+
+// Writes the numbers to the first places, where none is above n.
+fn cut_to(n: u32, list: &[u64], places: &mut [u32])
+    requires { length list.now ≤ length places.old }
+    ensures { take (length list.now) places.new ≡ map (λ b. min b n) list.now }
+{
+    for i in 0..list.len() {
+        places[i] = list[i].min(u64::from(n)) as u32;
+    }
 }

@@ -1,15 +1,17 @@
 //! The two generators.
-ghost use Rattle.std.specs.Prelude.{◌≡◌, ◌≤◌, ◌++◌, ◌∷◌, [], true, length, map, codes, get_or, pos, unsigned_abs, IfOk, IfErr};
+ghost use Rattle.std.specs.Prelude.{◌≡◌, ◌≤◌, ◌++◌, ◌∷◌, [], true, length, map, codes, get_or, pos, unsigned_abs, IfOk, IfErr, IsErrOf};
 ghost use Rattle.sgb_graph.specs.Graph.{n_of};
 ghost use Rattle.sgb_plan.specs.Id.{id_of, hexadecimal, flag_text};
 ghost use Rattle.sgb_plan.specs.Plan.{IsMade};
-ghost use Rattle.sgb_simplex.specs.Bounds.{bounds_of, are_in_range, shown_parts};
+ghost use Rattle.sgb_simplex.specs.Bounds.{bounds_of, are_in_range, points_within, shown_parts};
 ghost use Rattle.sgb_simplex.specs.Points.{points};
+ghost use Rattle.sgb_simplex.specs.Room.{MayWant};
 ghost use Rattle.sgb_simplex.specs.Private.Started.{RefusesPoints, started};
 ghost use Rattle.sgb_simplex.specs.Simplex.{plan_of_simplex};
 ghost use Rattle.sgb_simplex.specs.Subsets.{plan_of_subsets};
 
 use crate::bounds::{bounds_of, first_of, shown_bound, total_of};
+use crate::judge::count_of;
 use crate::list::PointList;
 use crate::moves::insert_moves;
 use crate::naming::{name_vertices, point_types};
@@ -19,13 +21,14 @@ use sgb_graph::{Builder, Graph, Refusal, Text};
 use sgb_plan::{Part, id_of};
 use std::alloc::Global;
 
-/// The graph of the points whose coordinates have the sum `n` within their bounds, where each step of one unit from a
-/// coordinate to a later one leads to the point that it begins from. The book's `simplex`.
+/// The graph of the points whose coordinates have the sum `n` within their bounds, where each point is reached from those
+/// that have one less at a coordinate and one more at a later one. The book's `simplex`.
 ///
 /// Refused `BadSpecs` where `n` is not from 0 to 65,535 or there are more than 16 coordinates, and `TooLarge` where
 /// there are more than 65,535 points or 1,000,000 numbers of arcs.
 pub fn simplex(alloc: Global, spec: &SimplexSpec) -> Result<Graph, Refusal>
     ensures made { IsMade (plan_of_simplex spec.now) result }
+    ensures room { IsErrOf result Refusal.NoRoom → MayWant (plan_of_simplex spec.now) }
 {
     let numbers = [first_of(spec.n0), spec.n1, spec.n2, spec.n3, spec.n4];
     let list = list_points(alloc, spec.n, numbers[0], &numbers)?;
@@ -42,6 +45,7 @@ pub fn simplex(alloc: Global, spec: &SimplexSpec) -> Result<Graph, Refusal>
 /// there are more than 65,535 points or 1,000,000 numbers of arcs.
 pub fn subsets(alloc: Global, spec: &SubsetsSpec) -> Result<Graph, Refusal>
     ensures made { IsMade (plan_of_subsets spec.now) result }
+    ensures room { IsErrOf result Refusal.NoRoom → MayWant (plan_of_subsets spec.now) }
 {
     let numbers = [first_of(spec.n0), spec.n1, spec.n2, spec.n3, spec.n4];
     let list = list_points(alloc, spec.n, numbers[0], &numbers)?;
@@ -57,11 +61,17 @@ fn list_points(alloc: Global, n: i64, first: i64, numbers: &[i64]) -> Result<Poi
     ensures total { IfOk result (λ list. list.total ≡ unsigned_abs n) }
     ensures bounds { IfOk result (λ list. list.bounds.items ≡ bounds_of (unsigned_abs n) numbers.now) }
     ensures range { IfOk result (λ list. are_in_range n numbers.now ≡ true) }
+    ensures few { IfOk result (λ list. length (points_within n numbers.now) ≤ 65535) }
     ensures err { IfErr result (λ e. RefusesPoints n numbers.now e) }
+    ensures room { IsErrOf result Refusal.NoRoom →
+        (are_in_range n numbers.now ≡ true) × (length (points_within n numbers.now) ≤ 65535) }
 {
     let total = total_of(n)?;
-    let bounds = bounds_of(alloc, total, first, numbers)?;
-    let list = PointList::new(alloc, total, bounds)?;
+    let mut places = [0u32; 16];
+    let width = bounds_of(total, first, numbers, &mut places)?;
+    let bounds = &places[..width];
+    let count = count_of(total, bounds)?;
+    let list = PointList::new(alloc, total, bounds, count)?;
     Ok(list)
 }
 

@@ -1,12 +1,12 @@
 //! The points with a given sum within given bounds, in their order.
-ghost use Rattle.std.specs.Prelude.{◌≡◌, ◌⊎◌, ◌≤◌, ◌<◌, ◌+◌, ◌^◌, ◌++◌, [], length, get_or, slice_index, take, drop, All, OnOk, IfOk, IfErr, vec_len};
+ghost use Rattle.std.specs.Prelude.{◌≡◌, ◌≤◌, ◌<◌, ◌+◌, ◌++◌, [], length, get_or, slice_index, take, drop, All, OnOk, IfOk, IfErr, vec_len};
 ghost use Rattle.std.specs.List.{flat_map, sum};
 ghost use Rattle.sgb_simplex.specs.Points.{points, place_of};
 ghost use Rattle.sgb_simplex.specs.Moves.{lowered, raised};
-ghost use Rattle.sgb_simplex.specs.Private.Counts.{counted, IsTable, IsPoint};
+ghost use Rattle.sgb_simplex.specs.Private.Counts.{IsTable, IsPoint};
 
 use crate::counts::count_rows;
-use sgb_graph::Refusal;
+use crate::judge::sum_of;
 use std::alloc::{AllocError, Global};
 
 /// The points whose coordinates have the sum `total` and these bounds, one behind the other, and what tells a point's
@@ -27,28 +27,30 @@ pub(crate) struct PointList {
 }
 
 impl PointList {
-    /// Lists the points. Refused `TooLarge` where they are more than 65,535, before any of them is listed.
-    pub(crate) fn new(alloc: Global, total: u32, bounds: Vec<u32>) -> Result<PointList, Refusal>
+    /// Lists the points, which are so many.
+    pub(crate) fn new(
+        alloc: Global,
+        total: u32,
+        bounds: &[u32],
+        count: u32,
+    ) -> Result<PointList, AllocError>
         requires total { total ≤ 65535 }
-        requires narrow { vec_len bounds ≤ 16 }
-        requires bounded { All (λ b. b ≤ 65535) bounds.items }
+        requires narrow { length bounds.now ≤ 16 }
+        requires bounded { All (λ b. b ≤ 65535) bounds.now }
+        requires count { count ≡ length (points total bounds.now) }
+        requires few { count ≤ 65535 }
         ensures total { IfOk result (λ list. list.total ≡ total) }
-        ensures bounds { IfOk result (λ list. list.bounds.items ≡ bounds.items) }
-        ensures err { IfErr result (λ e. (e ≡ Refusal.NoRoom)
-            ⊎ ((e ≡ Refusal.TooLarge) × (65535 < length (points total bounds.items)))) }
+        ensures bounds { IfOk result (λ list. list.bounds.items ≡ bounds.now) }
     {
-        let rows = count_rows(alloc, &bounds, total)?;
-        let count = count_points(&rows, &bounds, total);
-        if count > 65_535 {
-            return Err(Refusal::TooLarge);
-        }
-        let coordinates = list_points(alloc, &bounds, total, count as usize)?;
+        let rows = count_rows(alloc, bounds, total)?;
+        let coordinates = list_points(alloc, bounds, total, count as usize)?;
+        let bounds = Vec::from_slice(alloc, bounds)?;
         Ok(PointList {
             total,
             bounds,
             rows,
             coordinates,
-            count: count as u32,
+            count,
         })
     }
 
@@ -110,16 +112,6 @@ fn moved_at(point: &[u32], j: usize, k: usize, i: usize) -> u32
     }
 }
 
-// How many points there are, where 65,536 stands for more.
-fn count_points(rows: &[Vec<u64>], bounds: &[u32], total: u32) -> u64
-    requires total { total ≤ 65535 }
-    requires table { IsTable bounds.now total rows.now }
-    ensures { result ≡ counted bounds.now total }
-{
-    let row = &rows[bounds.len()];
-    row[total as usize + 1] - row[total as usize]
-}
-
 // The coordinates of the points, one point behind the other.
 fn list_points(
     alloc: Global,
@@ -148,13 +140,6 @@ fn list_points(
         room,
     )?;
     Ok(list)
-}
-
-fn sum_of(bounds: &[u32]) -> u32
-    requires { sum bounds.now < 2 ^ 32 }
-    ensures { result ≡ sum bounds.now }
-{
-    bounds.iter().sum()
 }
 
 // Writes the points that begin as this one before `place`, and whose other coordinates have the sum `left`; the bounds

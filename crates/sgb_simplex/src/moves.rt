@@ -14,10 +14,38 @@ pub(crate) fn insert_moves(builder: &mut Builder, list: &PointList) -> Result<()
     requires { n_of builder.old.graph ≡ list.now.count }
     ensures { Inserts builder.old builder.new (moves (points list.now.total list.now.bounds.items) list.now.bounds.items) result }
 {
+    builder.reserve(count_moves(list))?;
     for v in 0..list.count {
         insert_moves_to(builder, list, v, list.point(v))?;
     }
     Ok(())
+}
+
+// How many moves there are, so that room for all is taken at once.
+fn count_moves(list: &PointList) -> usize {
+    let mut count = 0usize;
+    for v in 0..list.count {
+        count = count.saturating_add(count_moves_to(list.point(v), &list.bounds));
+    }
+    count
+}
+
+// How many moves lead to this point: for each coordinate that is not 0, the later ones below their bounds.
+fn count_moves_to(point: &[u32], bounds: &[u32]) -> usize
+    requires { length point.now ≡ length bounds.now }
+{
+    let mut count = 0usize;
+    let mut rising = 0usize;
+    for done in 0..point.len() {
+        let j = point.len() - 1 - done;
+        if point[j] > 0 {
+            count = count.saturating_add(rising);
+        }
+        if point[j] < bounds[j] {
+            rising = rising.saturating_add(1);
+        }
+    }
+    count
 }
 
 // Inserts the moves to this point, which has the number `v`.

@@ -4,6 +4,8 @@
 #[cfg(test)]
 mod families;
 #[cfg(test)]
+mod growths;
+#[cfg(test)]
 mod looks;
 #[cfg(test)]
 mod simplices;

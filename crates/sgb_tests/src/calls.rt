@@ -1,7 +1,9 @@
 //! Single calls of the session's graphs.
 
 use crate::journals::{apply, undo};
-use sgb_shell::{Command, Delta, Edit, Line, Name, Query, Reply, Session, ShellRefusal, parse};
+use sgb_shell::{
+    Command, Delta, Edit, Line, Maker, Name, Query, Reply, Session, ShellRefusal, parse,
+};
 use sgb_undo::{Journal, Reversible};
 use std::alloc::Global;
 use std::test::Fail;
@@ -228,7 +230,7 @@ fn a_journal_takes_a_drop_back(rt: HostRuntime) -> Result<(), Fail> {
 // The number of vertices that a line gives a graph.
 fn vertices_of(alloc: Global, line: &[u8]) -> Option<i64> {
     match read(alloc, line) {
-        Ok(Line::Change(Command::Graph(_, n))) => Some(n),
+        Ok(Line::Change(Command::Make(_, Maker::Empty(n)))) => Some(n),
         _ => None,
     }
 }

@@ -22,6 +22,8 @@ mod session;
 #[cfg(test)]
 mod table;
 #[cfg(test)]
+mod texts;
+#[cfg(test)]
 mod whole;
 #[cfg(test)]
 mod worked;

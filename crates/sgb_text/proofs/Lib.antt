@@ -11,6 +11,7 @@ mod Fields
 mod Links
 mod Listing
 mod Quotes
+mod ReadAs
 mod Reading
 mod RecordReading
 mod Sound

@@ -18,6 +18,7 @@ use Rattle.sgb_grammar.specs.Record.{newline_at, own_at, vertex_at as vertex_in_
 use Rattle.sgb_grammar.specs.Header.{header_at, letters_at, counts_at}
 use Rattle.sgb_grammar.specs.Check.{check_of, weighed, covered}
 use Rattle.sgb_grammar.specs.Saved.{SavedOf, own_in, vertices_in, arcs_in, records_in, check_line_in, saved_in}
+use Rattle.sgb_grammar.specs.Spelled.{FirstLine, SavedText, IsReaderOf}
 use Rattle.sgb_text.specs.declared.restoring.CheckRule.{CheckRule}
 use Rattle.sgb_text.specs.declared.restoring.CheckRule.TheVariants.{Match, Any}
 use Rattle.sgb_text.specs.Restore.{Accepted, passes, IsReadAsOne, IsRefusedForRoom}
@@ -30,6 +31,10 @@ use Rattle.sgb_text.proofs.RecordReading.{Fields, vertex_part_of, vertex_read, a
 use Rattle.sgb_text.proofs.Sound.{own_fields, vertex_fields, vertex_sound, arc_fields, arc_sound, arc_tip, first_good, next_good, hole_fields}
 use Rattle.sgb_text.proofs.Builds.{entry_part, number_part, arc_parts, vertex_parts, builds}
 use Rattle.sgb_text.proofs.Fields.{get_or_any}
+
+-- what is read behind a first line is spelled there
+abbrev IsSpelled : Type 0
+IsSpelled = (h : Header) (bs : List ℕ) (s : SavedOf) → saved_in h bs ≡ Some s → SavedText h s bs
 
 after_word : (word rest : List ℕ) → after word (word ++ rest) ≡ Some rest
 unfolding after
@@ -174,25 +179,26 @@ module _ (g : GraphOf) (sound : IsGraph g) (honest : is_honest g ≡ true) where
   passed Any = refl
   passed Match = eq-eqb (check_of (body_of g)) (check_of (body_of g)) refl
 
-  pub accepted : (rule : CheckRule) → Accepted rule (text_of g) g
+  pub accepted : IsReaderOf Header header_at FirstLine → IsSpelled → (rule : CheckRule) → Accepted rule (text_of g) g
   unfolding text_of
-  accepted rule = record {
+  accepted line spelled rule = record {
     saved = saved;
     reads = record {
       header = header g;
-      rest = 10 ∷ (body_of g ++ check_line (check_of (body_of g)));
-      first = header_read g (body_of g ++ check_line (check_of (body_of g))) sound.types (omega (arith, sound.few_vertices)) (omega (arith, sound.few_arcs));
+      lines = 10 ∷ (body_of g ++ check_line (check_of (body_of g)));
+      first = line.spelled (text_of g) (header g, 10 ∷ (body_of g ++ check_line (check_of (body_of g))))
+          (header_read g (body_of g ++ check_line (check_of (body_of g))) sound.types (omega (arith, sound.few_vertices)) (omega (arith, sound.few_arcs)));
       within = rw (le-leb (n_of g) 65535 sound.few_vertices, le-leb (made_of g) 1000000 sound.few_arcs) refl;
-      spelled = saved_read;
+      spelled = spelled (header g) (10 ∷ (body_of g ++ check_line (check_of (body_of g)))) saved saved_read;
       graph = builds g sound honest;
     };
     passed = passed rule;
   }
 
 -- the law, of sound and honest graphs
-pub reads_back : IsReadAsOne → IsRefusedForRoom → (g : GraphOf) (rule : CheckRule) → IsGraph g → is_honest g ≡ true → IsReadBack rule g
-reads_back one room g rule sound honest =
-    let it = accepted g sound honest rule in
+pub reads_back : IsReadAsOne → IsRefusedForRoom → IsReaderOf Header header_at FirstLine → IsSpelled → (g : GraphOf) (rule : CheckRule) → IsGraph g → is_honest g ≡ true → IsReadBack rule g
+reads_back one room line spelled g rule sound honest =
+    let it = accepted g sound honest line spelled rule in
     record {
       accepted = it;
       one = λ h other. one rule rule (text_of g) h g other it;

@@ -1,4 +1,5 @@
 pub mod Restore
+pub mod Read
 pub mod Layout
 pub mod Clean
 pub mod Save

@@ -1,12 +1,12 @@
 -- Which graph a text spells, and when a text is refused.
-use Rattle.std.specs.Prelude.{◌≡◌, ◌⊎◌, ◌&&◌, ◌==◌, ℕ, nat_le, ℤ, pos, negsuc, Bool, true, false, List, Some, None}
+use Rattle.std.specs.Prelude.{◌≡◌, ◌⊎◌, ◌&&◌, ◌==◌, ℕ, nat_le, ℤ, pos, negsuc, Bool, true, false, List}
 use Rattle.sgb_graph.specs.Graph.{GraphOf}
 use Rattle.sgb_graph.specs.Parts.{Builds}
 use Rattle.sgb_graph.specs.declared.refusal.Refusal.{Refusal}
 use Rattle.sgb_graph.specs.declared.refusal.Refusal.TheVariants.{NoRoom, TooLarge, BadOperand, CheckWrong, Syntax, BadSpecs, LengthRange, Stuck}
 use Rattle.sgb_grammar.specs.declared.header.Header.{Header}
-use Rattle.sgb_grammar.specs.Header.{header_at}
-use Rattle.sgb_grammar.specs.Saved.{SavedOf, saved_in}
+use Rattle.sgb_grammar.specs.Saved.{SavedOf}
+use Rattle.sgb_grammar.specs.Spelled.{FirstLine, SavedText, HasNoFirstLine}
 use Rattle.sgb_grammar.specs.Check.{check_of}
 use Rattle.sgb_text.specs.declared.restoring.CheckRule.{CheckRule}
 use Rattle.sgb_text.specs.declared.restoring.CheckRule.TheVariants.{Match, Any}
@@ -18,10 +18,10 @@ is_within_limits h = nat_le h.vertices 65535 && nat_le h.arcs 1000000
 -- the text spells the graph: its first line is good and within the limits, and the parts behind it are the graph's
 pub record Reads (t : List ℕ) (g : GraphOf) (s : SavedOf) : Type 0 where
   pub header : Header
-  pub rest : List ℕ
-  pub first : header_at t ≡ Some (header, rest)
+  pub lines : List ℕ
+  pub first : FirstLine header t lines
   pub within : is_within_limits header ≡ true
-  pub spelled : saved_in header rest ≡ Some s
+  pub spelled : SavedText header s lines
   pub graph : Builds s.parts g
 
 -- the rule allows the number under this body: a negative one is not compared
@@ -43,8 +43,8 @@ IsSpoiled t = (g : GraphOf) (s : SavedOf) → Reads t g s → ⊥
 -- the first line is good, and a count in it is above the limits, or none is
 pub record HasHeader (t : List ℕ) (within : Bool) : Type 0 where
   pub header : Header
-  pub rest : List ℕ
-  pub first : header_at t ≡ Some (header, rest)
+  pub lines : List ℕ
+  pub first : FirstLine header t lines
   pub limits : is_within_limits header ≡ within
 
 -- a graph is spelled, and the rule does not allow its check number
@@ -57,7 +57,7 @@ pub record IsWrong (rule : CheckRule) (t : List ℕ) : Type 0 where
 -- what each refusal says of the text
 abbrev pub Refused : CheckRule → List ℕ → Refusal → Type 0
 Refused rule t NoRoom = Unit {0}
-Refused rule t Syntax = (header_at t ≡ None) ⊎ (HasHeader t true × IsSpoiled t)
+Refused rule t Syntax = HasNoFirstLine t ⊎ (HasHeader t true × IsSpoiled t)
 Refused rule t TooLarge = HasHeader t false
 Refused rule t CheckWrong = IsWrong rule t
 Refused rule t BadOperand = ⊥

@@ -7,5 +7,5 @@ mod restoring;
 mod saving;
 mod values;
 
-pub use restoring::{CheckRule, answers_are_exact, restore};
+pub use restoring::{CheckRule, answers_are_exact, reading_law, restore};
 pub use saving::{Saved, cleaning_law, save, texts_read_back};

@@ -1,6 +1,8 @@
 //! Restores a graph from its saved text.
-ghost use Rattle.std.specs.Prelude.{◌≡◌, IfOk, IfErr};
+ghost use Rattle.std.specs.Prelude.{◌≡◌, ◌⊎◌, List, ℕ, Ok, Err, IfOk, IfErr};
+ghost use Rattle.sgb_graph.specs.Graph.{GraphOf};
 ghost use Rattle.sgb_text.specs.Restore.{Accepted, Refused, is_within_limits, passes, IsReadAsOne, IsRefusedForRoom};
+ghost use Rattle.sgb_text.specs.Read.{read_as};
 
 use sgb_grammar::{Fault, Header, check_number, read_header, read_saved};
 use sgb_graph::{Graph, Refusal};
@@ -21,6 +23,15 @@ pub enum CheckRule {
 /// is above the limits; and last, `CheckWrong`, where the rule asks for a check number and the text names another. Takes
 /// memory for the records, for their texts and for the graph.
 pub fn restore(alloc: Global, text: &[u8], rule: CheckRule) -> Result<Graph, Refusal>
+    ensures ok { IfOk result (λ g. Accepted rule text.now g) }
+    ensures err { IfErr result (λ e. Refused rule text.now e) }
+    ensures graph { IfOk result (λ g. read_as rule text.now ≡ Ok g) }
+    ensures refusal { IfErr result (λ e. (e ≡ Refusal.NoRoom) ⊎ (read_as rule text.now ≡ Err e)) }
+{
+    restored(alloc, text, rule)
+}
+
+fn restored(alloc: Global, text: &[u8], rule: CheckRule) -> Result<Graph, Refusal>
     ensures ok { IfOk result (λ g. Accepted rule text.now g) }
     ensures err { IfErr result (λ e. Refused rule text.now e) }
 {
@@ -72,4 +83,13 @@ pub fn answers_are_exact()
     ensures refusals { IsRefusedForRoom }
 {
     sgb_graph::build_law();
+    sgb_grammar::spelling_law();
 }
+
+/// The law of reading: what a text is read as, told as a function, is what accepts it, and a refusal of the text for
+/// anything but want of memory.
+pub fn reading_law()
+    ensures read { (rule : CheckRule) (t : List ℕ) (g : GraphOf) → Accepted rule t g → read_as rule t ≡ Ok g }
+    ensures accepted { (rule : CheckRule) (t : List ℕ) (g : GraphOf) → read_as rule t ≡ Ok g → Accepted rule t g }
+    ensures refusal { (rule : CheckRule) (t : List ℕ) (e : Refusal) → Refused rule t e → (e ≡ Refusal.NoRoom) ⊎ (read_as rule t ≡ Err e) }
+{}

@@ -17,7 +17,7 @@ use sgb_graph::{Graph, Items};
 use std::alloc::{AllocError, Global};
 
 /// A saved graph: its text, and how many values were written as Zero because their letters do not allow them.
-#[derive(Debug, Drop)]
+#[derive(Debug, Drop, PartialEq, Eq)]
 pub struct Saved {
     pub text: Items<u8>,
     pub cleaned: u64,
@@ -108,4 +108,6 @@ pub fn texts_read_back()
     ensures honest { (g : GraphOf) (rule : CheckRule) → IsGraph g → is_honest g ≡ true → IsReadBack rule g }
 {
     answers_are_exact();
+    sgb_grammar::records_law();
+    sgb_grammar::spelling_law();
 }

@@ -2,7 +2,7 @@
 
 use crate::outcome::{come_back, come_back_under, is_saved_as, is_saved_under};
 use sgb_graph::{Graph, Place, Text, Util, VertexField, VertexNo};
-use sgb_text::{cleaning_law, texts_read_back};
+use sgb_text::{cleaning_law, reading_law, texts_read_back};
 use std::test::Fail;
 
 #[test]
@@ -196,5 +196,6 @@ fn values_under_other_letters_are_cleaned(rt: HostRuntime) -> Result<(), Fail> {
 #[test]
 fn the_laws_are_called() {
     cleaning_law();
+    reading_law();
     texts_read_back();
 }

@@ -3,7 +3,8 @@ use Rattle.std.specs.Prelude.{◌≡◌, ◌<◌, ℕ, ℤ, pos, List, [], map, 
 use Rattle.sgb_graph.specs.declared.field.VertexNo.{VertexNo}
 use Rattle.sgb_graph.specs.declared.field.ArcNo.{ArcNo}
 use Rattle.sgb_graph.specs.declared.graph.Vertex.{Vertex}
-use Rattle.sgb_graph.specs.declared.graph.Slot.{Slot}
+use Rattle.sgb_graph.specs.declared.graph.arena.Slot.{Slot}
+use Rattle.sgb_graph.specs.declared.graph.read.ArcView.{ArcView}
 use Rattle.sgb_graph.specs.declared.graph.Graph.TheInside.{Inside}
 use Rattle.sgb_graph.specs.Chain.{Leads, chain}
 use Rattle.sgb_graph.specs.Graph.{GraphOf, VertexOf, ArcOf, n_of, made_of, m_of, vertex_at, arcs_of, arc_at, occurrences, names_of, IsGraph, IsVertex}
@@ -39,8 +40,8 @@ graph_of a = record {
   id = a.id;
   types = a.types;
   fields = a.fields;
-  vertices = map (vertex_of a.slots.items) a.vertices.items;
-  entries = map entry_of a.slots.items;
+  vertices = map (vertex_of a.slots) a.vertices.items;
+  entries = map entry_of a.slots;
 }
 
 -- the numbers from this link on come to an end, and name slots
@@ -73,8 +74,13 @@ pub record Shows (vs : List Vertex) (ss : Slots) (g : GraphOf) : Type 0 where
 
 pub record IsArena (a : Inside) : Type 0 where
   pub graph : IsGraph (graph_of a)
-  pub shows : Shows a.vertices.items a.slots.items (graph_of a)
+  pub shows : Shows a.vertices.items a.slots (graph_of a)
   pub live : a.live ≡ m_of (graph_of a)
+
+-- the arc as the readers show it
+abbrev pub view_in : Option Slot → Option ArcView
+view_in None = None
+view_in (Some s) = Some (record { owner = s.owner; tip = s.tip; len = s.len })
 
 -- the length in a slot, and the slot with another one
 abbrev pub len_in : Option Slot → ℤ

@@ -5,7 +5,7 @@ use Rattle.sgb_graph.specs.declared.field.Util.TheVariants as utils
 use Rattle.sgb_graph.specs.declared.field.Place.{Place}
 use Rattle.sgb_graph.specs.declared.field.Place.TheVariants.{Vertex, Arc, Graph}
 use Rattle.sgb_graph.specs.declared.graph.Vertex as vertex
-use Rattle.sgb_graph.specs.declared.graph.Slot.{Slot}
+use Rattle.sgb_graph.specs.declared.graph.arena.Slot.{Slot}
 use Rattle.sgb_graph.specs.Field.{vertex_place, arc_place, graph_place}
 use Rattle.sgb_graph.specs.Graph.{GraphOf, IsGraph, IsValue, n_of}
 use Rattle.sgb_graph.specs.Edit.{has_place, util_at, with_util}

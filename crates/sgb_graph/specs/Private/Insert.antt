@@ -1,16 +1,17 @@
 -- New arcs, as they are linked into a graph.
-use Rattle.std.specs.Prelude.{ℤ, List, [], ◌∷◌, Option}
+use Rattle.std.specs.Prelude.{◌+◌, ℕ, ℤ, List, [], ◌∷◌, Option, Some, None}
 use Rattle.sgb_graph.specs.declared.field.VertexNo.{VertexNo}
 use Rattle.sgb_graph.specs.declared.field.ArcNo.{ArcNo}
 use Rattle.sgb_graph.specs.declared.field.Tip.TheVariants.{To}
 use Rattle.sgb_graph.specs.declared.field.Util.TheVariants.{Zero}
 use Rattle.sgb_graph.specs.declared.delta.CutArc.{CutArc}
 use Rattle.sgb_graph.specs.declared.graph.Vertex as vertex
-use Rattle.sgb_graph.specs.declared.graph.Slot.{Slot}
+use Rattle.sgb_graph.specs.declared.graph.arena.Slot.{Slot}
 use Rattle.sgb_graph.specs.Graph.{GraphOf, IsGraph}
 use Rattle.sgb_graph.specs.Edit.{with_cut_arc}
 use Rattle.sgb_graph.specs.Private.Arena.{Slots, Shows}
-use Rattle.sgb_graph.specs.Private.Link.{CanPutBack}
+use Rattle.sgb_graph.specs.Field.{arc_no}
+use Rattle.sgb_graph.specs.Private.Link.{CanPutBack, vertex_in, vertices_relinked}
 
 -- the arc of this number, first in the list of its owner
 abbrev pub new_cut : ArcNo → VertexNo → VertexNo → ℤ → CutArc
@@ -21,6 +22,10 @@ new_cut number owner to len =
 abbrev pub new_slot : VertexNo → VertexNo → Option ArcNo → ℤ → Slot
 new_slot owner to next len =
     record { owner = owner; tip = To to; next = next; names = 0; len = len; fields = Zero ∷ Zero ∷ [] }
+
+-- the first link of a vertex where the second arc of an edge was linked first
+abbrev pub first_behind : List vertex.Vertex → ℕ → ℕ → ℕ → Option ArcNo
+first_behind vs number low high = (vertex_in (vertices_relinked vs high None (Some (arc_no (number + 1)))) low).first
 
 -- two arcs are put into the graph, one after the other
 abbrev pub PutsBoth : List vertex.Vertex → Slots → CutArc → CutArc → List vertex.Vertex → Slots → Type 0

@@ -5,7 +5,7 @@ use Rattle.sgb_graph.specs.declared.field.Util.{Util}
 use Rattle.sgb_graph.specs.declared.field.Util.TheVariants.{Zero, Int, Vertex, Arc, Text}
 use Rattle.sgb_graph.specs.declared.delta.CutArc.{CutArc}
 use Rattle.sgb_graph.specs.declared.graph.Vertex as vertex
-use Rattle.sgb_graph.specs.declared.graph.Slot.{Slot}
+use Rattle.sgb_graph.specs.declared.graph.arena.Slot.{Slot}
 use Rattle.sgb_graph.specs.Graph.{GraphOf, IsGraph, IsArc, n_of, made_of, arcs_of, arc_at, has_arc, names_of}
 use Rattle.sgb_graph.specs.Edit.{with_cut_arc, without_arc, arc_of}
 use Rattle.sgb_graph.specs.Delta.{cut_arc}

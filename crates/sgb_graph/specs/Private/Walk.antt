@@ -1,7 +1,7 @@
 -- Walking along a vertex's list past the second halves of loops.
 use Rattle.std.specs.Prelude.{◌+◌, ℕ, List, [], ◌∷◌, Option, Some, None, Bool, false, ◌&&◌, not, ◌==◌, if◌then◌else◌}
 use Rattle.sgb_graph.specs.declared.field.ArcNo.{ArcNo}
-use Rattle.sgb_graph.specs.declared.graph.Slot.{Slot}
+use Rattle.sgb_graph.specs.declared.graph.arena.Slot.{Slot}
 use Rattle.sgb_graph.specs.Private.Arena.{Slots, slot_at, next_at}
 use Rattle.sgb_graph.specs.Paired.{is_vertex}
 

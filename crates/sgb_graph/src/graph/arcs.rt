@@ -1,16 +1,14 @@
 //! The arcs of one vertex in order.
-ghost use Rattle.std.specs.Prelude.{◌≡◌, ◌<◌, length};
-ghost use Rattle.sgb_graph.specs.Private.Arena.{next_at};
-
-use super::Slot;
+use super::arena::Arena;
+use super::codes::Link;
 use crate::ArcNo;
 use std::marker::Model;
 
 /// The numbers of a vertex's arcs, the newest first.
 #[derive(Drop)]
 pub struct Arcs<'a> {
-    slots: &'a [Option<Slot>],
-    next: Option<ArcNo>,
+    slots: &'a Arena,
+    next: Link,
 }
 
 impl<'a> Model for Arcs<'a> {
@@ -30,7 +28,7 @@ impl<'a> Arcs<'a> {
     ghost use Rattle.sgb_graph.specs.Private.Arena.{numbers, IsLinked};
 
     #[inline]
-    pub(super) fn new(slots: &'a [Option<Slot>], first: Option<ArcNo>) -> Arcs<'a>
+    pub(super) fn new(slots: &'a Arena, first: Link) -> Arcs<'a>
         requires { IsLinked slots.now first }
         ensures { result ≡ numbers slots.now first }
     {
@@ -49,24 +47,12 @@ impl<'a> Iterator for Arcs<'a> {
 
     #[inline]
     fn next(&mut self) -> Option<ArcNo> {
-        match self.next {
+        match self.next.get() {
             Some(number) => {
-                self.next = next_after(self.slots, number);
+                self.next = self.slots.next_after(number);
                 Some(number)
             }
             None => None,
         }
-    }
-}
-
-// The arc that follows this one in its list.
-#[inline]
-pub(super) fn next_after(slots: &[Option<Slot>], number: ArcNo) -> Option<ArcNo>
-    requires { number.0 < length slots.now }
-    ensures { result ≡ next_at slots.now number.0 }
-{
-    match &slots[number.0 as usize] {
-        Some(slot) => slot.next,
-        None => None,
     }
 }

@@ -35,9 +35,9 @@ impl Graph {
         ensures value { result ≡ (has_arc self.now number.0 && (names_of self.now number.0 == 0)) }
         ensures sound { IsGraph self.now }
     {
-        match self.slots.get(number.0 as usize) {
-            Some(Some(slot)) => slot.names == 0,
-            _ => false,
+        match self.slots.names(number) {
+            Some(names) => names == 0,
+            None => false,
         }
     }
 }

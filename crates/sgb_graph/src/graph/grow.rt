@@ -7,7 +7,7 @@ ghost use Rattle.sgb_graph.specs.Set.{IsStorable};
 ghost use Rattle.sgb_graph.specs.Vertex.{NamesNothing, new_vertex, with_vertex_last};
 
 use super::set::stored;
-use super::{Graph, MOST_ARCS, MOST_VERTICES, Vertex};
+use super::{Graph, Link, MOST_ARCS, MOST_VERTICES, Vertex};
 use crate::{Label, Refusal, Util};
 
 impl Graph {
@@ -27,7 +27,7 @@ impl Graph {
         self.vertices.push(Vertex {
             label,
             fields,
-            first: None,
+            first: Link::none(),
         })?;
         Ok(())
     }

@@ -1,10 +1,9 @@
 //! Whether each value is one that its letter allows.
 ghost use Rattle.std.specs.Prelude.{◌≡◌};
 ghost use Rattle.std.specs.List.{list_all};
-ghost use Rattle.sgb_graph.specs.Private.Exchange.{fields_in};
 ghost use Rattle.sgb_graph.specs.Honest.{are_allowed, is_honest};
 
-use super::{Graph, Slot, Vertex};
+use super::{Graph, Vertex};
 use crate::Util;
 
 impl Graph {
@@ -21,7 +20,7 @@ impl Graph {
         if !are_vertices_honest(vertex_letters, &self.vertices) {
             return false;
         }
-        are_arcs_honest(arc_letters, &self.slots)
+        self.slots.is_honest(arc_letters)
     }
 }
 
@@ -33,23 +32,8 @@ fn are_vertices_honest(letters: &[u8], vertices: &[Vertex]) -> bool
         .all(|vertex| are_allowed(letters, &vertex.fields))
 }
 
-fn are_arcs_honest(letters: &[u8], slots: &[Option<Slot>]) -> bool
-    ensures { result ≡ list_all (λ o. are_allowed letters.now (fields_in o)) slots.now }
-{
-    slots.iter().all(|slot| is_slot_honest(letters, slot))
-}
-
-fn is_slot_honest(letters: &[u8], slot: &Option<Slot>) -> bool
-    ensures { result ≡ are_allowed letters.now (fields_in slot.now) }
-{
-    match slot {
-        Some(slot) => are_allowed(letters, &slot.fields),
-        None => true,
-    }
-}
-
 // Each value is allowed by the letter at its place.
-fn are_allowed(letters: &[u8], values: &[Util]) -> bool
+pub(super) fn are_allowed(letters: &[u8], values: &[Util]) -> bool
     ensures { result ≡ are_allowed letters.now values.now }
 {
     values

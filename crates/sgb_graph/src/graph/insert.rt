@@ -5,12 +5,11 @@ ghost use Rattle.sgb_graph.specs.Graph.{IsGraph, made_of};
 ghost use Rattle.sgb_graph.specs.Edit.{with_arc, with_edge, refusal_of_arc, refusal_of_edge};
 ghost use Rattle.sgb_graph.specs.Delta.{LeftBy};
 ghost use Rattle.sgb_graph.specs.Field.{arc_no};
-ghost use Rattle.sgb_graph.specs.Private.Insert.{new_cut, new_slot, PutsBoth};
-ghost use Rattle.sgb_graph.specs.Private.Link.{PutsBack, vertex_in, vertices_relinked};
+ghost use Rattle.sgb_graph.specs.Private.Insert.{first_behind};
+ghost use Rattle.sgb_graph.specs.Private.Link.{vertex_in, vertices_relinked};
 
-use super::{Graph, MOST_ARCS, Slot, Vertex};
-use crate::{ArcNo, GraphDelta, Refusal, Tip, Util, VertexNo};
-use std::mem;
+use super::{Graph, Link, MOST_ARCS, Vertex};
+use crate::{ArcNo, GraphDelta, Refusal, VertexNo};
 
 impl Graph {
     /// A new arc from one vertex to another, first in the list of the first (Knuth's `gb_new_arc`).
@@ -40,8 +39,9 @@ impl Graph {
             return Err(Refusal::TooLarge);
         }
         let number = ArcNo(self.made());
-        self.slots.reserve(1)?;
-        push_arc(&mut self.vertices, &mut self.slots, number, from, to, len);
+        let next = first_of(&self.vertices, from);
+        self.slots.push(from, to, next, len)?;
+        link_first(&mut self.vertices, from, number);
         self.live += 1;
         Ok((number, GraphDelta::NewArc(number)))
     }
@@ -77,76 +77,56 @@ impl Graph {
         let number = ArcNo(self.made());
         let low = VertexNo(from.0.min(to.0));
         let high = VertexNo(from.0.max(to.0));
-        self.slots.reserve(2)?;
-        push_edge(&mut self.vertices, &mut self.slots, number, low, high, len);
+        let after_high = first_of(&self.vertices, high);
+        let after_low = after_first(&self.vertices, number, low, high);
+        self.slots.push_both(low, high, after_low, after_high, len)?;
+        link_both(&mut self.vertices, number, low, high);
         self.live += 2;
         Ok((number, GraphDelta::NewEdge(number)))
     }
 }
 
-// Gives the next number to a new arc, first in the list of its owner. There is room for it.
+// The first link of a vertex.
 #[inline]
-fn push_arc(
-    vertices: &mut [Vertex],
-    slots: &mut Vec<Option<Slot>>,
-    number: ArcNo,
-    from: VertexNo,
-    to: VertexNo,
-    len: i64,
-)
-    requires room { vec_len slots.old + 1 ≤ vec_capacity slots.old }
-    requires number { number.0 ≡ length slots.old.items }
-    requires from { from.0 < length vertices.old }
-    ensures { PutsBack vertices.old (slots.old.items ++ None ∷ []) (new_cut number from to len) vertices.new slots.new.items }
+fn first_of(vertices: &[Vertex], vertex: VertexNo) -> Link
+    requires { vertex.0 < length vertices.now }
+    ensures { result ≡ (vertex_in vertices.now vertex.0).first }
 {
-    let next = link_first(vertices, from, number);
-    slots.push_reserved(Some(new_slot(from, to, next, len)));
+    vertices[vertex.0 as usize].first
 }
 
-// Gives the next two numbers to the arcs of a new edge, the second linked before the first. There is room for them.
+// What follows the first arc of a new edge in its list: of a loop its second arc.
 #[inline]
-fn push_edge(
-    vertices: &mut [Vertex],
-    slots: &mut Vec<Option<Slot>>,
-    number: ArcNo,
-    low: VertexNo,
-    high: VertexNo,
-    len: i64,
-)
-    requires room { vec_len slots.old + 2 ≤ vec_capacity slots.old }
-    requires number { number.0 ≡ length slots.old.items }
-    requires few { number.0 < 1000000 }
+fn after_first(vertices: &[Vertex], number: ArcNo, low: VertexNo, high: VertexNo) -> Link
+    requires low { low.0 < length vertices.now }
+    requires number { number.0 + 1 < 1000000 }
+    ensures { result ≡ first_behind vertices.now number.0 low.0 high.0 }
+{
+    if low.0 == high.0 {
+        Link::to(ArcNo(number.0 + 1))
+    } else {
+        first_of(vertices, low)
+    }
+}
+
+// Makes the arc first in the list of its owner.
+#[inline]
+fn link_first(vertices: &mut [Vertex], owner: VertexNo, number: ArcNo)
+    requires owner { owner.0 < length vertices.old }
+    requires number { number.0 < 1000000 }
+    ensures { vertices.new ≡ vertices_relinked vertices.old owner.0 None (Some number) }
+{
+    vertices[owner.0 as usize].first = Link::to(number);
+}
+
+// Makes the arcs of a new edge first in the lists of their owners, the second before the first.
+#[inline]
+fn link_both(vertices: &mut [Vertex], number: ArcNo, low: VertexNo, high: VertexNo)
     requires low { low.0 < length vertices.old }
     requires high { high.0 < length vertices.old }
-    ensures { PutsBoth vertices.old (slots.old.items ++ None ∷ [] ++ None ∷ [])
-        (new_cut (arc_no (number.0 + 1)) high low len) (new_cut number low high len) vertices.new slots.new.items }
+    requires number { number.0 + 1 < 1000000 }
+    ensures { vertices.new ≡ vertices_relinked (vertices_relinked vertices.old high.0 None (Some (arc_no (number.0 + 1)))) low.0 None (Some number) }
 {
-    let after_second = link_first(vertices, high, ArcNo(number.0 + 1));
-    let after_first = link_first(vertices, low, number);
-    slots.push_reserved(Some(new_slot(low, high, after_first, len)));
-    slots.push_reserved(Some(new_slot(high, low, after_second, len)));
-}
-
-// Makes the arc first in the list of its owner, and answers the one that was.
-#[inline]
-fn link_first(vertices: &mut [Vertex], owner: VertexNo, number: ArcNo) -> Option<ArcNo>
-    requires { owner.0 < length vertices.old }
-    ensures old { result ≡ (vertex_in vertices.old owner.0).first }
-    ensures vertices { vertices.new ≡ vertices_relinked vertices.old owner.0 None (Some number) }
-{
-    mem::replace(&mut vertices[owner.0 as usize].first, Some(number))
-}
-
-#[inline]
-fn new_slot(owner: VertexNo, to: VertexNo, next: Option<ArcNo>, len: i64) -> Slot
-    ensures { result ≡ new_slot owner to next len }
-{
-    Slot {
-        owner,
-        tip: Tip::To(to),
-        next,
-        names: 0,
-        len,
-        fields: [Util::Zero, Util::Zero],
-    }
+    link_first(vertices, high, ArcNo(number.0 + 1));
+    link_first(vertices, low, number);
 }

@@ -97,7 +97,7 @@ impl Graph {
         ensures sound { OnOk result (IsGraph self.new) }
         ensures err { IfErr result (λ e. e ≡ Refusal.NoRoom) }
     {
-        self.slots.push(None)?;
+        self.slots.push_hole()?;
         Ok(())
     }
 }

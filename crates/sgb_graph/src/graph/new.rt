@@ -9,6 +9,8 @@ ghost use Rattle.sgb_graph.specs.New.{new_graph, new_id, bare_graph, six_zeros};
 ghost use Rattle.sgb_graph.specs.Private.Arena.{IsBare, bare_vertex};
 ghost use Rattle.sgb_graph.specs.Private.Blank.{blank};
 
+use super::arena::Arena;
+use super::codes::Link;
 use super::{Graph, MOST_VERTICES, Vertex};
 use crate::{Label, Refusal, Text, Types, Util};
 use std::alloc::{AllocError, Global};
@@ -55,7 +57,7 @@ fn bare_graph(alloc: Global, id: Text, types: Types, vertices: Vec<Vertex>) -> G
         types,
         fields: six_zeros(),
         vertices,
-        slots: Vec::new(alloc),
+        slots: Arena::new(alloc),
         live: 0,
     }
 }
@@ -79,7 +81,7 @@ fn blank() -> Vertex
     Vertex {
         label: Label::empty(),
         fields: six_zeros(),
-        first: None,
+        first: Link::none(),
     }
 }
 

@@ -3,13 +3,10 @@ ghost use Rattle.std.specs.Prelude.{◌≡◌, ◌<◌, ◌≤◌, length, All, 
 ghost use Rattle.sgb_graph.specs.Graph.{IsGraph, IsId, IsTip, n_of, m_of, made_of, vertex_at, label_of, arcs_of, arc_at};
 ghost use Rattle.sgb_graph.specs.Text.{IsText};
 ghost use Rattle.sgb_graph.specs.Types.{IsTypes};
-ghost use Rattle.sgb_graph.specs.Private.Arena.{slot_at};
-ghost use Rattle.sgb_graph.specs.Private.Exchange.{fields_in};
 ghost use Rattle.sgb_graph.specs.Paired.{walk};
 ghost use Rattle.sgb_graph.specs.Edit.{owner_of, entry_at};
 
-use super::arcs::next_after;
-use super::{Arcs, Graph, Slot, Walk};
+use super::{Arcs, Graph, Walk};
 use crate::{ArcNo, Tip, Types, Util, VertexNo};
 
 /// A live arc: the vertex that lists it, its tip and its length.
@@ -123,14 +120,7 @@ impl Graph {
         ensures entry { IfSome result (λ a. ShowsEntry (entry_at self.now number.0) a) }
         ensures graph { IsGraph self.now }
     {
-        match &self.slots[number.0 as usize] {
-            Some(slot) => Some(ArcView {
-                owner: slot.owner,
-                tip: slot.tip,
-                len: slot.len,
-            }),
-            None => None,
-        }
+        self.slots.arc(number)
     }
 
     /// The arc that follows a live one in its owner's list.
@@ -139,7 +129,7 @@ impl Graph {
         requires { IsSome (arc_at self.now number.0) }
         ensures { IsNextOf self.now number.0 result }
     {
-        next_after(&self.slots, number)
+        self.slots.next_after(number).get()
     }
 
     /// The utility fields of a vertex, in the order of `VertexField`.
@@ -157,7 +147,7 @@ impl Graph {
         requires { IsSome (arc_at self.now number.0) }
         ensures { result.now ≡ (entry_at self.now number.0).fields }
     {
-        fields_at(&self.slots, number)
+        self.slots.fields(number)
     }
 
     /// The utility fields of the graph itself, in the order of `GraphField`.
@@ -166,17 +156,5 @@ impl Graph {
         ensures { result.now ≡ self.now.fields }
     {
         &self.fields
-    }
-}
-
-// The fields of a live arc.
-#[inline]
-fn fields_at(slots: &[Option<Slot>], number: ArcNo) -> &[Util; 2]
-    requires { IsSome (slot_at slots.now number.0) }
-    ensures { result.now ≡ fields_in (slot_at slots.now number.0) }
-{
-    match &slots[number.0 as usize] {
-        Some(slot) => &slot.fields,
-        None => unreachable!(),
     }
 }

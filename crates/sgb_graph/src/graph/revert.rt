@@ -4,10 +4,10 @@ ghost use Rattle.sgb_graph.specs.Graph.{GraphOf, IsGraph};
 ghost use Rattle.sgb_graph.specs.Private.Revert.{CanBothBeTakenOut, TakesOutBoth};
 ghost use Rattle.sgb_graph.specs.Delta.{LeftBy, LeftByArc, LeftByEdge, LeftByCut, LeftByLen, LeftByUtil, LeftByLabel, LeftById, LeftByTypes};
 
+use super::arena::Arena;
 use super::exchange::exchange;
 use super::link::{put_back, take_out};
-use super::set::replace_len;
-use super::{Graph, Slot, Vertex};
+use super::{Graph, Vertex};
 use crate::{ArcNo, CutArc, GraphDelta, Label, Place, Text, Types, Util, VertexNo};
 
 impl Graph {
@@ -66,7 +66,7 @@ impl Graph {
         ensures back { (g : GraphOf) → LeftByLen g number len self.old → self.new ≡ g }
         ensures sound { IsGraph self.new }
     {
-        replace_len(&mut self.slots, number, len);
+        self.slots.replace_len(number, len);
     }
 
     fn revert_util(&mut self, place: Place, value: Util)
@@ -109,7 +109,7 @@ impl Graph {
 }
 
 // Takes the arc and the one of the next number out of their owners' lists.
-fn take_out_both(vertices: &mut [Vertex], slots: &mut [Option<Slot>], number: ArcNo)
+fn take_out_both(vertices: &mut [Vertex], slots: &mut Arena, number: ArcNo)
     requires { CanBothBeTakenOut vertices.old slots.old number.0 }
     ensures { TakesOutBoth vertices.old slots.old number.0 vertices.new slots.new }
 {

@@ -2,10 +2,12 @@
 ghost use Rattle.std.specs.Prelude.{◌≡◌};
 ghost use Rattle.std.specs.List.{list_all, zip};
 ghost use Rattle.sgb_graph.specs.Same.{tip_eq};
-ghost use Rattle.sgb_graph.specs.Private.SameRows.{link_eq, row_eq, slot_eq, each_eq, own_eq, lists_eq};
+ghost use Rattle.sgb_graph.specs.Private.SameRows.{link_eq, row_eq, each_eq, own_eq, lists_eq};
 
-use super::{Graph, Slot, Vertex};
-use crate::{ArcNo, Tip, Util};
+use super::arena::Arena;
+use super::codes::Link;
+use super::{Graph, Vertex};
+use crate::{Tip, Util};
 
 impl PartialEq for Graph {
     ghost use Rattle.sgb_graph.specs.Same.{graph_eq};
@@ -54,12 +56,12 @@ fn is_own_same(
 fn are_lists_same(
     vertices: &[Vertex],
     other_vertices: &[Vertex],
-    slots: &[Option<Slot>],
-    other_slots: &[Option<Slot>],
+    slots: &Arena,
+    other_slots: &Arena,
 ) -> bool
     ensures { result ≡ lists_eq vertices.now other_vertices.now slots.now other_slots.now }
 {
-    are_vertices_same(vertices, other_vertices) && are_slots_same(slots, other_slots)
+    are_vertices_same(vertices, other_vertices) && slots.is_same(other_slots)
 }
 
 fn are_vertices_same(vertices: &[Vertex], others: &[Vertex]) -> bool
@@ -77,21 +79,6 @@ fn is_each_vertex_same(vertices: &[Vertex], others: &[Vertex]) -> bool
         .all(|(vertex, other)| is_vertex_same(vertex, other))
 }
 
-fn are_slots_same(slots: &[Option<Slot>], others: &[Option<Slot>]) -> bool
-    ensures { result ≡ each_eq slot_eq slots.now others.now }
-{
-    slots.len() == others.len() && is_each_slot_same(slots, others)
-}
-
-fn is_each_slot_same(slots: &[Option<Slot>], others: &[Option<Slot>]) -> bool
-    ensures { result ≡ list_all (λ p. slot_eq p.0 p.1) (zip slots.now others.now) }
-{
-    slots
-        .iter()
-        .zip(others)
-        .all(|(slot, other)| is_slot_same(slot, other))
-}
-
 fn is_vertex_same(vertex: &Vertex, other: &Vertex) -> bool
     ensures { result ≡ row_eq vertex.now other.now }
 {
@@ -100,33 +87,17 @@ fn is_vertex_same(vertex: &Vertex, other: &Vertex) -> bool
         && is_link_same(vertex.first, other.first)
 }
 
-// The owner and the count of names need no look: the others tell them.
-fn is_slot_same(slot: &Option<Slot>, other: &Option<Slot>) -> bool
-    ensures { result ≡ slot_eq slot.now other.now }
-{
-    match (slot, other) {
-        (Some(slot), Some(other)) => {
-            is_tip_same(slot.tip, other.tip)
-                && is_link_same(slot.next, other.next)
-                && slot.len == other.len
-                && slot.fields == other.fields
-        }
-        (None, None) => true,
-        _ => false,
-    }
-}
-
-fn is_link_same(link: Option<ArcNo>, other: Option<ArcNo>) -> bool
+pub(super) fn is_link_same(link: Link, other: Link) -> bool
     ensures { result ≡ link_eq link other }
 {
-    match (link, other) {
+    match (link.get(), other.get()) {
         (Some(number), Some(other)) => number.0 == other.0,
         (None, None) => true,
         _ => false,
     }
 }
 
-fn is_tip_same(tip: Tip, other: Tip) -> bool
+pub(super) fn is_tip_same(tip: Tip, other: Tip) -> bool
     ensures { result ≡ tip_eq tip other }
 {
     match (tip, other) {

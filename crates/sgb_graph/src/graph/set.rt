@@ -9,8 +9,8 @@ ghost use Rattle.sgb_graph.specs.Private.Arena.{slot_at};
 ghost use Rattle.sgb_graph.specs.Set.{IsStorable};
 ghost use Rattle.sgb_graph.specs.Private.Arena.{len_in, with_len_in};
 
+use super::Graph;
 use super::exchange::exchange;
-use super::{Graph, Slot};
 use crate::{ArcNo, GraphDelta, Label, Place, Refusal, Text, Types, Util, VertexNo};
 use std::mem;
 
@@ -41,7 +41,7 @@ impl Graph {
         ensures left { LeftByLen self.old number result self.new }
         ensures sound { IsGraph self.new }
     {
-        replace_len(&mut self.slots, number, len)
+        self.slots.replace_len(number, len)
     }
 
     /// Gives a utility field another value, where the number 0 and the empty text are stored as `Zero`. Answers what
@@ -149,7 +149,7 @@ impl Graph {
     {
         match place {
             Place::Vertex(vertex, field) => &self.vertices[vertex.0 as usize].fields[field.place()],
-            Place::Arc(number, field) => arc_value(&self.slots, number, field.place()),
+            Place::Arc(number, field) => self.slots.field(number, field.place()),
             Place::Graph(field) => &self.fields[field.place()],
         }
     }
@@ -158,7 +158,7 @@ impl Graph {
         ensures value { result ≡ has_arc self.now number.0 }
         ensures sound { IsGraph self.now }
     {
-        matches!(self.slots.get(number.0 as usize), Some(Some(_)))
+        self.slots.has(number)
     }
 
     fn has_place(&self, place: Place) -> bool
@@ -201,29 +201,5 @@ pub(super) fn stored(value: Util) -> Util
             }
         }
         value => value,
-    }
-}
-
-// Gives a live arc another length, and answers the one that it had.
-pub(super) fn replace_len(slots: &mut [Option<Slot>], number: ArcNo, len: i64) -> i64
-    requires { IsSome (slot_at slots.old number.0) }
-    ensures old { result ≡ len_in (slot_at slots.old number.0) }
-    ensures slots { slots.new ≡ slice_set slots.old number.0 (with_len_in len (slot_at slots.old number.0)) }
-{
-    match &mut slots[number.0 as usize] {
-        Some(slot) => mem::replace(&mut slot.len, len),
-        None => unreachable!(),
-    }
-}
-
-fn arc_value(slots: &[Option<Slot>], number: ArcNo, place: usize) -> &Util
-    requires number { number.0 < length slots.now }
-    requires fields { length (fields_in (slot_at slots.now number.0)) ≡ 2 }
-    requires place { place < 2 }
-    ensures { result.now ≡ slice_index_or (fields_in (slot_at slots.now number.0)) place utils.Zero }
-{
-    match &slots[number.0 as usize] {
-        Some(slot) => &slot.fields[place],
-        None => unreachable!(),
     }
 }

@@ -1,11 +1,11 @@
 //! The arcs of one vertex that stand for an insertion each.
 ghost use Rattle.std.specs.Prelude.{◌≡◌, ◌<◌, length};
-ghost use Rattle.sgb_graph.specs.Private.Arena.{IsLinked, numbers, next_at, slot_at};
-ghost use Rattle.sgb_graph.specs.Private.Walk.{is_loop_in, is_pair_in, walked, past};
+ghost use Rattle.sgb_graph.specs.Private.Arena.{IsLinked, numbers};
+ghost use Rattle.sgb_graph.specs.Private.Walk.{is_pair_in, walked, past};
 
-use super::Slot;
-use super::arcs::next_after;
-use super::paired::{follows, is_vertex};
+use super::arena::Arena;
+use super::codes::Link;
+use super::paired::follows;
 use crate::ArcNo;
 use std::marker::Model;
 
@@ -13,9 +13,9 @@ use std::marker::Model;
 /// directed.
 #[derive(Drop)]
 pub struct Walk<'a> {
-    slots: &'a [Option<Slot>],
+    slots: &'a Arena,
     directed: bool,
-    next: Option<ArcNo>,
+    next: Link,
 }
 
 impl<'a> Model for Walk<'a> {
@@ -33,7 +33,7 @@ impl<'a> Model for Walk<'a> {
 
 impl<'a> Walk<'a> {
     #[inline]
-    pub(super) fn new(slots: &'a [Option<Slot>], first: Option<ArcNo>, directed: bool) -> Walk<'a>
+    pub(super) fn new(slots: &'a Arena, first: Link, directed: bool) -> Walk<'a>
         requires { IsLinked slots.now first }
         ensures { result ≡ walked directed slots.now (numbers slots.now first) }
     {
@@ -56,9 +56,9 @@ impl<'a> Iterator for Walk<'a> {
 
     #[inline]
     fn next(&mut self) -> Option<ArcNo> {
-        match self.next {
+        match self.next.get() {
             Some(number) => {
-                let next = next_after(self.slots, number);
+                let next = self.slots.next_after(number);
                 self.next = past(self.slots, self.directed, number, next);
                 Some(number)
             }
@@ -69,41 +69,29 @@ impl<'a> Iterator for Walk<'a> {
 
 // The link by which a walk goes on after this arc: past its second half.
 #[inline]
-fn past(slots: &[Option<Slot>], directed: bool, number: ArcNo, next: Option<ArcNo>) -> Option<ArcNo>
+fn past(slots: &Arena, directed: bool, number: ArcNo, next: Link) -> Link
     requires number { number.0 < length slots.now }
     requires linked { IsLinked slots.now next }
     ensures { result ≡ past directed slots.now number.0 next }
 {
-    match next {
+    match next.get() {
         Some(second) => {
             if !directed && is_pair(slots, number, second) {
-                next_after(slots, second)
+                slots.next_after(second)
             } else {
                 next
             }
         }
-        None => None,
+        None => next,
     }
 }
 
 // Both are loops, and the second is numbered next.
 #[inline]
-fn is_pair(slots: &[Option<Slot>], first: ArcNo, second: ArcNo) -> bool
+fn is_pair(slots: &Arena, first: ArcNo, second: ArcNo) -> bool
     requires first { first.0 < length slots.now }
     requires second { second.0 < length slots.now }
     ensures { result ≡ is_pair_in slots.now first.0 second.0 }
 {
-    is_loop(slots, first) && is_loop(slots, second) && follows(first, second)
-}
-
-// The arc leads to its owner.
-#[inline]
-fn is_loop(slots: &[Option<Slot>], number: ArcNo) -> bool
-    requires { number.0 < length slots.now }
-    ensures { result ≡ is_loop_in (slot_at slots.now number.0) }
-{
-    match &slots[number.0 as usize] {
-        Some(slot) => is_vertex(slot.owner.0, slot.tip),
-        None => false,
-    }
+    slots.is_loop(first) && slots.is_loop(second) && follows(first, second)
 }

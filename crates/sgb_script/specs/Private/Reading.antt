@@ -2,6 +2,8 @@
 use Rattle.std.specs.Prelude.{◌≡◌, Bool, true, false, ◌⊎◌, IsTrue, Option, None, Some, Result, Ok, Err}
 use Rattle.sgb_graph.specs.declared.field.Util.{Util}
 use Rattle.sgb_graph.specs.declared.field.Util.TheVariants as utils
+use Rattle.sgb_script.specs.declared.command.Maker.{Maker}
+use Rattle.sgb_script.specs.declared.command.Maker.TheVariants.{Induced}
 use Rattle.sgb_script.specs.declared.command.Line.{Line}
 use Rattle.sgb_script.specs.declared.refusal.ShellRefusal.{ShellRefusal}
 use Rattle.sgb_script.specs.declared.refusal.ShellRefusal.TheVariants.{NoRoom, ScriptSyntax}
@@ -20,3 +22,14 @@ is_text (Some (utils.Text t)) = true
 abbrev pub Reads : Option Line → Result Line ShellRefusal → Type 0
 Reads asked (Ok line) = asked ≡ Some line
 Reads asked (Err e) = ((e ≡ ScriptSyntax) × (asked ≡ None)) ⊎ ((e ≡ NoRoom) × IsTrue (takes_memory asked))
+
+-- the description of an induced graph takes memory
+abbrev pub is_described : Option Maker → Bool
+is_described None = false
+is_described (Some (Induced g text spec)) = true
+is_described (Some m) = false
+
+-- the same of what makes a graph
+abbrev pub ReadsMaker : Option Maker → Result Maker ShellRefusal → Type 0
+ReadsMaker asked (Ok maker) = asked ≡ Some maker
+ReadsMaker asked (Err e) = ((e ≡ ScriptSyntax) × (asked ≡ None)) ⊎ ((e ≡ NoRoom) × IsTrue (is_described asked))

@@ -1,8 +1,10 @@
 -- The words of a line, as the program holds them and takes them off from the left.
-use Rattle.std.specs.Prelude.{◌≡◌, ℕ, Bool, true, false, ◌⊎◌, List, [], ◌∷◌, Option, None, Some}
+use Rattle.std.specs.Prelude.{◌≡◌, ℕ, ℤ, Bool, true, false, ◌⊎◌, List, [], ◌∷◌, Option, None, Some, option_and_then}
 use Rattle.std.specs.Option.{option_map}
 use Rattle.sgb_graph.specs.Text.{IsText}
 use Rattle.sgb_script.specs.Words.{Word, Plain, Quoted, words_of}
+use Rattle.sgb_script.specs.Arguments.{four_numbers}
+use Rattle.sgb_script.specs.declared.command.Maker.{Maker}
 use Rattle.sgb_script.specs.declared.words.Word.TheVariants as borrowed
 use Rattle.sgb_script.specs.declared.words.Word as borrowed_word
 use denote.Ref.{Bor}
@@ -44,6 +46,21 @@ abbrev pub four_of : Option (List Word) → Option (Word × Word × Word × Word
 four_of None = None
 four_of (Some []) = None
 four_of (Some (a ∷ ws)) = option_map (λ p. (a, p.0, p.1, p.2)) (three_of (Some ws))
+
+-- the first word, which is of a kind, and what follows it
+abbrev pub first_of : {A : Type 0} → (Word → Option A) → Option (List Word) → Option A
+first_of f None = None
+first_of f (Some []) = None
+first_of f (Some (w ∷ ws)) = f w
+
+abbrev pub SplitsFirst : {A : Type 0} → (Word → Option A) → Option (List Word) → Option (A × Bor (List ℕ)) → Type 0
+SplitsFirst f words None = first_of f words ≡ None
+SplitsFirst f words (Some r) = (w : Word) × (f w ≡ Some r.0) × (words ≡ option_map (λ ws. w ∷ ws) (words_of r.1.now))
+
+-- four numbers and what follows them, by what these give
+abbrev pub SplitsNumbers : Option (List Word) → Option (ℤ × ℤ × ℤ × ℤ × Bor (List ℕ)) → Type 0
+SplitsNumbers words r =
+    (next : ℤ → ℤ → ℤ → ℤ → List Word → Option Maker) → option_and_then (four_numbers next) words ≡ option_and_then (λ p. option_and_then (next p.0 p.1 p.2 p.3) (words_of p.4.now)) r
 
 -- what stands between quotes are texts
 abbrev pub AreTexts : List Word → Type 0

@@ -1,18 +1,60 @@
 -- How far a run has come, line by line.
-use Rattle.std.specs.Prelude.{◌≡◌, ℕ, ◌<◌, ◌==◌, Bool, true, false, nat_lt, List, length, take, Option, Result, Ok, Err}
+use Rattle.std.specs.Prelude.{◌≡◌, ℕ, ◌+◌, ◌≤◌, ◌==◌, Bool, true, false, if◌then◌else◌, List, length, Option, None, Some, Result, Ok, Err}
 use Rattle.std.specs.List.{list_any}
 use Rattle.std.specs.Io.KnownBytes.{Appends}
-use Rattle.sgb_shell.specs.Lines.{whole_lines, unfinished}
-use Rattle.sgb_shell.specs.Private.Performing.{Kept, IsBegun, lists_of}
+use Rattle.sgb_shell.specs.declared.answer.Answer.{Answer}
+use Rattle.sgb_shell.specs.declared.pending.Pending.{Pending}
+use Rattle.sgb_shell.specs.Lines.{whole_lines, lines, unfinished}
+use Rattle.sgb_shell.specs.Private.Gathering.{IsGathered}
+use Rattle.sgb_shell.specs.Private.Holding.{HeldLine, held_line}
+use Rattle.sgb_shell.specs.Private.Performing.{Kept, IsBegun, Does, lists_of, by_unit}
 use Rattle.sgb_shell.specs.Run.{AppendsPast}
-use Rattle.sgb_shell.specs.Transcript.{course}
+use Rattle.sgb_shell.specs.Transcript.{Course, course, whole_course}
+use Rattle.sgb_shell.specs.Unit.{ScriptUnit, alone, opened, with_line, as_closed, takes_text, is_dot}
 
--- these lines are answered: so many of them are counted and refused, the journal has their commands,
--- and their text is written; lines yet to come want for no memory so far
-pub record Reached (held now : Option (List ℕ)) (ls : List (List ℕ)) (journal : Kept) (count refusals : ℕ) : Type 0 where
+-- ---- one line
+
+-- what a line comes to: a unit that goes on, or one that is answered
+pub data Taken : Type 0 where
+  GoesOn : ScriptUnit → Taken
+  Ends : ScriptUnit → Taken
+
+-- the line of a number, behind a unit whose text goes on, or behind none
+abbrev pub unit_by : ℕ → Option ScriptUnit → List ℕ → Taken
+unit_by number None line = if takes_text line then GoesOn (opened number line) else Ends (alone number line)
+unit_by number (Some u) line = if is_dot line then Ends (as_closed u) else GoesOn (with_line u line)
+
+-- what is gathered of the unit whose text goes on
+abbrev pub Waits : Option ScriptUnit → Option Pending → Type 0
+Waits None None = Unit {0}
+Waits None (Some p) = ⊥
+Waits (Some u) None = ⊥
+Waits (Some u) (Some p) = IsGathered u p
+
+-- what a line comes to is done: nothing yet, or the unit of a number is answered
+abbrev pub Settles : Taken → Kept → Kept → Option Pending → Option (ℕ × Answer) → Type 0
+Settles (GoesOn u) old new pending None = (new ≡ old) × Waits (Some u) pending
+Settles (GoesOn u) old new pending (Some told) = ⊥
+Settles (Ends u) old new pending None = ⊥
+Settles (Ends u) old new pending (Some told) = (told.0 ≡ u.number) × (pending ≡ None) × Does (by_unit u) old new told.1
+
+-- ---- all lines so far
+
+-- the number of the next unit that is answered, where the next line has this number
+abbrev pub number_at : ℕ → Option ScriptUnit → ℕ
+number_at number None = number
+number_at number (Some u) = u.number
+
+abbrev pub unanswered : Course → ℕ
+unanswered c = number_at (c.lines + 1) c.pending
+
+-- these lines are taken: so many of them are counted and refused, the journal has their commands, and their text is
+-- written; units yet to be answered want for no memory so far
+pub record Reached (held now : Option (List ℕ)) (ls : List (List ℕ)) (journal : Kept) (pending : Option Pending) (count refusals : ℕ) : Type 0 where
   pub no_room : List ℕ
-  pub above : (n : ℕ) → length ls < n → list_any (λ k. k == n) no_room ≡ false
+  pub above : (n : ℕ) → unanswered (course no_room ls) ≤ n → list_any (λ k. k == n) no_room ≡ false
   pub lines : count ≡ length ls
+  pub waits : Waits (course no_room ls).pending pending
   pub lists : (course no_room ls).lists ≡ lists_of journal
   pub refused : (course no_room ls).refused ≡ refusals
   pub text : Appends held now (course no_room ls).text
@@ -23,22 +65,37 @@ pub record Stopped (held now : Option (List ℕ)) (first all : List (List ℕ)) 
   pub no_room : List ℕ
   pub text : AppendsPast held now (course no_room first).text (course no_room all).text
 
--- a line's bytes, of which the first 8,192 are kept
-pub record Holds (kept : List ℕ) (is_long : Bool) (line : List ℕ) : Type 0 where
-  pub bytes : kept ≡ take 8192 line
-  pub long : is_long ≡ nat_lt 8192 (length line)
+-- behind the first lines all are taken, or the writer failed
+abbrev pub Finishes : {X E : Type 0} → Option (List ℕ) → Option (List ℕ) → Bool → Bool → List (List ℕ) → List (List ℕ) → Kept → Option Pending → ℕ → ℕ → Result X E → Type 0
+Finishes held now failed failed' first all journal pending lines refused (Ok x) = Reached held now all journal pending lines refused × (failed' ≡ failed)
+Finishes held now failed failed' first all journal pending lines refused (Err e) = Stopped held now first all × (failed' ≡ true)
 
--- the whole lines of the script are answered, and what is unfinished is held
-pub record Progress (held now : Option (List ℕ)) (script : List ℕ) (journal : Kept) (bytes : List ℕ) (is_long : Bool) (lines refused : ℕ) : Type 0 where
-  pub reached : Reached held now (whole_lines script) journal lines refused
-  pub holds : Holds bytes is_long (unfinished script)
+-- ---- the bytes of a script
 
--- behind the first lines all are answered, or the writer failed
-abbrev pub Finishes : {X E : Type 0} → Option (List ℕ) → Option (List ℕ) → Bool → Bool → List (List ℕ) → List (List ℕ) → Kept → ℕ → ℕ → Result X E → Type 0
-Finishes held now failed failed' first all journal lines refused (Ok x) = Reached held now all journal lines refused × (failed' ≡ failed)
-Finishes held now failed failed' first all journal lines refused (Err e) = Stopped held now first all × (failed' ≡ true)
+-- the whole lines of the script are taken, and what is unfinished is held
+pub record Progress (held now : Option (List ℕ)) (script : List ℕ) (journal : Kept) (pending : Option Pending) (line : HeldLine) (lines refused : ℕ) : Type 0 where
+  pub reached : Reached held now (whole_lines script) journal pending lines refused
+  pub holds : line ≡ held_line (unfinished script)
 
 -- bytes are taken behind others of the script, or the writer failed in the text of the lines that they end
-abbrev pub Takes : {X E : Type 0} → Option (List ℕ) → Option (List ℕ) → Bool → Bool → List ℕ → List ℕ → Kept → List ℕ → Bool → ℕ → ℕ → Result X E → Type 0
-Takes held now failed failed' before script journal bytes is_long lines refused (Ok x) = Progress held now script journal bytes is_long lines refused × (failed' ≡ failed)
-Takes held now failed failed' before script journal bytes is_long lines refused (Err e) = Stopped held now (whole_lines before) (whole_lines script) × (failed' ≡ true)
+abbrev pub Takes : {X E : Type 0} → Option (List ℕ) → Option (List ℕ) → Bool → Bool → List ℕ → List ℕ → Kept → Option Pending → HeldLine → ℕ → ℕ → Result X E → Type 0
+Takes held now failed failed' before script journal pending line lines refused (Ok x) = Progress held now script journal pending line lines refused × (failed' ≡ failed)
+Takes held now failed failed' before script journal pending line lines refused (Err e) = Stopped held now (whole_lines before) (whole_lines script) × (failed' ≡ true)
+
+-- ---- the end of the script
+
+-- all is answered, a unit whose text goes on too
+pub record Ended (held now : Option (List ℕ)) (ls : List (List ℕ)) (count refusals : ℕ) : Type 0 where
+  pub no_room : List ℕ
+  pub lines : count ≡ length ls
+  pub refused : (whole_course no_room ls).refused ≡ refusals
+  pub text : Appends held now (whole_course no_room ls).text
+
+-- the writer failed somewhere in the text of all, behind that of the first lines
+pub record StoppedAtEnd (held now : Option (List ℕ)) (first all : List (List ℕ)) : Type 0 where
+  pub no_room : List ℕ
+  pub text : AppendsPast held now (course no_room first).text (whole_course no_room all).text
+
+abbrev pub Concludes : {X E : Type 0} → Option (List ℕ) → Option (List ℕ) → Bool → Bool → List (List ℕ) → List (List ℕ) → ℕ → ℕ → Result X E → Type 0
+Concludes held now failed failed' first all lines refused (Ok x) = Ended held now all lines refused × (failed' ≡ failed)
+Concludes held now failed failed' first all lines refused (Err e) = StoppedAtEnd held now first all × (failed' ≡ true)

@@ -11,7 +11,7 @@ returns-in_err-check_product c =
     let p = err_from_is_err_and c.from_residual.result c.from_residual.ensures.1 in
     let g = c.args.first.now in
     let h = c.args.second.now in
-    rw (p.1, p.2) (refused (refusal_of_product g h c.args.spec.now) (product_plan g h c.args.spec.now) _ c.in_err-check_product.ensures.err)
+    record { made = rw (p.1, p.2) (refused (refusal_of_product g h c.args.spec.now) (product_plan g h c.args.spec.now) _ c.in_err-check_product.ensures.err) }
 
 pub returns-in_err-builder : goal.returns-in_err-builder
 returns-in_err-builder c =
@@ -20,7 +20,7 @@ returns-in_err-builder c =
     let h = c.args.second.now in
     let spec = c.args.spec.now in
     let id = c.in_ok-id.ensures.value in
-    rw (p.1, p.2) (begun_refused (refusal_of_product g h spec) (product_plan g h spec) c.in_ok-id.id _ c.in_ok-check_product.ensures.ok id refl c.in_err-builder.ensures)
+    record { made = rw (p.1, p.2) (begun_refused (refusal_of_product g h spec) (product_plan g h spec) c.in_ok-id.id _ c.in_ok-check_product.ensures.ok id refl c.in_err-builder.ensures) }
 
 pub insert_product-requires : goal.insert_product-requires
 insert_product-requires c = n_pairs c.in_ok-id.id c.args.spec.now.directed c.args.first.now c.args.second.now c.in_ok-builder.ensures
@@ -33,7 +33,7 @@ returns-in_err-insert_product c =
     let spec = c.args.spec.now in
     let id = c.in_ok-id.ensures.value in
     let named = named_so (product_plan g h spec) c.in_ok-id.id id refl c.in_ok-builder.ensures in
-    rw (p.1, p.2) (inserts_refused (refusal_of_product g h spec) (product_plan g h spec) _ c.in_ok-check_product.ensures.ok named c.in_err-insert_product.ensures)
+    record { made = rw (p.1, p.2) (inserts_refused (refusal_of_product g h spec) (product_plan g h spec) _ c.in_ok-check_product.ensures.ok named c.in_err-insert_product.ensures) }
 
 pub returns : goal.returns
 returns c =
@@ -43,4 +43,4 @@ returns c =
     let id = c.in_ok-id.ensures.value in
     let named = named_so (product_plan g h spec) c.in_ok-id.id id refl c.in_ok-builder.ensures in
     let whole = all_inserted (refusal_of_product g h spec) (product_plan g h spec) c.in_ok-check_product.ensures.ok named c.in_ok-insert_product.ensures (subst IsGraph c.finish.ensures.value c.finish.ensures.sound) in
-    rw c.finish.ensures.value whole
+    record { made = rw c.finish.ensures.value whole }

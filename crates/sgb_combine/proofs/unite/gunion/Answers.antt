@@ -13,16 +13,20 @@ returns-in_err-check_operand c =
     let p = err_from_is_err_and c.from_residual.result c.from_residual.ensures.1 in
     let g = c.args.first.now in
     let h = c.args.second.now in
-    rw (p.1, p.2) (refused (refusal_of_operands g h) (gunion_plan g h c.args.spec.now) _
-    (first_some (refusal_of_operand g) (refusal_of_operand h) _ c.in_err-check_operand.ensures.err))
+    record {
+      made = rw (p.1, p.2) (refused (refusal_of_operands g h) (gunion_plan g h c.args.spec.now) _
+          (first_some (refusal_of_operand g) (refusal_of_operand h) _ c.in_err-check_operand.ensures.err));
+    }
 
 pub returns-in_err-check_operand-2 : goal.returns-in_err-check_operand-2
 returns-in_err-check_operand-2 c =
     let p = err_from_is_err_and c.from_residual-in_err-check_operand-2.result c.from_residual-in_err-check_operand-2.ensures.1 in
     let g = c.args.first.now in
     let h = c.args.second.now in
-    rw (p.1, p.2) (refused (refusal_of_operands g h) (gunion_plan g h c.args.spec.now) _
-    (first_none (refusal_of_operand g) (refusal_of_operand h) (Some _) c.in_ok-check_operand.ensures.ok c.in_err-check_operand-2.ensures.err))
+    record {
+      made = rw (p.1, p.2) (refused (refusal_of_operands g h) (gunion_plan g h c.args.spec.now) _
+          (first_none (refusal_of_operand g) (refusal_of_operand h) (Some _) c.in_ok-check_operand.ensures.ok c.in_err-check_operand-2.ensures.err));
+    }
 
 pub returns-in_err-builder : goal.returns-in_err-builder
 returns-in_err-builder c =
@@ -32,7 +36,7 @@ returns-in_err-builder c =
     let spec = c.args.spec.now in
     let none = first_none (refusal_of_operand g) (refusal_of_operand h) None c.in_ok-check_operand.ensures.ok c.in_ok-check_operand-2.ensures.ok in
     let id = c.in_ok-id.ensures.value ∙ ap₂ (λ i j. id_of_two (codes "gunion") i j (flag_text spec.multi ∷ flag_text spec.directed ∷ [])) c.id.ensures.value c.id-2.ensures.value in
-    rw (p.1, p.2) (begun_refused (refusal_of_operands g h) (gunion_plan g h spec) c.in_ok-id.id _ none id refl c.in_err-builder.ensures)
+    record { made = rw (p.1, p.2) (begun_refused (refusal_of_operands g h) (gunion_plan g h spec) c.in_ok-id.id _ none id refl c.in_err-builder.ensures) }
 
 pub insert_unions-requires : goal.insert_unions-requires
 insert_unions-requires c = n_begun c.in_ok-id.id c.args.spec.now.directed c.args.first.now c.in_ok-builder.ensures
@@ -46,7 +50,7 @@ returns-in_err-insert_unions c =
     let none = first_none (refusal_of_operand g) (refusal_of_operand h) None c.in_ok-check_operand.ensures.ok c.in_ok-check_operand-2.ensures.ok in
     let id = c.in_ok-id.ensures.value ∙ ap₂ (λ i j. id_of_two (codes "gunion") i j (flag_text spec.multi ∷ flag_text spec.directed ∷ [])) c.id.ensures.value c.id-2.ensures.value in
     let named = named_so (gunion_plan g h spec) c.in_ok-id.id id refl c.in_ok-builder.ensures in
-    rw (p.1, p.2) (inserts_refused (refusal_of_operands g h) (gunion_plan g h spec) _ none named c.in_err-insert_unions.ensures)
+    record { made = rw (p.1, p.2) (inserts_refused (refusal_of_operands g h) (gunion_plan g h spec) _ none named c.in_err-insert_unions.ensures) }
 
 pub returns : goal.returns
 returns c =
@@ -57,4 +61,4 @@ returns c =
     let id = c.in_ok-id.ensures.value ∙ ap₂ (λ i j. id_of_two (codes "gunion") i j (flag_text spec.multi ∷ flag_text spec.directed ∷ [])) c.id.ensures.value c.id-2.ensures.value in
     let named = named_so (gunion_plan g h spec) c.in_ok-id.id id refl c.in_ok-builder.ensures in
     let whole = all_inserted (refusal_of_operands g h) (gunion_plan g h spec) none named c.in_ok-insert_unions.ensures (subst IsGraph c.finish.ensures.value c.finish.ensures.sound) in
-    rw c.finish.ensures.value whole
+    record { made = rw c.finish.ensures.value whole }

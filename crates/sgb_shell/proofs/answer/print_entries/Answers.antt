@@ -2,7 +2,7 @@ use Rattle.std.proofs.Common.{◌<◌, ◌≤◌, length, arith}
 use Rattle.std.proofs.lemmas.Result.{err_from_is_err_and}
 use Rattle.std.proofs.lemmas.List.{get_or_default}
 use Rattle.sgb_shell.specs.Answer.{entry_text}
-use Rattle.sgb_shell.specs.Table.{entry_in, no_entry}
+use Rattle.sgb_session.specs.Table.{entry_in, no_entry}
 use Rattle.sgb_print.proofs.Printing.{one_item, failing_item, last_item}
 use Rattle.sgb_shell.proofs.answer.print_entries.Goals as goal
 

@@ -1,15 +1,18 @@
-use Rattle.std.proofs.Common.{◌∙◌, ap}
-use Rattle.sgb_shell.specs.Transcript.{asked_of}
-use Rattle.sgb_shell.proofs.Performing.{read_does, refused_does, asked_does}
+use Rattle.std.proofs.Common.{◌∙◌, ap, subst, refl}
+use Rattle.sgb_shell.specs.Private.Performing.{Answers}
+use Rattle.sgb_shell.proofs.Performing.{read_does, changed_does, refused_does, asked_does, load_does}
 use Rattle.sgb_shell.proofs.perform.perform.Goals as goal
 
 pub returns-in-Ok-Change : goal.returns-in-Ok-Change
-returns-in-Ok-Change c b = read_does _ _ _ _ _ _ c.in-Ok-Change.ensures.ok c.in-Ok-Change.field-0-is (c.change.ensures b)
+returns-in-Ok-Change c b = read_does _ _ _ _ _ _ c.in-Ok-Change.ensures.ok c.in-Ok-Change.field-0-is (changed_does _ _ _ _ (c.change.ensures b))
 
 pub returns-in-Ok-Ask : goal.returns-in-Ok-Ask
 returns-in-Ok-Ask c b =
     read_does _ _ _ _ _ _ c.in-Ok-Ask.ensures.ok c.in-Ok-Ask.field-0-is
-    (asked_does _ c.in-Ok-Ask.query _ b (c.ask.ensures ∙ ap (λ s. asked_of s c.in-Ok-Ask.query) c.machine.ensures.value))
+    (asked_does _ c.in-Ok-Ask.query _ b (subst (λ s. Answers s c.in-Ok-Ask.query c.ask.result) c.machine.ensures.value c.ask.ensures))
+
+pub returns-in-Ok-Load : goal.returns-in-Ok-Load
+returns-in-Ok-Load c b = load_does _ _ _ _ _ c.in-Ok-Load.ensures.ok c.in-Ok-Load.field-0-is b
 
 pub returns-in-Err : goal.returns-in-Err
 returns-in-Err c b = refused_does _ _ _ b c.in-Err.ensures.err

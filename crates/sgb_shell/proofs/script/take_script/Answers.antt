@@ -8,7 +8,11 @@ use Rattle.sgb_shell.proofs.script.take_script.Goals as goal
 
 pub returns-in_err-count : goal.returns-in_err-count
 returns-in_err-count g c = let p = err_from_is_err_and c.from_residual.result c.from_residual.ensures.1 in
-    rw (p.1, p.2) (failed_read _ _ _ _ _ _ _ _ _ _ _ _ _ _ _ _ _ _ _ _ c.loop-room.room c.read_on.new.chunk _ c.loop-room.invariant c.in_err-count.ensures)
+    rw (p.1, p.2) (failed_read _ _ _ _ _ _ _ _ _ _ _ _ _ _ _ _ _ _ _ c.loop-room.room c.read_on.new.chunk _ c.loop-room.invariant c.in_err-count.ensures)
+
+pub returns-in_err-more : goal.returns-in_err-more
+returns-in_err-more g c = let p = err_from_is_err_and c.from_residual-in_err-more.result c.from_residual-in_err-more.ensures.1 in
+    rw (p.1, p.2) (failed_read _ _ _ _ _ _ _ _ _ _ _ _ _ _ _ _ _ _ _ 1 c.read_on-2.new.chunk _ c.loop-room.invariant c.in_err-more.ensures)
 
 pub returns-then-is_err : goal.returns-then-is_err
 returns-then-is_err g c =
@@ -19,7 +23,7 @@ returns-then-is_err g c =
     let size : length bytes ≡ n = ap length c.split_at.ensures.front ∙ length-take-le n c.read_on.new.chunk read.1 in
     let whole : length (run.script ++ bytes) ≡ length run.script + n = length-append run.script bytes ∙ ap (λ k. length run.script + k) size in
     let taken = takes_err _ _ _ _ run.script _ _ _ _ _ _ c.take.result (sym c.is_err.ensures.value ∙ c.if-is_err.true)
-    (c.take.ensures.takes _ run.script (still_few run.script bytes _ n run.rest size read.0) (progress_kept _ _ _ _ _ _ _ _ _ read.6 run.progress)) in record {
+    (c.take.ensures _ run.script (still_few run.script bytes _ n run.rest size read.0) (progress_kept _ _ _ _ _ _ _ _ _ read.6 run.progress)) in record {
       script = run.script ++ bytes;
       few = let rest = run.rest in let within = read.0 in omega arith;
       seldom = let few = run.seldom in let more = read.5 in omega arith;
@@ -40,7 +44,7 @@ loop-room-preserved g c =
     let size : length bytes ≡ n = ap length c.split_at.ensures.front ∙ length-take-le n c.read_on.new.chunk read.1 in
     let whole : length (run.script ++ bytes) ≡ length run.script + n = length-append run.script bytes ∙ ap (λ k. length run.script + k) size in
     let taken = takes_ok _ _ _ _ run.script _ _ _ _ _ _ c.take.result (sym c.is_err.ensures.value ∙ c.if-is_err.false)
-    (c.take.ensures.takes _ run.script (still_few run.script bytes _ n run.rest size read.0) (progress_kept _ _ _ _ _ _ _ _ _ read.6 run.progress)) in record {
+    (c.take.ensures _ run.script (still_few run.script bytes _ n run.rest size read.0) (progress_kept _ _ _ _ _ _ _ _ _ read.6 run.progress)) in record {
       script = run.script ++ bytes;
       taken = Consumes-trans _ _ _ run.script bytes run.taken (subst (Consumes _ _) (sym c.split_at.ensures.front) read.2);
       rest = let rest = run.rest in let within = read.0 in omega arith;
@@ -48,7 +52,6 @@ loop-room-preserved g c =
       reader = read.4;
       writer = taken.1 ∙ read.7;
       progress = taken.0;
-      large = let large = run.large in let same = c.take.ensures.room in omega arith;
     }
 
 pub returns-then-more-gt0 : goal.returns-then-more-gt0

@@ -1,5 +1,5 @@
 use Rattle.std.proofs.Common.{◌≡◌, map, min, take}
 use Rattle.sgb_simplex.proofs.bounds.cut_to.Given as goal
 
-abbrev pub invariant-loop-number : goal.invariant-loop-number
-invariant-loop-number l = l.cut.items ≡ map (λ b. min b l.n) (take l.number-index l.list)
+abbrev pub invariant-loop-i : goal.invariant-loop-i
+invariant-loop-i l = take l.i l.places ≡ map (λ b. min b l.n) (take l.i l.list)

@@ -13,17 +13,17 @@ invariant_of-self c =
     let a = c.self.inside in
     let k = c.args.number.0 in
     let tested = sym c.can_cut.ensures.value ∙ c.if-not-can_cut.false in
-    let x : CutCan a g k c.deref_mut.result.now c.deref_mut-2.result.now = record {
+    let x : CutCan a g k c.deref_mut.result.now c.self.inside.slots = record {
       opened = opened a g c.self.view_is c.self.invariant;
       can = can_cut_is g k tested;
       vertices = c.deref_mut.ensures.value;
-      slots = c.deref_mut-2.ensures.value;
+      slots = refl;
     } in
-    let b : Inside = record { id = a.id; types = a.types; fields = a.fields; vertices = with_items a.vertices c.take_out-arc.new.vertices; slots = with_items a.slots c.take_out-arc.new.slots; live = a.live - 1 } in
+    let b : Inside = record { id = a.id; types = a.types; fields = a.fields; vertices = with_items a.vertices c.take_out-arc.new.vertices; slots = c.take_out-arc.new.slots; live = a.live - 1 } in
     let own : SameOwn a b = record { id = refl; types = refl; fields = refl } in
     (cut_left a b g k c.take_out-arc.result _ _ _ _ x (cut_accepted g k tested) c.take_out-arc.ensures
     (with_items_is a.vertices c.take_out-arc.new.vertices (c.take_out-arc.auto.vertices ∙ c.deref_mut.ensures.len))
-    (with_items_is a.slots c.take_out-arc.new.slots (c.take_out-arc.auto.slots ∙ c.deref_mut-2.ensures.len))
+    refl
     refl own).arena
 
 pub returns-clause-graph : goal.returns-clause-graph
@@ -32,17 +32,17 @@ returns-clause-graph c =
     let a = c.self.inside in
     let k = c.args.number.0 in
     let tested = sym c.can_cut.ensures.value ∙ c.if-not-can_cut.false in
-    let x : CutCan a g k c.deref_mut.result.now c.deref_mut-2.result.now = record {
+    let x : CutCan a g k c.deref_mut.result.now c.self.inside.slots = record {
       opened = opened a g c.self.view_is c.self.invariant;
       can = can_cut_is g k tested;
       vertices = c.deref_mut.ensures.value;
-      slots = c.deref_mut-2.ensures.value;
+      slots = refl;
     } in
-    let b : Inside = record { id = a.id; types = a.types; fields = a.fields; vertices = with_items a.vertices c.take_out-arc.new.vertices; slots = with_items a.slots c.take_out-arc.new.slots; live = a.live - 1 } in
+    let b : Inside = record { id = a.id; types = a.types; fields = a.fields; vertices = with_items a.vertices c.take_out-arc.new.vertices; slots = c.take_out-arc.new.slots; live = a.live - 1 } in
     let own : SameOwn a b = record { id = refl; types = refl; fields = refl } in
     (cut_left a b g k c.take_out-arc.result _ _ _ _ x (cut_accepted g k tested) c.take_out-arc.ensures
     (with_items_is a.vertices c.take_out-arc.new.vertices (c.take_out-arc.auto.vertices ∙ c.deref_mut.ensures.len))
-    (with_items_is a.slots c.take_out-arc.new.slots (c.take_out-arc.auto.slots ∙ c.deref_mut-2.ensures.len))
+    refl
     refl own).graph
 
 pub returns-clause-left : goal.returns-clause-left
@@ -51,17 +51,17 @@ returns-clause-left c =
     let a = c.self.inside in
     let k = c.args.number.0 in
     let tested = sym c.can_cut.ensures.value ∙ c.if-not-can_cut.false in
-    let x : CutCan a g k c.deref_mut.result.now c.deref_mut-2.result.now = record {
+    let x : CutCan a g k c.deref_mut.result.now c.self.inside.slots = record {
       opened = opened a g c.self.view_is c.self.invariant;
       can = can_cut_is g k tested;
       vertices = c.deref_mut.ensures.value;
-      slots = c.deref_mut-2.ensures.value;
+      slots = refl;
     } in
-    let b : Inside = record { id = a.id; types = a.types; fields = a.fields; vertices = with_items a.vertices c.take_out-arc.new.vertices; slots = with_items a.slots c.take_out-arc.new.slots; live = a.live - 1 } in
+    let b : Inside = record { id = a.id; types = a.types; fields = a.fields; vertices = with_items a.vertices c.take_out-arc.new.vertices; slots = c.take_out-arc.new.slots; live = a.live - 1 } in
     let own : SameOwn a b = record { id = refl; types = refl; fields = refl } in
     (cut_left a b g k c.take_out-arc.result _ _ _ _ x (cut_accepted g k tested) c.take_out-arc.ensures
     (with_items_is a.vertices c.take_out-arc.new.vertices (c.take_out-arc.auto.vertices ∙ c.deref_mut.ensures.len))
-    (with_items_is a.slots c.take_out-arc.new.slots (c.take_out-arc.auto.slots ∙ c.deref_mut-2.ensures.len))
+    refl
     refl own).left
 
 pub returns-clause-sound : goal.returns-clause-sound
@@ -70,15 +70,15 @@ returns-clause-sound c =
     let a = c.self.inside in
     let k = c.args.number.0 in
     let tested = sym c.can_cut.ensures.value ∙ c.if-not-can_cut.false in
-    let x : CutCan a g k c.deref_mut.result.now c.deref_mut-2.result.now = record {
+    let x : CutCan a g k c.deref_mut.result.now c.self.inside.slots = record {
       opened = opened a g c.self.view_is c.self.invariant;
       can = can_cut_is g k tested;
       vertices = c.deref_mut.ensures.value;
-      slots = c.deref_mut-2.ensures.value;
+      slots = refl;
     } in
-    let b : Inside = record { id = a.id; types = a.types; fields = a.fields; vertices = with_items a.vertices c.take_out-arc.new.vertices; slots = with_items a.slots c.take_out-arc.new.slots; live = a.live - 1 } in
+    let b : Inside = record { id = a.id; types = a.types; fields = a.fields; vertices = with_items a.vertices c.take_out-arc.new.vertices; slots = c.take_out-arc.new.slots; live = a.live - 1 } in
     let own : SameOwn a b = record { id = refl; types = refl; fields = refl } in
     (cut_left a b g k c.take_out-arc.result _ _ _ _ x (cut_accepted g k tested) c.take_out-arc.ensures
     (with_items_is a.vertices c.take_out-arc.new.vertices (c.take_out-arc.auto.vertices ∙ c.deref_mut.ensures.len))
-    (with_items_is a.slots c.take_out-arc.new.slots (c.take_out-arc.auto.slots ∙ c.deref_mut-2.ensures.len))
+    refl
     refl own).sound

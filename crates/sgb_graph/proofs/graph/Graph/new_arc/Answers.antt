@@ -1,91 +1,121 @@
-use Rattle.std.proofs.Common.{◌∙◌, ap, refl, arith, ◌+◌, ◌++◌, ◌∷◌, [], None}
+use Rattle.std.proofs.Common.{◌∙◌, ap, sym, refl, arith, ◌+◌, ◌++◌, ◌∷◌, [], None, Some}
 use Rattle.std.proofs.Common.{to_z, of_z}
 use Rattle.std.specs.Int.{w64}
 use Rattle.std.specs.Vec.{with_items}
 use Rattle.std.proofs.lemmas.List.{with_items_is}
 use Rattle.sgb_graph.specs.declared.graph.Graph.TheInside.{Inside}
 use Rattle.sgb_graph.specs.Field.{arc_no}
-use Rattle.sgb_graph.specs.Private.Insert.{new_cut}
+use Rattle.sgb_graph.specs.Private.Insert.{new_cut, new_slot}
+use Rattle.sgb_graph.specs.Private.Link.{PutsBack, vertex_in, vertices_relinked}
 use Rattle.sgb_graph.proofs.Shows.{opened}
 use Rattle.sgb_graph.proofs.InsertLemmas.{NewArcCan, SameOwn, new_cut_is, new_arc_done}
+use Rattle.sgb_graph.proofs.Pushing.{arc_pushed}
 use Rattle.sgb_graph.proofs.graph.Graph.new_arc.Goals as goal
 
 pub invariant_of-self-2 : goal.invariant_of-self-2
 invariant_of-self-2 c =
     let a = c.self.inside in
-    let cut = new_cut (arc_no c.made-2.result) c.args.from c.args.to (to_z w64 (of_z w64 c.args.len)) in
-    let k : NewArcCan a c.args.self.now c.args.from c.args.to c.args.len cut c.deref_mut.result.now (c.reserve.new.self.items ++ None ∷ []) = record {
-      opened = opened a c.args.self.now c.self.view_is c.self.invariant;
+    let g = c.args.self.now in
+    let z = to_z w64 (of_z w64 c.args.len) in
+    let number = arc_no c.made-2.result in
+    let cut = new_cut number c.args.from c.args.to z in
+    let k : NewArcCan a g c.args.from c.args.to c.args.len cut a.vertices.items (a.slots ++ None ∷ []) = record {
+      opened = opened a g c.self.view_is c.self.invariant;
       from = omega arith;
       to = omega arith;
       few = omega arith;
       fits = c.ranges.len;
       cut = new_cut_is c.args.from c.args.to c.args.len c.ranges.len refl c.made-2.ensures.value;
-      vertices = c.deref_mut.ensures.value;
-      slots = ap (λ l. l ++ None ∷ []) c.in_ok-reserve.ensures.items;
+      vertices = refl;
+      slots = refl;
     } in
-    let b : Inside = record { id = a.id; types = a.types; fields = a.fields; vertices = with_items a.vertices c.push_arc.new.vertices; slots = c.push_arc.new.slots; live = a.live + 1 } in
+    let puts : PutsBack a.vertices.items (a.slots ++ None ∷ []) cut c.link_first.new.vertices c.push.new.self =
+    arc_pushed a.vertices.items c.link_first.new.vertices a.slots c.push.new.self number c.args.from c.args.to z c.first_of-next.result (new_slot c.args.from c.args.to c.first_of-next.result z)
+    (c.made-2.ensures.value ∙ sym k.opened.shows.made) (c.first_of-next.ensures ∙ ap (λ vs. (vertex_in vs c.args.from.0).first) c.deref.ensures.value)
+    (c.link_first.ensures ∙ ap (λ vs. vertices_relinked vs c.args.from.0 None (Some number)) c.deref_mut.ensures.value) refl c.in_ok-push.ensures.ok in
+    let b : Inside = record { id = a.id; types = a.types; fields = a.fields; vertices = with_items a.vertices c.link_first.new.vertices; slots = c.push.new.self; live = a.live + 1 } in
     let own : SameOwn a b = record { id = refl; types = refl; fields = refl } in
-    (new_arc_done a b c.args.self.now c.args.from c.args.to c.args.len cut _ _ _ _ _ k c.push_arc.ensures
-    (with_items_is a.vertices c.push_arc.new.vertices (c.push_arc.auto.vertices ∙ c.deref_mut.ensures.len))
+    (new_arc_done a b g c.args.from c.args.to c.args.len cut _ _ _ _ _ k puts
+    (with_items_is a.vertices c.link_first.new.vertices (c.link_first.auto.vertices ∙ c.deref_mut.ensures.len))
     refl refl own (ap arc_no c.made-2.ensures.value)).arena
 
 pub returns-clause-graph : goal.returns-clause-graph
 returns-clause-graph c =
     let a = c.self.inside in
-    let cut = new_cut (arc_no c.made-2.result) c.args.from c.args.to (to_z w64 (of_z w64 c.args.len)) in
-    let k : NewArcCan a c.args.self.now c.args.from c.args.to c.args.len cut c.deref_mut.result.now (c.reserve.new.self.items ++ None ∷ []) = record {
-      opened = opened a c.args.self.now c.self.view_is c.self.invariant;
+    let g = c.args.self.now in
+    let z = to_z w64 (of_z w64 c.args.len) in
+    let number = arc_no c.made-2.result in
+    let cut = new_cut number c.args.from c.args.to z in
+    let k : NewArcCan a g c.args.from c.args.to c.args.len cut a.vertices.items (a.slots ++ None ∷ []) = record {
+      opened = opened a g c.self.view_is c.self.invariant;
       from = omega arith;
       to = omega arith;
       few = omega arith;
       fits = c.ranges.len;
       cut = new_cut_is c.args.from c.args.to c.args.len c.ranges.len refl c.made-2.ensures.value;
-      vertices = c.deref_mut.ensures.value;
-      slots = ap (λ l. l ++ None ∷ []) c.in_ok-reserve.ensures.items;
+      vertices = refl;
+      slots = refl;
     } in
-    let b : Inside = record { id = a.id; types = a.types; fields = a.fields; vertices = with_items a.vertices c.push_arc.new.vertices; slots = c.push_arc.new.slots; live = a.live + 1 } in
+    let puts : PutsBack a.vertices.items (a.slots ++ None ∷ []) cut c.link_first.new.vertices c.push.new.self =
+    arc_pushed a.vertices.items c.link_first.new.vertices a.slots c.push.new.self number c.args.from c.args.to z c.first_of-next.result (new_slot c.args.from c.args.to c.first_of-next.result z)
+    (c.made-2.ensures.value ∙ sym k.opened.shows.made) (c.first_of-next.ensures ∙ ap (λ vs. (vertex_in vs c.args.from.0).first) c.deref.ensures.value)
+    (c.link_first.ensures ∙ ap (λ vs. vertices_relinked vs c.args.from.0 None (Some number)) c.deref_mut.ensures.value) refl c.in_ok-push.ensures.ok in
+    let b : Inside = record { id = a.id; types = a.types; fields = a.fields; vertices = with_items a.vertices c.link_first.new.vertices; slots = c.push.new.self; live = a.live + 1 } in
     let own : SameOwn a b = record { id = refl; types = refl; fields = refl } in
-    (new_arc_done a b c.args.self.now c.args.from c.args.to c.args.len cut _ _ _ _ _ k c.push_arc.ensures
-    (with_items_is a.vertices c.push_arc.new.vertices (c.push_arc.auto.vertices ∙ c.deref_mut.ensures.len))
+    (new_arc_done a b g c.args.from c.args.to c.args.len cut _ _ _ _ _ k puts
+    (with_items_is a.vertices c.link_first.new.vertices (c.link_first.auto.vertices ∙ c.deref_mut.ensures.len))
     refl refl own (ap arc_no c.made-2.ensures.value)).graph
 
 pub returns-clause-left : goal.returns-clause-left
 returns-clause-left c =
     let a = c.self.inside in
-    let cut = new_cut (arc_no c.made-2.result) c.args.from c.args.to (to_z w64 (of_z w64 c.args.len)) in
-    let k : NewArcCan a c.args.self.now c.args.from c.args.to c.args.len cut c.deref_mut.result.now (c.reserve.new.self.items ++ None ∷ []) = record {
-      opened = opened a c.args.self.now c.self.view_is c.self.invariant;
+    let g = c.args.self.now in
+    let z = to_z w64 (of_z w64 c.args.len) in
+    let number = arc_no c.made-2.result in
+    let cut = new_cut number c.args.from c.args.to z in
+    let k : NewArcCan a g c.args.from c.args.to c.args.len cut a.vertices.items (a.slots ++ None ∷ []) = record {
+      opened = opened a g c.self.view_is c.self.invariant;
       from = omega arith;
       to = omega arith;
       few = omega arith;
       fits = c.ranges.len;
       cut = new_cut_is c.args.from c.args.to c.args.len c.ranges.len refl c.made-2.ensures.value;
-      vertices = c.deref_mut.ensures.value;
-      slots = ap (λ l. l ++ None ∷ []) c.in_ok-reserve.ensures.items;
+      vertices = refl;
+      slots = refl;
     } in
-    let b : Inside = record { id = a.id; types = a.types; fields = a.fields; vertices = with_items a.vertices c.push_arc.new.vertices; slots = c.push_arc.new.slots; live = a.live + 1 } in
+    let puts : PutsBack a.vertices.items (a.slots ++ None ∷ []) cut c.link_first.new.vertices c.push.new.self =
+    arc_pushed a.vertices.items c.link_first.new.vertices a.slots c.push.new.self number c.args.from c.args.to z c.first_of-next.result (new_slot c.args.from c.args.to c.first_of-next.result z)
+    (c.made-2.ensures.value ∙ sym k.opened.shows.made) (c.first_of-next.ensures ∙ ap (λ vs. (vertex_in vs c.args.from.0).first) c.deref.ensures.value)
+    (c.link_first.ensures ∙ ap (λ vs. vertices_relinked vs c.args.from.0 None (Some number)) c.deref_mut.ensures.value) refl c.in_ok-push.ensures.ok in
+    let b : Inside = record { id = a.id; types = a.types; fields = a.fields; vertices = with_items a.vertices c.link_first.new.vertices; slots = c.push.new.self; live = a.live + 1 } in
     let own : SameOwn a b = record { id = refl; types = refl; fields = refl } in
-    (new_arc_done a b c.args.self.now c.args.from c.args.to c.args.len cut _ _ _ _ _ k c.push_arc.ensures
-    (with_items_is a.vertices c.push_arc.new.vertices (c.push_arc.auto.vertices ∙ c.deref_mut.ensures.len))
+    (new_arc_done a b g c.args.from c.args.to c.args.len cut _ _ _ _ _ k puts
+    (with_items_is a.vertices c.link_first.new.vertices (c.link_first.auto.vertices ∙ c.deref_mut.ensures.len))
     refl refl own (ap arc_no c.made-2.ensures.value)).left
 
 pub returns-clause-sound : goal.returns-clause-sound
 returns-clause-sound c =
     let a = c.self.inside in
-    let cut = new_cut (arc_no c.made-2.result) c.args.from c.args.to (to_z w64 (of_z w64 c.args.len)) in
-    let k : NewArcCan a c.args.self.now c.args.from c.args.to c.args.len cut c.deref_mut.result.now (c.reserve.new.self.items ++ None ∷ []) = record {
-      opened = opened a c.args.self.now c.self.view_is c.self.invariant;
+    let g = c.args.self.now in
+    let z = to_z w64 (of_z w64 c.args.len) in
+    let number = arc_no c.made-2.result in
+    let cut = new_cut number c.args.from c.args.to z in
+    let k : NewArcCan a g c.args.from c.args.to c.args.len cut a.vertices.items (a.slots ++ None ∷ []) = record {
+      opened = opened a g c.self.view_is c.self.invariant;
       from = omega arith;
       to = omega arith;
       few = omega arith;
       fits = c.ranges.len;
       cut = new_cut_is c.args.from c.args.to c.args.len c.ranges.len refl c.made-2.ensures.value;
-      vertices = c.deref_mut.ensures.value;
-      slots = ap (λ l. l ++ None ∷ []) c.in_ok-reserve.ensures.items;
+      vertices = refl;
+      slots = refl;
     } in
-    let b : Inside = record { id = a.id; types = a.types; fields = a.fields; vertices = with_items a.vertices c.push_arc.new.vertices; slots = c.push_arc.new.slots; live = a.live + 1 } in
+    let puts : PutsBack a.vertices.items (a.slots ++ None ∷ []) cut c.link_first.new.vertices c.push.new.self =
+    arc_pushed a.vertices.items c.link_first.new.vertices a.slots c.push.new.self number c.args.from c.args.to z c.first_of-next.result (new_slot c.args.from c.args.to c.first_of-next.result z)
+    (c.made-2.ensures.value ∙ sym k.opened.shows.made) (c.first_of-next.ensures ∙ ap (λ vs. (vertex_in vs c.args.from.0).first) c.deref.ensures.value)
+    (c.link_first.ensures ∙ ap (λ vs. vertices_relinked vs c.args.from.0 None (Some number)) c.deref_mut.ensures.value) refl c.in_ok-push.ensures.ok in
+    let b : Inside = record { id = a.id; types = a.types; fields = a.fields; vertices = with_items a.vertices c.link_first.new.vertices; slots = c.push.new.self; live = a.live + 1 } in
     let own : SameOwn a b = record { id = refl; types = refl; fields = refl } in
-    (new_arc_done a b c.args.self.now c.args.from c.args.to c.args.len cut _ _ _ _ _ k c.push_arc.ensures
-    (with_items_is a.vertices c.push_arc.new.vertices (c.push_arc.auto.vertices ∙ c.deref_mut.ensures.len))
+    (new_arc_done a b g c.args.from c.args.to c.args.len cut _ _ _ _ _ k puts
+    (with_items_is a.vertices c.link_first.new.vertices (c.link_first.auto.vertices ∙ c.deref_mut.ensures.len))
     refl refl own (ap arc_no c.made-2.ensures.value)).sound

@@ -1,4 +1,4 @@
-use Rattle.std.proofs.Common.{◌≡◌, ◌∙◌, ap, sym, refl, arith, map}
+use Rattle.std.proofs.Common.{◌≡◌, ◌∙◌, ◌++◌, ◌∷◌, [], ap, sym, refl, arith, map}
 use Rattle.sgb_graph.specs.declared.graph.Graph.TheInside.{Inside}
 use Rattle.sgb_graph.specs.Edit.{stored}
 use Rattle.sgb_graph.specs.Set.{IsStorable}
@@ -17,7 +17,7 @@ invariant_of-self-2 c =
     let six : length (map stored c.args.fields) ≡ 6 = ap length (sym c.stored_six-fields.ensures.value) ∙ c.stored_six-fields.ensures.six in
     let after : Opened b (with_vertex_last g (new_vertex c.args.label c.args.fields)) =
     grow_opened a b g c.args.label c.args.fields _ (opened a g c.self.view_is c.self.invariant) (omega arith) c.bytes.ensures.text six c.requires storable
-    (vertex_is c.args.label c.args.label c.stored_six-fields.result (map stored c.args.fields) refl c.stored_six-fields.ensures.value) refl refl refl refl refl c.in_ok-push.ensures.items in
+    (vertex_is c.args.label c.args.label c.stored_six-fields.result (map stored c.args.fields) refl c.stored_six-fields.ensures.value) refl refl refl refl refl (c.in_ok-push.ensures.items ∙ ap (λ f. a.vertices.items ++ record { label = c.args.label; fields = c.stored_six-fields.result; first = f } ∷ []) c.none.ensures) in
     closed_arena b _ after
 
 pub returns-clause-ok : goal.returns-clause-ok
@@ -29,5 +29,5 @@ returns-clause-ok c =
     let six : length (map stored c.args.fields) ≡ 6 = ap length (sym c.stored_six-fields.ensures.value) ∙ c.stored_six-fields.ensures.six in
     let after : Opened b (with_vertex_last g (new_vertex c.args.label c.args.fields)) =
     grow_opened a b g c.args.label c.args.fields _ (opened a g c.self.view_is c.self.invariant) (omega arith) c.bytes.ensures.text six c.requires storable
-    (vertex_is c.args.label c.args.label c.stored_six-fields.result (map stored c.args.fields) refl c.stored_six-fields.ensures.value) refl refl refl refl refl c.in_ok-push.ensures.items in
+    (vertex_is c.args.label c.args.label c.stored_six-fields.result (map stored c.args.fields) refl c.stored_six-fields.ensures.value) refl refl refl refl refl (c.in_ok-push.ensures.items ∙ ap (λ f. a.vertices.items ++ record { label = c.args.label; fields = c.stored_six-fields.result; first = f } ∷ []) c.none.ensures) in
     closed b _ after

@@ -1,48 +1,46 @@
-use Rattle.std.proofs.Common.{◌∙◌, refl}
+use Rattle.std.proofs.Common.{refl}
 use Rattle.sgb_graph.specs.declared.graph.Graph.TheInside.{Inside}
 use Rattle.sgb_graph.specs.Graph.{GraphOf}
 use Rattle.sgb_graph.proofs.Shows.{Opened, closed, closed_arena}
 use Rattle.std.specs.Int.{w64}
-use Rattle.std.specs.Vec.{with_items}
 use Rattle.std.proofs.lemmas.Int.{to_z-of_z}
-use Rattle.std.proofs.lemmas.List.{with_items_is}
 use Rattle.sgb_graph.specs.Delta.{LeftByLen}
 use Rattle.sgb_graph.proofs.SetLemmas.{revert_len_slot, revert_len_after}
 use Rattle.sgb_graph.proofs.graph.Graph.revert_len.Goals as goal
 
 pub replace_len-requires : goal.replace_len-requires
 replace_len-requires c =
-    revert_len_slot c.self.inside c.args.self.now c.args.number c.args.len _ c.requires.0 c.self.view_is c.self.invariant c.requires.1 c.deref_mut.ensures.value
+    revert_len_slot c.self.inside c.args.self.now c.args.number c.args.len _ c.requires.0 c.self.view_is c.self.invariant c.requires.1 refl
 
 pub invariant_of-self : goal.invariant_of-self
 invariant_of-self c =
     let a = c.self.inside in
     let h = c.args.self.now in
-    let b : Inside = record { id = a.id; types = a.types; fields = a.fields; vertices = a.vertices; slots = with_items a.slots c.replace_len.new.slots; live = a.live } in
+    let b : Inside = record { id = a.id; types = a.types; fields = a.fields; vertices = a.vertices; slots = c.replace_len.new.self; live = a.live } in
     let after : (g : GraphOf) → LeftByLen g c.args.number c.args.len h → Opened b g = λ g l.
     revert_len_after a b h c.args.number c.args.len _ _ _ g c.self.view_is c.self.invariant l (to_z-of_z w64 c.args.len c.ranges.len)
-    c.deref_mut.ensures.value c.replace_len.ensures.slots refl refl refl refl refl
-    (with_items_is a.slots c.replace_len.new.slots (c.replace_len.auto.slots ∙ c.deref_mut.ensures.len)) in
+    refl c.replace_len.ensures.slots refl refl refl refl refl
+    refl in
     closed_arena b c.requires.0 (after c.requires.0 c.requires.1)
 
 pub returns-clause-back : goal.returns-clause-back
 returns-clause-back c =
     let a = c.self.inside in
     let h = c.args.self.now in
-    let b : Inside = record { id = a.id; types = a.types; fields = a.fields; vertices = a.vertices; slots = with_items a.slots c.replace_len.new.slots; live = a.live } in
+    let b : Inside = record { id = a.id; types = a.types; fields = a.fields; vertices = a.vertices; slots = c.replace_len.new.self; live = a.live } in
     let after : (g : GraphOf) → LeftByLen g c.args.number c.args.len h → Opened b g = λ g l.
     revert_len_after a b h c.args.number c.args.len _ _ _ g c.self.view_is c.self.invariant l (to_z-of_z w64 c.args.len c.ranges.len)
-    c.deref_mut.ensures.value c.replace_len.ensures.slots refl refl refl refl refl
-    (with_items_is a.slots c.replace_len.new.slots (c.replace_len.auto.slots ∙ c.deref_mut.ensures.len)) in
+    refl c.replace_len.ensures.slots refl refl refl refl refl
+    refl in
     λ g l. closed b g (after g l)
 
 pub returns-clause-sound : goal.returns-clause-sound
 returns-clause-sound c =
     let a = c.self.inside in
     let h = c.args.self.now in
-    let b : Inside = record { id = a.id; types = a.types; fields = a.fields; vertices = a.vertices; slots = with_items a.slots c.replace_len.new.slots; live = a.live } in
+    let b : Inside = record { id = a.id; types = a.types; fields = a.fields; vertices = a.vertices; slots = c.replace_len.new.self; live = a.live } in
     let after : (g : GraphOf) → LeftByLen g c.args.number c.args.len h → Opened b g = λ g l.
     revert_len_after a b h c.args.number c.args.len _ _ _ g c.self.view_is c.self.invariant l (to_z-of_z w64 c.args.len c.ranges.len)
-    c.deref_mut.ensures.value c.replace_len.ensures.slots refl refl refl refl refl
-    (with_items_is a.slots c.replace_len.new.slots (c.replace_len.auto.slots ∙ c.deref_mut.ensures.len)) in
+    refl c.replace_len.ensures.slots refl refl refl refl refl
+    refl in
     (closed_arena b c.requires.0 (after c.requires.0 c.requires.1)).graph

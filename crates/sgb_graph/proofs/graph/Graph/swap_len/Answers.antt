@@ -1,8 +1,6 @@
-use Rattle.std.proofs.Common.{◌≡◌, ◌∙◌, refl, true}
+use Rattle.std.proofs.Common.{◌≡◌, refl, true}
 use Rattle.std.specs.Int.{w64}
-use Rattle.std.specs.Vec.{with_items}
 use Rattle.std.proofs.lemmas.Int.{to_z-of_z}
-use Rattle.std.proofs.lemmas.List.{with_items_is}
 use Rattle.sgb_graph.specs.declared.graph.Graph.TheInside.{Inside}
 use Rattle.sgb_graph.specs.Graph.{has_arc}
 use Rattle.sgb_graph.proofs.SetLemmas.{len_done}
@@ -13,37 +11,37 @@ invariant_of-self c =
     let a = c.self.inside in
     let g = c.args.self.now in
     let there : has_arc g c.args.number.0 ≡ true = c.requires in
-    let b : Inside = record { id = a.id; types = a.types; fields = a.fields; vertices = a.vertices; slots = with_items a.slots c.replace_len.new.slots; live = a.live } in
-    (len_done a b g c.args.number c.args.len _ c.replace_len.result c.deref_mut.result.now _ c.self.view_is c.self.invariant there c.ranges.len (to_z-of_z w64 c.args.len c.ranges.len)
-    c.deref_mut.ensures.value c.replace_len.ensures.old c.replace_len.ensures.slots refl refl refl refl refl
-    (with_items_is a.slots c.replace_len.new.slots (c.replace_len.auto.slots ∙ c.deref_mut.ensures.len))).arena
+    let b : Inside = record { id = a.id; types = a.types; fields = a.fields; vertices = a.vertices; slots = c.replace_len.new.self; live = a.live } in
+    (len_done a b g c.args.number c.args.len _ c.replace_len.result a.slots _ c.self.view_is c.self.invariant there c.ranges.len (to_z-of_z w64 c.args.len c.ranges.len)
+    refl c.replace_len.ensures.old c.replace_len.ensures.slots refl refl refl refl refl
+    refl).arena
 
 pub returns-clause-graph : goal.returns-clause-graph
 returns-clause-graph c =
     let a = c.self.inside in
     let g = c.args.self.now in
     let there : has_arc g c.args.number.0 ≡ true = c.requires in
-    let b : Inside = record { id = a.id; types = a.types; fields = a.fields; vertices = a.vertices; slots = with_items a.slots c.replace_len.new.slots; live = a.live } in
-    (len_done a b g c.args.number c.args.len _ c.replace_len.result c.deref_mut.result.now _ c.self.view_is c.self.invariant there c.ranges.len (to_z-of_z w64 c.args.len c.ranges.len)
-    c.deref_mut.ensures.value c.replace_len.ensures.old c.replace_len.ensures.slots refl refl refl refl refl
-    (with_items_is a.slots c.replace_len.new.slots (c.replace_len.auto.slots ∙ c.deref_mut.ensures.len))).graph
+    let b : Inside = record { id = a.id; types = a.types; fields = a.fields; vertices = a.vertices; slots = c.replace_len.new.self; live = a.live } in
+    (len_done a b g c.args.number c.args.len _ c.replace_len.result a.slots _ c.self.view_is c.self.invariant there c.ranges.len (to_z-of_z w64 c.args.len c.ranges.len)
+    refl c.replace_len.ensures.old c.replace_len.ensures.slots refl refl refl refl refl
+    refl).graph
 
 pub returns-clause-left : goal.returns-clause-left
 returns-clause-left c =
     let a = c.self.inside in
     let g = c.args.self.now in
     let there : has_arc g c.args.number.0 ≡ true = c.requires in
-    let b : Inside = record { id = a.id; types = a.types; fields = a.fields; vertices = a.vertices; slots = with_items a.slots c.replace_len.new.slots; live = a.live } in
-    (len_done a b g c.args.number c.args.len _ c.replace_len.result c.deref_mut.result.now _ c.self.view_is c.self.invariant there c.ranges.len (to_z-of_z w64 c.args.len c.ranges.len)
-    c.deref_mut.ensures.value c.replace_len.ensures.old c.replace_len.ensures.slots refl refl refl refl refl
-    (with_items_is a.slots c.replace_len.new.slots (c.replace_len.auto.slots ∙ c.deref_mut.ensures.len))).left
+    let b : Inside = record { id = a.id; types = a.types; fields = a.fields; vertices = a.vertices; slots = c.replace_len.new.self; live = a.live } in
+    (len_done a b g c.args.number c.args.len _ c.replace_len.result a.slots _ c.self.view_is c.self.invariant there c.ranges.len (to_z-of_z w64 c.args.len c.ranges.len)
+    refl c.replace_len.ensures.old c.replace_len.ensures.slots refl refl refl refl refl
+    refl).left
 
 pub returns-clause-sound : goal.returns-clause-sound
 returns-clause-sound c =
     let a = c.self.inside in
     let g = c.args.self.now in
     let there : has_arc g c.args.number.0 ≡ true = c.requires in
-    let b : Inside = record { id = a.id; types = a.types; fields = a.fields; vertices = a.vertices; slots = with_items a.slots c.replace_len.new.slots; live = a.live } in
-    (len_done a b g c.args.number c.args.len _ c.replace_len.result c.deref_mut.result.now _ c.self.view_is c.self.invariant there c.ranges.len (to_z-of_z w64 c.args.len c.ranges.len)
-    c.deref_mut.ensures.value c.replace_len.ensures.old c.replace_len.ensures.slots refl refl refl refl refl
-    (with_items_is a.slots c.replace_len.new.slots (c.replace_len.auto.slots ∙ c.deref_mut.ensures.len))).sound
+    let b : Inside = record { id = a.id; types = a.types; fields = a.fields; vertices = a.vertices; slots = c.replace_len.new.self; live = a.live } in
+    (len_done a b g c.args.number c.args.len _ c.replace_len.result a.slots _ c.self.view_is c.self.invariant there c.ranges.len (to_z-of_z w64 c.args.len c.ranges.len)
+    refl c.replace_len.ensures.old c.replace_len.ensures.slots refl refl refl refl refl
+    refl).sound

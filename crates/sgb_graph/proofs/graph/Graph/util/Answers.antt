@@ -1,3 +1,4 @@
+use Rattle.std.proofs.Common.{refl}
 use Rattle.sgb_graph.proofs.SetLemmas.{util_vertex, util_arc, util_graph}
 use Rattle.sgb_graph.proofs.graph.Graph.util.Goals as goal
 
@@ -7,7 +8,7 @@ returns-in-Vertex c =
 
 pub returns-in-Arc : goal.returns-in-Arc
 returns-in-Arc c =
-    util_arc c.self.inside c.args.self.now c.args.place c.in-Arc.number c.in-Arc.field c.deref.result.now _ _ c.self.view_is c.self.invariant c.requires c.in-Arc.is c.deref.ensures.value c.place-in-Arc.ensures c.arc_value.ensures
+    util_arc c.self.inside c.args.self.now c.args.place c.in-Arc.number c.in-Arc.field c.self.inside.slots _ _ c.self.view_is c.self.invariant c.requires c.in-Arc.is refl c.place-in-Arc.ensures c.field.ensures
 
 pub returns-in-Graph : goal.returns-in-Graph
 returns-in-Graph c =

@@ -1,14 +1,19 @@
-use Rattle.std.proofs.Common.{arith, sym, ◌∙◌, ◌<◌, ◌^◌, length}
-use Rattle.std.proofs.lemmas.Bool.{eqb-false}
-use Rattle.sgb_shell.specs.Lines.{whole_lines, unfinished}
-use Rattle.sgb_shell.proofs.Bytes.{ended_line}
-use Rattle.sgb_shell.proofs.LineEnds.{length-whole_lines}
+use Rattle.std.proofs.Common.{arith, ◌≤◌, ◌^◌, length}
+use Rattle.std.proofs.lemmas.Result.{err_from_is_err_and}
+use Rattle.sgb_shell.specs.Lines.{whole_lines, lines}
+use Rattle.sgb_shell.proofs.Bytes.{ended_unit}
+use Rattle.sgb_shell.proofs.LineEnds.{length-lines}
+use Rattle.sgb_shell.proofs.Reaching.{stopped_before}
 use Rattle.sgb_shell.proofs.shell.Shell.end.Goals as goal
 
+pub returns-in_err-end_line : goal.returns-in_err-end_line
+returns-in_err-end_line g c held script few p =
+    let r = err_from_is_err_and c.from_residual.result c.from_residual.ensures.1 in
+    let failed = c.in_err-end_line.ensures held script few p in
+    rw r.1 (stopped_before held _ (whole_lines script) (lines script) failed.0, failed.1)
+
 pub returns : goal.returns
-returns g c = record {
-  ends = λ held script few p.
-      let few_lines : length (whole_lines script) < 2 ^ 32 = omega (arith, length-whole_lines script) in
-      ended_line held _ _ _ script _ _ _ _ _ c.finish.result p.holds (λ e. eqb-false _ 0 (sym c.is_empty.ensures ∙ c.if-is_empty.false) (c.args.self.now.line.ok.0 ∙ e))
-      (c.finish.ensures.finishes held (whole_lines script) (unfinished script) few_lines p.reached p.holds);
-}
+returns g c held script few p =
+    let more = c.in_ok-end_line.ensures held script few p in
+    let few_lines : length (lines script) ≤ 2 ^ 32 = omega (arith, length-lines script) in
+    ended_unit held _ _ _ _ script _ _ c.end_unit.result more.1 (c.end_unit.ensures held (lines script) few_lines more.0)

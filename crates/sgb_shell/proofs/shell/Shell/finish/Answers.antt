@@ -1,13 +1,20 @@
-use Rattle.std.proofs.Common.{◌∙◌, ap, subst, min, ◌+◌, ◌-◌, ◌^◌}
+use Rattle.std.proofs.Common.{refl, subst}
 use Rattle.sgb_print.specs.Print.{Prints}
 use Rattle.sgb_shell.specs.Answer.{answer_text}
-use Rattle.sgb_shell.proofs.Courses.{finished}
+use Rattle.sgb_shell.specs.Transcript.{course}
+use Rattle.sgb_shell.proofs.Reaching.{goes_on_taken, answer_taken}
 use Rattle.sgb_shell.proofs.shell.Shell.finish.Goals as goal
 
+pub returns-in_default-clause-finishes : goal.returns-in_default-clause-finishes
+returns-in_default-clause-finishes g c held ls line few reached is = (
+  goes_on_taken held _ ls line _ _ _ _ _ _ _ reached few c.saturating_add-self.ensures
+      (c.in_default.ensures (course reached.no_room ls).pending line is reached.waits reached.begun),
+  refl,
+)
+
 pub returns-clause-finishes : goal.returns-clause-finishes
-returns-clause-finishes g c held ls line few reached holds =
-    let done = c.answer_line-answer.ensures line (record { bytes = c.as_slice.ensures.value ∙ holds.bytes; long = holds.long }) reached.begun in
-    finished held _ _ _ _ ls line _ _ _ _ _ _ c.answer_line-answer.result c.print_answer.result few reached done c.saturating_add-self.ensures
-    (c.saturating_add-self-2.ensures ∙ ap (λ k. min (c.args.self.now.refused + k) (2 ^ 64 - 1)) c.refusal_count.ensures)
-    (subst (λ s. Prints (g.W.Write.contents c.args.writer.now.inner) (g.W.Write.contents c.print_answer.new.writer.inner) c.args.writer.now.failed c.print_answer.new.writer.failed
-    c.print_answer.result (answer_text c.saturating_add-self.result s c.answer_line-answer.result)) c.machine.ensures.value c.print_answer.ensures)
+returns-clause-finishes g c held ls line few reached is =
+    answer_taken held _ _ _ _ ls line _ _ _ _ _ _ _ _ (c.in-Some.number, c.in-Some.answer) c.tell.result reached few c.saturating_add-self.ensures
+    (c.in-Some.ensures (course reached.no_room ls).pending line is reached.waits reached.begun) c.tell.ensures.refused
+    (subst (λ s. Prints (g.W.Write.contents c.args.writer.now.inner) (g.W.Write.contents c.tell.new.writer.inner) c.args.writer.now.failed c.tell.new.writer.failed
+    c.tell.result (answer_text c.in-Some.number s c.in-Some.answer)) c.machine-session.ensures.value c.tell.ensures.prints)

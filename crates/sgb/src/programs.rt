@@ -1,0 +1,38 @@
+//! The queen's moves and the check of a saved graph, to standard output.
+
+use sgb_programs::{Finished, check, queen, read_file};
+use sgb_shell::{MeteredReader, RunFault};
+use sgb_text::CheckRule;
+use std::io::{BufWriter, Read, Write};
+
+/// Writes the queen's moves.
+pub fn print_queen(rt: &HostRuntime) -> Result<(), RunFault> {
+    match BufWriter::new(rt.alloc(), rt.stdout()) {
+        Ok(writer) => outcome(queen(rt.alloc(), writer)),
+        Err(_) => Err(RunFault::NoRoom),
+    }
+}
+
+/// Reads a file to its end, tells what saved graph it is or why it is refused, and answers whether it is accepted.
+pub fn print_check<R: Read + Drop>(
+    rt: &HostRuntime,
+    file: R,
+    rule: CheckRule,
+) -> Result<bool, RunFault> {
+    let mut reader = MeteredReader::new(file);
+    let text = read_file(rt.alloc(), &mut reader)?;
+    match BufWriter::new(rt.alloc(), rt.stdout()) {
+        Ok(writer) => outcome(check(rt.alloc(), text.as_slice(), rule, writer)),
+        Err(_) => Err(RunFault::NoRoom),
+    }
+}
+
+// Writes out what is held back, whatever came of the program.
+fn outcome<T: Drop, W: Write + Drop>(finished: Finished<T, W>) -> Result<T, RunFault> {
+    let flushed = finished.writer.into_inner().flush();
+    let end = finished.end?;
+    match flushed {
+        Ok(()) => Ok(end),
+        Err(_) => Err(RunFault::Write),
+    }
+}

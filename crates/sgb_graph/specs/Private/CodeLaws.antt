@@ -1,0 +1,29 @@
+-- A number is told by the link, the owner or the tip that it stands for.
+use Rattle.std.specs.Prelude.{◌≡◌, ℕ, zero, suc}
+use Rattle.std.proofs.Common.{refl, ap}
+use Rattle.sgb_graph.specs.declared.graph.codes.Link.TheInside as link
+use Rattle.sgb_graph.specs.declared.graph.codes.OwnerCode.TheInside as owner
+use Rattle.sgb_graph.specs.declared.graph.codes.TipCode.TheInside as tip
+use Rattle.sgb_graph.specs.Private.Codes.{link_of, code_of_link, owner_of_code, code_of_owner, tip_of, code_of_tip}
+
+link_code : (n : ℕ) → code_of_link (link_of n) ≡ n
+link_code zero = refl
+link_code (suc k) = refl
+
+owner_code : (n : ℕ) → code_of_owner (owner_of_code n) ≡ n
+owner_code zero = refl
+owner_code (suc v) = refl
+
+tip_code : (n : ℕ) → code_of_tip (tip_of n) ≡ n
+tip_code zero = refl
+tip_code (suc zero) = refl
+tip_code (suc (suc v)) = refl
+
+pub link_back : (a : link.Inside) → record { code = code_of_link (link_of a.code) } ≡ a
+link_back a = ap (λ n. record { code = n }) (link_code a.code)
+
+pub owner_back : (a : owner.Inside) → record { code = code_of_owner (owner_of_code a.code) } ≡ a
+owner_back a = ap (λ n. record { code = n }) (owner_code a.code)
+
+pub tip_back : (a : tip.Inside) → record { code = code_of_tip (tip_of a.code) } ≡ a
+tip_back a = ap (λ n. record { code = n }) (tip_code a.code)

@@ -1,0 +1,35 @@
+-- Links, owners and tips as numbers.
+use Rattle.std.specs.Prelude.{ℕ, zero, suc, Option, Some, None}
+use Rattle.sgb_graph.specs.declared.field.ArcNo.{ArcNo}
+use Rattle.sgb_graph.specs.declared.field.VertexNo.{VertexNo}
+use Rattle.sgb_graph.specs.declared.field.Tip.{Tip}
+use Rattle.sgb_graph.specs.declared.field.Tip.TheVariants as tips
+
+-- none, and then the arcs
+abbrev pub link_of : ℕ → Option ArcNo
+link_of zero = None
+link_of (suc k) = Some (record { 0 = k })
+
+abbrev pub code_of_link : Option ArcNo → ℕ
+code_of_link None = 0
+code_of_link (Some k) = suc k.0
+
+-- none, and then the vertices
+abbrev pub owner_of_code : ℕ → Option VertexNo
+owner_of_code zero = None
+owner_of_code (suc v) = Some (record { 0 = v })
+
+abbrev pub code_of_owner : Option VertexNo → ℕ
+code_of_owner None = 0
+code_of_owner (Some v) = suc v.0
+
+-- zero, one, and then the vertices
+abbrev pub tip_of : ℕ → Tip
+tip_of zero = tips.Zero
+tip_of (suc zero) = tips.One
+tip_of (suc (suc v)) = tips.To (record { 0 = v })
+
+abbrev pub code_of_tip : Tip → ℕ
+code_of_tip tips.Zero = 0
+code_of_tip tips.One = 1
+code_of_tip (tips.To v) = suc (suc v.0)

@@ -1,0 +1,603 @@
+//! The arcs of a graph by number.
+ghost use Rattle.std.specs.Prelude.{◌≡◌, ◌<◌, ◌≤◌, ◌^◌, ◌-◌, ◌+◌, ◌∷◌, ◌++◌, [], max, length, vec_len, vec_capacity, take, is_some, IsSome, None, Some, OnOk, OnErr, slice_index_or, slice_set};
+ghost use Rattle.std.specs.List.{list_all, zip};
+ghost use Rattle.sgb_graph.specs.declared.field.Util.TheVariants as utils;
+ghost use Rattle.sgb_graph.specs.Honest.{are_allowed};
+ghost use Rattle.sgb_graph.specs.Private.Arena.{slot_at, next_at, owner_in, names_counted, view_in, len_in, with_len_in};
+ghost use Rattle.sgb_graph.specs.Private.Cells.{two_zeros, slot_with, kept_at, SameFields, PutsFields, new_cell, unnamed_slot, owned_allowed, is_zero};
+ghost use Rattle.sgb_graph.specs.Private.Exchange.{fields_in, with_field};
+ghost use Rattle.sgb_graph.specs.Private.Insert.{new_slot};
+ghost use Rattle.sgb_graph.specs.Private.Link.{slots_relinked, slots_gaining, slots_losing, IsCounted};
+ghost use Rattle.sgb_graph.specs.Private.SameRows.{each_eq, slot_eq};
+ghost use Rattle.sgb_graph.specs.Private.Walk.{is_loop_in};
+
+use super::codes::{Link, OwnerCode, TipCode};
+use super::honest::are_allowed;
+use super::paired::is_vertex;
+use super::read::ArcView;
+use super::same::{is_link_same, is_tip_same};
+use crate::{ArcNo, Tip, Util, VertexNo};
+use std::alloc::{AllocError, Global};
+use std::marker::Model;
+use std::mem;
+
+/// A live arc as it is kept.
+#[derive(Drop)]
+pub(crate) struct Slot {
+    pub owner: VertexNo,
+    pub tip: TipCode,
+    /// The arc that follows in the owner's list.
+    pub next: Link,
+    /// How many fields of the graph name this arc.
+    pub names: u32,
+    pub len: i64,
+    pub fields: [Util; 2],
+}
+
+/// A live arc without its fields, or a hole.
+#[derive(Clone, Copy)]
+pub(crate) struct Cell {
+    // None: a hole.
+    owner: OwnerCode,
+    tip: TipCode,
+    next: Link,
+    names: u32,
+    len: i64,
+}
+
+/// The slots by number, each an arc or a hole.
+#[derive(Drop)]
+pub(crate) struct Arena {
+    cells: Vec<Cell>,
+    // The fields of the first arcs: those of all others are Zero. There is room for those of all arcs, so that a
+    // field can be set without memory.
+    fields: Vec<[Util; 2]>,
+    // What all others have.
+    zeros: [Util; 2],
+}
+
+impl Model for Arena {
+    ghost use Rattle.std.specs.Prelude.{◌≡◌, ◌≤◌, List, Option, vec_len, vec_capacity};
+    ghost use Rattle.sgb_graph.specs.declared.graph.arena.Slot.{Slot};
+
+    ghost Value = { List (Option Slot) };
+
+    ghost use Rattle.sgb_graph.specs.Private.Cells.{zipped, two_zeros};
+
+    ghost view = { λ a. zipped a.cells.items a.fields.items };
+
+    ghost invariant = { λ a. (vec_len a.fields ≤ vec_len a.cells) × (vec_len a.cells ≤ vec_capacity a.fields) × (a.zeros ≡ two_zeros) };
+}
+
+impl Arena {
+    /// No slots. Takes no memory.
+    pub fn new(alloc: Global) -> Arena
+        ensures { result ≡ [] }
+    {
+        Arena {
+            cells: Vec::new(alloc),
+            fields: Vec::new(alloc),
+            zeros: two_zeros(),
+        }
+    }
+
+    #[inline]
+    pub fn len(&self) -> usize
+        ensures { result ≡ length self.now }
+    {
+        self.cells.len()
+    }
+
+    /// Takes room for so many slots more.
+    pub fn reserve(&mut self, count: usize) -> Result<(), AllocError>
+        ensures { self.new ≡ self.old }
+    {
+        make_room(&mut self.cells, &mut self.fields, count)
+    }
+
+    /// Adds a hole, last.
+    pub fn push_hole(&mut self) -> Result<(), AllocError>
+        ensures ok { OnOk result (self.new ≡ self.old ++ None ∷ []) }
+        ensures unchanged { OnErr result (self.new ≡ self.old) }
+    {
+        make_room(&mut self.cells, &mut self.fields, 1)?;
+        self.cells.push_reserved(hole());
+        Ok(())
+    }
+
+    /// Adds a new arc, last.
+    #[inline]
+    pub fn push(
+        &mut self,
+        from: VertexNo,
+        to: VertexNo,
+        next: Link,
+        len: i64,
+    ) -> Result<(), AllocError>
+        requires from { from.0 < 65535 }
+        requires to { to.0 < 65535 }
+        ensures ok { OnOk result (self.new ≡ self.old ++ Some (new_slot from to next len) ∷ []) }
+        ensures unchanged { OnErr result (self.new ≡ self.old) }
+    {
+        make_room(&mut self.cells, &mut self.fields, 1)?;
+        self.cells.push_reserved(new_cell(from, to, next, len));
+        Ok(())
+    }
+
+    /// Adds the two arcs of a new edge, last.
+    #[inline]
+    pub fn push_both(
+        &mut self,
+        low: VertexNo,
+        high: VertexNo,
+        after_low: Link,
+        after_high: Link,
+        len: i64,
+    ) -> Result<(), AllocError>
+        requires low { low.0 < 65535 }
+        requires high { high.0 < 65535 }
+        ensures ok { OnOk result (self.new ≡ self.old ++ Some (new_slot low high after_low len) ∷ [] ++ Some (new_slot high low after_high len) ∷ []) }
+        ensures unchanged { OnErr result (self.new ≡ self.old) }
+    {
+        make_room(&mut self.cells, &mut self.fields, 2)?;
+        self.cells
+            .push_reserved(new_cell(low, high, after_low, len));
+        self.cells
+            .push_reserved(new_cell(high, low, after_high, len));
+        Ok(())
+    }
+
+    /// Takes back all slots but the first ones.
+    pub fn truncate(&mut self, len: usize)
+        ensures { self.new ≡ take len self.old }
+    {
+        self.cells.truncate(len);
+        self.fields.truncate(len);
+    }
+
+    /// Puts an arc that no field names in place of a hole.
+    pub fn put(
+        &mut self,
+        number: ArcNo,
+        owner: VertexNo,
+        tip: TipCode,
+        next: Link,
+        len: i64,
+        fields: [Util; 2],
+    )
+        requires number { number.0 < length self.old }
+        requires owner { owner.0 < 65535 }
+        ensures { self.new ≡ slice_set self.old number.0 (Some (unnamed_slot owner tip next len fields)) }
+    {
+        put_fields(&mut self.fields, number.0 as usize, fields);
+        self.cells[number.0 as usize] = Cell {
+            owner: OwnerCode::new(owner),
+            tip,
+            next,
+            names: 0,
+            len,
+        };
+    }
+
+    /// Makes the number of a live arc a hole, and answers the arc.
+    pub fn remove(&mut self, number: ArcNo) -> Slot
+        requires { IsSome (slot_at self.old number.0) }
+        ensures slot { slot_at self.old number.0 ≡ Some result }
+        ensures slots { self.new ≡ slice_set self.old number.0 None }
+    {
+        let cell = self.cell(number.0 as usize);
+        let fields = self.clear(number.0 as usize);
+        match cell.owner.get() {
+            Some(owner) => Slot {
+                owner,
+                tip: cell.tip,
+                next: cell.next,
+                names: cell.names,
+                len: cell.len,
+                fields,
+            },
+            None => unreachable!(),
+        }
+    }
+
+    // Makes the slot of a live arc a hole, and answers its fields.
+    fn clear(&mut self, index: usize) -> [Util; 2]
+        requires { IsSome (slot_at self.old index) }
+        ensures fields { result ≡ fields_in (slot_at self.old index) }
+        ensures slots { self.new ≡ slice_set self.old index None }
+    {
+        self.cells[index] = hole();
+        take_fields(&mut self.fields, index)
+    }
+
+    /// An arc has this number.
+    #[inline]
+    pub fn has(&self, number: ArcNo) -> bool
+        ensures { result ≡ is_some (slot_at self.now number.0) }
+    {
+        self.names(number).is_some()
+    }
+
+    // What is kept of this slot but its fields.
+    #[inline]
+    fn cell(&self, index: usize) -> Cell
+        requires { index < length self.now }
+        ensures { slot_at self.now index ≡ slot_with (fields_in (slot_at self.now index)) result }
+    {
+        self.cells[index]
+    }
+
+    // Keeps this of the slot, beside its fields.
+    #[inline]
+    fn set_cell(&mut self, index: usize, cell: Cell)
+        requires { IsSome (slot_at self.old index) }
+        ensures { self.new ≡ slice_set self.old index (slot_with (fields_in (slot_at self.old index)) cell) }
+    {
+        self.cells[index] = cell;
+    }
+
+    /// The arc of this number: its owner, tip and length.
+    #[inline]
+    pub fn arc(&self, number: ArcNo) -> Option<ArcView>
+        requires { number.0 < length self.now }
+        ensures { result ≡ view_in (slot_at self.now number.0) }
+    {
+        let cell = self.cell(number.0 as usize);
+        match cell.owner.get() {
+            Some(owner) => Some(ArcView {
+                owner,
+                tip: cell.tip.get(),
+                len: cell.len,
+            }),
+            None => None,
+        }
+    }
+
+    /// The owner of a live arc.
+    pub fn owner_at(&self, number: ArcNo) -> VertexNo
+        requires { IsSome (slot_at self.now number.0) }
+        ensures { owner_in (slot_at self.now number.0) ≡ Some result }
+    {
+        match self.cell(number.0 as usize).owner.get() {
+            Some(owner) => owner,
+            None => unreachable!(),
+        }
+    }
+
+    /// The arc leads to its owner.
+    #[inline]
+    pub fn is_loop(&self, number: ArcNo) -> bool
+        requires { number.0 < length self.now }
+        ensures { result ≡ is_loop_in (slot_at self.now number.0) }
+    {
+        let cell = self.cell(number.0 as usize);
+        match cell.owner.get() {
+            Some(owner) => is_vertex(owner.0, cell.tip.get()),
+            None => false,
+        }
+    }
+
+    /// The arc that follows this one in its list.
+    #[inline]
+    pub fn next_after(&self, number: ArcNo) -> Link
+        requires { number.0 < length self.now }
+        ensures { result ≡ next_at self.now number.0 }
+    {
+        let cell = self.cell(number.0 as usize);
+        match cell.owner.get() {
+            Some(_) => cell.next,
+            None => Link::none(),
+        }
+    }
+
+    /// Replaces the link that follows this arc, and gives the one that was there.
+    pub fn replace_next(&mut self, number: ArcNo, link: Link) -> Link
+        requires { number.0 < length self.old }
+        ensures old { result ≡ next_at self.old number.0 }
+        ensures slots { self.new ≡ slots_relinked self.old (Some number) link }
+    {
+        let mut cell = self.cell(number.0 as usize);
+        match cell.owner.get() {
+            Some(_) => {
+                let old = mem::replace(&mut cell.next, link);
+                self.set_cell(number.0 as usize, cell);
+                old
+            }
+            None => Link::none(),
+        }
+    }
+
+    /// How many fields of the graph name the arc of this number.
+    #[inline]
+    pub fn names(&self, number: ArcNo) -> Option<u32>
+        ensures { result ≡ names_counted (slot_at self.now number.0) }
+    {
+        if number.0 as usize >= self.len() {
+            return None;
+        }
+        let cell = self.cell(number.0 as usize);
+        match cell.owner.get() {
+            Some(_) => Some(cell.names),
+            None => None,
+        }
+    }
+
+    /// Counts one more field that has this value.
+    #[inline]
+    pub fn gain_name(&mut self, value: &Util)
+        requires { IsCounted self.old 0 (2 ^ 32 - 1) value.now }
+        ensures { self.new ≡ slots_gaining self.old value.now }
+    {
+        if let Util::Arc(number) = value {
+            let mut cell = self.cell(number.0 as usize);
+            if let Some(_) = cell.owner.get() {
+                cell.names += 1;
+                self.set_cell(number.0 as usize, cell);
+            }
+        }
+    }
+
+    /// Counts one field less that has this value.
+    #[inline]
+    pub fn lose_name(&mut self, value: &Util)
+        requires { IsCounted self.old 1 (2 ^ 32) value.now }
+        ensures { self.new ≡ slots_losing self.old value.now }
+    {
+        if let Util::Arc(number) = value {
+            let mut cell = self.cell(number.0 as usize);
+            if let Some(_) = cell.owner.get() {
+                cell.names -= 1;
+                self.set_cell(number.0 as usize, cell);
+            }
+        }
+    }
+
+    /// Gives a live arc another length, and answers the one that it had.
+    pub fn replace_len(&mut self, number: ArcNo, len: i64) -> i64
+        requires { IsSome (slot_at self.old number.0) }
+        ensures old { result ≡ len_in (slot_at self.old number.0) }
+        ensures slots { self.new ≡ slice_set self.old number.0 (with_len_in len (slot_at self.old number.0)) }
+    {
+        let mut cell = self.cell(number.0 as usize);
+        let old = mem::replace(&mut cell.len, len);
+        self.set_cell(number.0 as usize, cell);
+        old
+    }
+
+    /// The fields of a live arc.
+    #[inline]
+    pub fn fields(&self, number: ArcNo) -> &[Util; 2]
+        requires { IsSome (slot_at self.now number.0) }
+        ensures { result.now ≡ fields_in (slot_at self.now number.0) }
+    {
+        self.fields_at(number.0 as usize)
+    }
+
+    #[inline]
+    fn fields_at(&self, index: usize) -> &[Util; 2]
+        requires { IsSome (slot_at self.now index) }
+        ensures { result.now ≡ fields_in (slot_at self.now index) }
+    {
+        kept_at(&self.fields, &self.zeros, index)
+    }
+
+    /// A field of a live arc.
+    pub fn field(&self, number: ArcNo, place: usize) -> &Util
+        requires number { number.0 < length self.now }
+        requires fields { length (fields_in (slot_at self.now number.0)) ≡ 2 }
+        requires place { place < 2 }
+        ensures { result.now ≡ slice_index_or (fields_in (slot_at self.now number.0)) place utils.Zero }
+    {
+        &self.fields(number)[place]
+    }
+
+    /// Puts a value into a field of a live arc, and gives the one that was there. Counts no names. Takes no memory,
+    /// but the first value that is put beyond all arcs that ever had one costs time of the arcs between.
+    pub fn replace_field(&mut self, number: ArcNo, place: usize, value: Util) -> Util
+        requires number { number.0 < length self.old }
+        requires fields { length (fields_in (slot_at self.old number.0)) ≡ 2 }
+        requires place { place < 2 }
+        ensures old { result ≡ slice_index_or (fields_in (slot_at self.old number.0)) place utils.Zero }
+        ensures slots { self.new ≡ slice_set self.old number.0 (with_field place value (slot_at self.old number.0)) }
+    {
+        replace_kept(&mut self.fields, number.0 as usize, place, value)
+    }
+
+    /// Each value of an arc is one that its letter allows.
+    pub fn is_honest(&self, letters: &[u8]) -> bool
+        ensures { result ≡ list_all (λ o. are_allowed letters.now (fields_in o)) self.now }
+    {
+        are_cells_honest(letters, &self.cells, &self.fields)
+    }
+
+    /// The slots are alike, but for what the others tell.
+    pub fn is_same(&self, other: &Arena) -> bool
+        ensures { result ≡ each_eq slot_eq self.now other.now }
+    {
+        if self.len() != other.len() {
+            return false;
+        }
+        for index in 0..self.len() {
+            if !self.is_slot_same(other, index) {
+                return false;
+            }
+        }
+        true
+    }
+
+    // The owner and the count of names need no look: the others tell them.
+    fn is_slot_same(&self, other: &Arena, index: usize) -> bool
+        requires here { index < length self.now }
+        requires there { index < length other.now }
+        ensures { result ≡ slot_eq (slot_at self.now index) (slot_at other.now index) }
+    {
+        let cell = self.cell(index);
+        let other_cell = other.cell(index);
+        match (cell.owner.get(), other_cell.owner.get()) {
+            (Some(_), Some(_)) => {
+                is_tip_same(cell.tip.get(), other_cell.tip.get())
+                    && is_link_same(cell.next, other_cell.next)
+                    && cell.len == other_cell.len
+                    && self.fields_at(index) == other.fields_at(index)
+            }
+            (None, None) => true,
+            _ => false,
+        }
+    }
+}
+
+#[inline]
+fn hole() -> Cell
+    ensures { result.owner ≡ None }
+{
+    Cell {
+        owner: OwnerCode::none(),
+        tip: TipCode::new(Tip::Zero),
+        next: Link::none(),
+        names: 0,
+        len: 0,
+    }
+}
+
+#[inline]
+fn new_cell(owner: VertexNo, to: VertexNo, next: Link, len: i64) -> Cell
+    requires owner { owner.0 < 65535 }
+    requires to { to.0 < 65535 }
+    ensures { result ≡ new_cell owner to next len }
+{
+    Cell {
+        owner: OwnerCode::new(owner),
+        tip: TipCode::new(Tip::To(to)),
+        next,
+        names: 0,
+        len,
+    }
+}
+
+// Takes room for so many slots more, and for the fields of all.
+#[inline]
+fn make_room(
+    cells: &mut Vec<Cell>,
+    fields: &mut Vec<[Util; 2]>,
+    count: usize,
+) -> Result<(), AllocError>
+    requires { vec_len fields.old ≤ vec_len cells.old }
+    ensures cells { cells.new.items ≡ cells.old.items }
+    ensures cells_len { vec_len cells.new ≡ vec_len cells.old }
+    ensures fields { fields.new.items ≡ fields.old.items }
+    ensures fields_len { vec_len fields.new ≡ vec_len fields.old }
+    ensures cells_room { OnOk result (vec_len cells.new + count ≤ vec_capacity cells.new) }
+    ensures fields_room { OnOk result (vec_len cells.new + count ≤ vec_capacity fields.new) }
+    ensures capacity { vec_capacity fields.old ≤ vec_capacity fields.new }
+{
+    cells.reserve(count)?;
+    if fields.is_empty() && fields.capacity() < cells.capacity() {
+        // Where no field was ever set there is nothing to move, and the room stays untouched.
+        *fields = Vec::with_capacity(*fields.allocator(), cells.capacity())?;
+    }
+    fields.reserve(cells.capacity() - fields.len())
+}
+
+fn two_zeros() -> [Util; 2]
+    ensures { result ≡ two_zeros }
+{
+    [Util::Zero, Util::Zero]
+}
+
+fn is_zero(value: &Util) -> bool
+    ensures { result ≡ is_zero value.now }
+{
+    matches!(value, Util::Zero)
+}
+
+// The fields of the arc of this number, where those beyond the end are the zeros.
+#[inline]
+fn kept_at<'a>(fields: &'a [[Util; 2]], zeros: &'a [Util; 2], index: usize) -> &'a [Util; 2]
+    requires { zeros.now ≡ two_zeros }
+    ensures { result.now ≡ kept_at fields.now index }
+{
+    match fields.get(index) {
+        Some(fields) => fields,
+        None => zeros,
+    }
+}
+
+// Fills up with Zeros to so many.
+fn fill_to(fields: &mut Vec<[Util; 2]>, count: usize)
+    requires fewer { vec_len fields.old ≤ count }
+    requires room { count ≤ vec_capacity fields.old }
+    ensures same { SameFields fields.old.items fields.new.items }
+    ensures len { vec_len fields.new ≡ count }
+    ensures capacity { vec_capacity fields.new ≡ vec_capacity fields.old }
+{
+    for _number in fields.len()..count {
+        fields.push_reserved(two_zeros());
+    }
+}
+
+// Gives the arc of this number these fields.
+fn put_fields(fields: &mut Vec<[Util; 2]>, index: usize, values: [Util; 2])
+    requires { index < vec_capacity fields.old }
+    ensures puts { PutsFields fields.old.items index values fields.new.items }
+    ensures len { vec_len fields.new ≤ max (vec_len fields.old) (index + 1) }
+    ensures capacity { vec_capacity fields.new ≡ vec_capacity fields.old }
+{
+    if index < fields.len() {
+        fields[index] = values;
+    } else if !is_zero(&values[0]) || !is_zero(&values[1]) {
+        fill_to(fields, index);
+        fields.push_reserved(values);
+    }
+}
+
+// Takes the fields of the arc of this number away: they are Zero then.
+fn take_fields(fields: &mut Vec<[Util; 2]>, index: usize) -> [Util; 2]
+    ensures value { result ≡ kept_at fields.old.items index }
+    ensures puts { PutsFields fields.old.items index two_zeros fields.new.items }
+    ensures len { vec_len fields.new ≡ vec_len fields.old }
+    ensures capacity { vec_capacity fields.new ≡ vec_capacity fields.old }
+{
+    if index < fields.len() {
+        mem::replace(&mut fields[index], two_zeros())
+    } else {
+        two_zeros()
+    }
+}
+
+// Puts a value into a field of the arc of this number, and gives the one that was there.
+fn replace_kept(fields: &mut Vec<[Util; 2]>, index: usize, place: usize, value: Util) -> Util
+    requires room { index < vec_capacity fields.old }
+    requires fields { length (kept_at fields.old.items index) ≡ 2 }
+    requires place { place < 2 }
+    ensures old { result ≡ slice_index_or (kept_at fields.old.items index) place utils.Zero }
+    ensures puts { PutsFields fields.old.items index (slice_set (kept_at fields.old.items index) place value) fields.new.items }
+    ensures len { vec_len fields.new ≤ max (vec_len fields.old) (index + 1) }
+    ensures capacity { vec_capacity fields.new ≡ vec_capacity fields.old }
+{
+    if index >= fields.len() {
+        if is_zero(&value) {
+            return value;
+        }
+        fill_to(fields, index + 1);
+    }
+    mem::replace(&mut fields[index][place], value)
+}
+
+// Each cell's arc, as far as there are fields.
+fn are_cells_honest(letters: &[u8], cells: &[Cell], fields: &[[Util; 2]]) -> bool
+    ensures { result ≡ list_all (λ p. owned_allowed letters.now p.0.owner p.1) (zip cells.now fields.now) }
+{
+    cells
+        .iter()
+        .zip(fields)
+        .all(|(cell, fields)| is_cell_honest(letters, cell, fields))
+}
+
+fn is_cell_honest(letters: &[u8], cell: &Cell, fields: &[Util; 2]) -> bool
+    ensures { result ≡ owned_allowed letters.now cell.now.owner fields.now }
+{
+    match cell.owner.get() {
+        Some(_) => are_allowed(letters, fields),
+        None => true,
+    }
+}

@@ -1,0 +1,4 @@
+mod Pieces
+mod Queens
+mod Reading
+mod Telling

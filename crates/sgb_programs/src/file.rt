@@ -1,0 +1,66 @@
+//! Reads a whole file.
+ghost use Rattle.std.specs.Prelude.{◌≡◌, ◌+◌, ◌<◌, ◌≤◌, ◌^◌, ◌||◌, false, length, take, MatchResult, is_err};
+ghost use Rattle.std.specs.Io.KnownBytes.{Consumes, IsAtEnd, Keeps};
+ghost use Rattle.sgb_programs.specs.File.{ReadsFile};
+
+use sgb_print::{Failed, MeteredReader, RunFault};
+use std::alloc::Global;
+use std::io::Read;
+
+/// The most bytes of a file.
+pub const FILE_LIMIT: usize = 16_777_216;
+
+const CHUNK: usize = 4096;
+
+/// All the bytes that the reader gives. At most 16,777,216 bytes are taken, and one further read tells whether more
+/// follow; where they do it ends with `TooLong`. Ends with `Read` where a read fails, and with `NoRoom` where memory for
+/// the bytes is refused.
+pub fn read_file<R: Read>(alloc: Global, reader: &mut MeteredReader<R>) -> Result<Vec<u8>, RunFault>
+    requires unread { reader.old.reads ≡ 0 }
+    requires reader { reader.old.failed ≡ false }
+    ensures reads { ReadsFile (R.remaining reader.old.inner) (R.remaining reader.new.inner) reader.new.failed reader.new.reads result }
+{
+    let mut file = Vec::new(alloc);
+    let mut chunk = [0u8; CHUNK];
+    let mut room = FILE_LIMIT;
+    while room > 0 {
+        let Ok(count) = read_some(reader, &mut chunk, room) else {
+            return Err(RunFault::Read);
+        };
+        if count == 0 {
+            return Ok(file);
+        }
+        room -= count;
+        let (bytes, _) = chunk.split_at(count);
+        if file.extend_from_slice(bytes).is_err() {
+            return Err(RunFault::NoRoom);
+        }
+    }
+    match read_some(reader, &mut chunk, 1) {
+        Ok(0) => Ok(file),
+        Ok(_) => Err(RunFault::TooLong),
+        Err(_) => Err(RunFault::Read),
+    }
+}
+
+// Makes one read, of at most so many bytes.
+fn read_some<R: Read>(
+    reader: &mut MeteredReader<R>,
+    chunk: &mut [u8],
+    most: usize,
+) -> Result<usize, Failed>
+    requires most { 0 < most }
+    requires chunk { 0 < length chunk.old }
+    requires reads { reader.old.reads < 2 ^ 63 }
+    ensures reads { reader.new.reads ≡ reader.old.reads + 1 }
+    ensures failed { reader.new.failed ≡ (reader.old.failed || is_err result) }
+    ensures bytes { MatchResult result
+        (λ count. (count ≤ most) × (count ≤ length chunk.new)
+        × Consumes (R.remaining reader.old.inner) (R.remaining reader.new.inner) (take count chunk.new)
+        × (count ≡ 0 → IsAtEnd (R.remaining reader.new.inner)))
+        (λ _. Keeps (R.remaining reader.old.inner) (R.remaining reader.new.inner)) }
+{
+    let room = chunk.len().min(most);
+    let (space, _) = chunk.split_at_mut(room);
+    reader.read(space)
+}

@@ -1,0 +1,137 @@
+//! Saved texts, and what is told of them.
+
+use crate::fake::Room;
+use sgb_print::RunFault;
+use sgb_programs::check;
+use sgb_text::CheckRule;
+use std::alloc::Global;
+use std::test::Fail;
+
+// Two vertices that an edge joins.
+const EDGE: &str = "* GraphBase graph (util_types ZZZZZZZZZZZZZZ,2V,2A)
+\"gb_new_graph(2)\",2,2
+* Vertices
+\"\",A0
+\"\",A1
+* Arcs
+V1,0,5
+V0,0,5
+* Checksum 450523822
+";
+
+// The same with another check number.
+const WRONG: &str = "* GraphBase graph (util_types ZZZZZZZZZZZZZZ,2V,2A)
+\"gb_new_graph(2)\",2,2
+* Vertices
+\"\",A0
+\"\",A1
+* Arcs
+V1,0,5
+V0,0,5
+* Checksum 450523823
+";
+
+// The same vertices without arcs, whose numbers are holes.
+const HOLES: &str = "* GraphBase graph (util_types ZZZZZZZZZZZZZZ,2V,2A)
+\"gb_new_graph(2)\",2,0
+* Vertices
+\"\",0
+\"\",0
+* Arcs
+0,0,0
+0,0,0
+* Checksum 221745784
+";
+
+// A first line whose count of vertices is above the limit.
+const LARGE: &str = "* GraphBase graph (util_types ZZZZZZZZZZZZZZ,70000V,2A)
+";
+
+const EDGE_TOLD: &str = "\"gb_new_graph(2)\"
+2 vertices, 2 arcs, 2 numbers
+";
+
+// Texts, the rule, and what is told of them.
+static TEXTS: [(&str, CheckRule, bool, &str); 8] = [
+    (EDGE, CheckRule::Match, true, EDGE_TOLD),
+    (EDGE, CheckRule::Any, true, EDGE_TOLD),
+    (WRONG, CheckRule::Any, true, EDGE_TOLD),
+    (
+        WRONG,
+        CheckRule::Match,
+        false,
+        "refused 11 check number is wrong\n",
+    ),
+    (
+        HOLES,
+        CheckRule::Match,
+        true,
+        "\"gb_new_graph(2)\"\n2 vertices, 0 arcs, 2 numbers\n",
+    ),
+    ("", CheckRule::Match, false, "refused 20 bad saved graph\n"),
+    ("", CheckRule::Any, false, "refused 20 bad saved graph\n"),
+    (LARGE, CheckRule::Match, false, "refused 40 too large\n"),
+];
+
+// What is told of a text, and whether it is accepted.
+fn told(alloc: Global, text: &[u8], rule: CheckRule) -> Result<(bool, Vec<u8>), Fail> {
+    let finished = check(alloc, text, rule, Vec::new(alloc));
+    let good = finished.end?;
+    Ok((good, finished.writer.into_inner()))
+}
+
+fn is_told(
+    alloc: Global,
+    text: &str,
+    rule: CheckRule,
+    good: bool,
+    wanted: &str,
+) -> Result<bool, Fail> {
+    let (met, told) = told(alloc, text.as_bytes(), rule)?;
+    Ok(met == good && told.as_slice() == wanted.as_bytes())
+}
+
+#[test]
+fn texts_are_checked(rt: HostRuntime) -> Result<(), Fail> {
+    for (text, rule, good, wanted) in &TEXTS {
+        assert!(rt; is_told(rt.alloc(), text, *rule, *good, wanted)?, "{text}");
+    }
+    Ok(())
+}
+
+// What a writer with so much room keeps of what is told, where it fails.
+fn front_of(alloc: Global, text: &[u8], room: usize) -> Option<Vec<u8>> {
+    let writer = Room {
+        kept: Vec::new(alloc),
+        room,
+        step: 3,
+    };
+    let finished = check(alloc, text, CheckRule::Match, writer);
+    match finished.end {
+        Err(RunFault::Write) => Some(finished.writer.into_inner().kept),
+        _ => None,
+    }
+}
+
+// Whether the writer that fails keeps this front.
+fn fails_after(alloc: Global, text: &[u8], front: &[u8]) -> bool {
+    match front_of(alloc, text, front.len()) {
+        Some(kept) => kept.as_slice() == front,
+        None => false,
+    }
+}
+
+#[test]
+fn failed_writes_are_told(rt: HostRuntime) {
+    for (text, wanted) in [
+        (EDGE, EDGE_TOLD),
+        (WRONG, "refused 11 check number is wrong\n"),
+    ] {
+        for room in 0..wanted.len() {
+            assert!(rt;
+                fails_after(rt.alloc(), text.as_bytes(), &wanted.as_bytes()[..room]),
+                "room for {room}"
+            );
+        }
+    }
+}

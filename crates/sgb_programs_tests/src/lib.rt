@@ -1,0 +1,11 @@
+//! Tests of the programs beside the script, over readers and writers that give little, stop early or fail.
+#![tactic(auto)]
+
+#[cfg(test)]
+mod checks;
+#[cfg(test)]
+mod fake;
+#[cfg(test)]
+mod files;
+#[cfg(test)]
+mod moves;

@@ -1,0 +1,5 @@
+mod Drawings
+mod Tables
+mod Sessions
+mod Makings
+mod Lengthenings

@@ -1,0 +1,7 @@
+pub mod Drawing
+pub mod Edits
+pub mod Make
+pub mod Source
+pub mod State
+pub mod Table
+pub mod Private

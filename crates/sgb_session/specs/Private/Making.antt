@@ -1,0 +1,96 @@
+-- What a command did, on the way from a graph to the session.
+use Rattle.std.specs.Prelude.{◌≡◌, ◌⊎◌, ◌&&◌, ◌||◌, ℕ, List, Option, None, Some, is_none, is_ok, Bool, true, false, Result, Ok, Err}
+use Rattle.sgb_graph.specs.declared.delta.GraphDelta.{GraphDelta}
+use Rattle.sgb_graph.specs.declared.refusal.Refusal.{Refusal}
+use Rattle.sgb_graph.specs.declared.refusal.Refusal.TheVariants as graphs
+use Rattle.sgb_graph.specs.Graph.{GraphOf}
+use Rattle.sgb_graph.specs.Delta.{LeftBy}
+use Rattle.sgb_undo.specs.Outcome.{Accepted, Refused}
+use Rattle.sgb_script.specs.declared.command.Command.{Command}
+use Rattle.sgb_script.specs.declared.command.Maker.{Maker}
+use Rattle.sgb_script.specs.declared.command.Maker.TheVariants.{Empty, Complement, Gunion, Intersection, Product, Induced}
+use Rattle.sgb_script.specs.declared.command.Edit.{Edit}
+use Rattle.sgb_script.specs.declared.refusal.ShellRefusal.{ShellRefusal}
+use Rattle.sgb_script.specs.declared.refusal.ShellRefusal.TheVariants.{NoRoom}
+use Rattle.sgb_session.specs.declared.reply.Delta.{Delta}
+use Rattle.sgb_session.specs.declared.reply.Delta.TheVariants as kept
+use Rattle.sgb_session.specs.declared.reply.Reply.{Reply}
+use Rattle.sgb_session.specs.declared.reply.Reply.TheVariants as replies
+use Rattle.sgb_session.specs.declared.table.Entry.{Entry}
+use Rattle.sgb_session.specs.Edits.{Edited, edited, edit_has_text, edit_takes_memory}
+use Rattle.sgb_session.specs.Drawing.{Drawing}
+use Rattle.sgb_session.specs.Make.{operands, graph_made, generator_after, kept_of}
+use Rattle.sgb_session.specs.Private.Slots.{held, slot_in, slot_with_graph}
+use Rattle.sgb_session.specs.State.{State, step, before, can_revert, may_want, refusal_of_making}
+use Rattle.sgb_session.specs.Table.{find, graph_in, has_all, with_graph}
+
+-- whether an edit that is refused so, or not, may want for memory
+abbrev pub edit_may_want : Edit → Option Refusal → Bool
+edit_may_want edit refusal = edit_takes_memory edit && (edit_has_text edit || is_none refusal)
+
+-- the edit is made, or it is refused, or memory was wanted and may be
+abbrev pub Makes : (Option Refusal → Bool) → GraphOf → GraphOf → Edited → Result (GraphDelta × Reply) Refusal → Type 0
+Makes wants old new e (Ok a) = (e.refusal ≡ None) × (new ≡ e.graph) × (a.0 ≡ e.delta) × (a.1 ≡ e.reply) × LeftBy old a.0 new
+Makes wants old new e (Err r) = (new ≡ old) × (((r ≡ graphs.NoRoom) × (wants e.refusal ≡ true)) ⊎ (e.refusal ≡ Some r))
+
+-- the graph at a place becomes another, and this holds of the two
+abbrev pub AtPlace : (GraphOf → GraphOf → Type 0) → List Entry → List Entry → ℕ → Type 0
+AtPlace Becomes old new i = (h : GraphOf) × (new ≡ with_graph old i h) × Becomes (graph_in old i) h
+
+abbrev pub InSlot : (GraphOf → GraphOf → Type 0) → List (Option Entry) → List (Option Entry) → ℕ → Type 0
+InSlot Becomes old new i = (h : GraphOf) × (new ≡ slot_with_graph old i h) × Becomes (held (slot_in old i)).graph h
+
+-- an edit of a graph, whatever it is
+abbrev pub Edits : Edit → Result (GraphDelta × Reply) Refusal → GraphOf → GraphOf → Type 0
+Edits edit result g h = Makes (edit_may_want edit) g h (edited g edit) result
+
+abbrev pub with_done : Result GraphDelta Refusal → Result (GraphDelta × Reply) Refusal
+with_done (Ok d) = Ok (d, replies.Done)
+with_done (Err r) = Err r
+
+-- ---- new graphs
+
+-- where the graphs stand that a maker names
+abbrev pub StandAt : List Entry → Maker → ℕ × ℕ → Type 0
+StandAt t (Complement g spec) p = find t g ≡ Some p.0
+StandAt t (Gunion g h spec) p = (find t g ≡ Some p.0) × (find t h ≡ Some p.1)
+StandAt t (Intersection g h directed) p = (find t g ≡ Some p.0) × (find t h ≡ Some p.1)
+StandAt t (Product g h spec) p = (find t g ≡ Some p.0) × (find t h ≡ Some p.1)
+StandAt t (Induced g description spec) p = find t g ≡ Some p.0
+StandAt t m p = Unit {0}
+
+-- they all stand in the table, or one does not
+abbrev pub Finds : List Entry → Maker → Option (ℕ × ℕ) → Type 0
+Finds t m None = has_all t (operands m) ≡ false
+Finds t m (Some p) = (has_all t (operands m) ≡ true) × StandAt t m p
+
+-- nothing speaks against making a graph of this name, whose operands stand there; or it is refused
+abbrev pub Judges : State → List ℕ → Maker → Result (ℕ × ℕ) ShellRefusal → Type 0
+Judges s name m (Ok p) = (refusal_of_making s name m ≡ None) × StandAt s.table m p
+Judges s name m (Err r) = refusal_of_making s name m ≡ Some r
+
+-- a graph without arcs wants for memory only where it is made; others may at any time
+abbrev pub may_lack : Maker → Result GraphOf Refusal → Bool
+may_lack (Empty n) made = is_ok made
+may_lack m made = true
+
+-- the graph is made, or it is refused, or memory was wanted and may be
+abbrev pub AnswersGraph : Maker → Result GraphOf Refusal → Result GraphOf Refusal → Type 0
+AnswersGraph m made (Ok g) = made ≡ Ok g
+AnswersGraph m made (Err r) = ((r ≡ graphs.NoRoom) × (may_lack m made ≡ true)) ⊎ (made ≡ Err r)
+
+-- the same with what the maker leaves of the generator, and what is kept of it
+abbrev pub MakesGraph : Drawing → Drawing → List Entry → Maker → Result (GraphOf × Delta) Refusal → Type 0
+MakesGraph old new t m (Ok a) = (graph_made old t m ≡ Ok a.0) × (new ≡ generator_after old m) × (a.1 ≡ kept_of old m)
+MakesGraph old new t m (Err r) = (new ≡ old) × AnswersGraph m (graph_made old t m) (Err r)
+
+-- a graph that leaves the generator alone
+abbrev pub with_made : Result GraphOf Refusal → Result (GraphOf × Delta) Refusal
+with_made (Ok g) = Ok (g, kept.Made)
+with_made (Err r) = Err r
+
+-- a command was performed, with a delta that leads back; or it changed nothing, since it is refused, or since memory
+-- was wanted and may be
+abbrev pub Performs : State → State → Command → Result (Delta × Reply) ShellRefusal → Type 0
+Performs old new c (Ok a) = (step old c ≡ Accepted new a.0 a.1) × can_revert new a.0 × (before new a.0 ≡ old)
+Performs old new c (Err r) = (new ≡ old) × (((r ≡ NoRoom) × (may_want old c ≡ true)) ⊎ (step old c ≡ Refused r))

@@ -1,0 +1,14 @@
+//! The session: a generator and named graphs, as a machine whose commands can be taken back.
+#![tactic(auto)]
+
+mod edit;
+mod making;
+mod mark;
+mod reply;
+mod session;
+mod table;
+
+pub use mark::Mark;
+pub use reply::{Delta, Reply, Source};
+pub use session::{MOST_DRAWS, MOST_UNIFORM, Session};
+pub use table::{Entry, MOST_GRAPHS};

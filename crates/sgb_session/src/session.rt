@@ -1,0 +1,317 @@
+//! The session: what the commands change.
+ghost use Rattle.std.specs.Prelude.{◌≡◌, ◌<◌, ◌≤◌, ◌⊎◌, length, true, IfOk, IfErr, OnErr};
+ghost use Rattle.sgb_undo.specs.Outcome.{Accepted, Refused};
+ghost use Rattle.sgb_script.specs.declared.command.Command.TheVariants as commands;
+ghost use Rattle.sgb_session.specs.Drawing.{drawn_from, generator_of};
+ghost use Rattle.sgb_session.specs.Edits.{refusal_from};
+ghost use Rattle.sgb_session.specs.Private.Making.{Judges, Performs};
+ghost use Rattle.sgb_session.specs.State.{is_spent};
+
+use crate::making::{find_operands, goes_on, make_graph};
+use crate::mark::Mark;
+use crate::reply::{Delta, Reply};
+use crate::table::{MOST_GRAPHS, Table};
+use sgb_combine::LengthsSpec;
+use sgb_graph::{Graph, Refusal};
+use sgb_make::Seed;
+use sgb_script::{Command, Edit, Maker, Name, ShellRefusal};
+use sgb_undo::Reversible;
+use std::alloc::Global;
+use std::marker::Model;
+
+/// No number is drawn any more where so many were drawn since the seeding.
+pub const MOST_DRAWS: u64 = 1 << 62;
+
+/// The greatest bound of a uniform number.
+pub const MOST_UNIFORM: i64 = 1 << 31;
+
+/// The state that a script works on: a generator, and named graphs. It keeps the laws of [`Reversible`].
+#[derive(Drop)]
+pub struct Session {
+    alloc: Global,
+    generator: Mark,
+    table: Table,
+}
+
+impl Model for Session {
+    ghost use Rattle.sgb_session.specs.State.{State};
+
+    ghost Value = { State };
+
+    ghost view = { λ s. record { generator = s.generator; table = s.table } };
+}
+
+impl Session {
+    ghost use Rattle.sgb_session.specs.State.{empty};
+    ghost use Rattle.sgb_session.specs.Table.{find, entry_in, graph_in};
+
+    /// The empty session: the generator is that of seed 0, and there are no graphs. It takes no memory.
+    pub fn new(alloc: Global) -> Session
+        ensures { result ≡ empty }
+    {
+        Session {
+            alloc,
+            generator: Mark::new(0),
+            table: Table::new(),
+        }
+    }
+
+    /// The generator's seed modulo 2^31, the count of numbers drawn since, and the count of unread words.
+    pub fn generator(&self) -> (u32, u64, u32)
+        ensures seed { result.0 ≡ self.now.generator.seed }
+        ensures draws { result.1 ≡ self.now.generator.draws }
+        ensures unread { result.2 ≡ (generator_of self.now.generator).unread }
+    {
+        let mark = &self.generator;
+        (mark.seed(), mark.draws(), mark.unread())
+    }
+
+    /// How many graphs there are, at most 64.
+    pub fn len(&self) -> usize
+        ensures value { result ≡ length self.now.table }
+        ensures few { result ≤ 64 }
+    {
+        self.table.len()
+    }
+
+    /// The name of the graph at a place.
+    pub fn name_at(&self, place: usize) -> Name
+        requires { place < length self.now.table }
+        ensures { result ≡ (entry_in self.now.table place).name }
+    {
+        self.table.entry(place).name
+    }
+
+    /// The graph at a place.
+    pub fn graph_at(&self, place: usize) -> &Graph
+        requires { place < length self.now.table }
+        ensures { result.now ≡ graph_in self.now.table place }
+    {
+        &self.table.entry(place).graph
+    }
+
+    /// The place of the graph of this name.
+    pub fn find(&self, name: &Name) -> Option<usize>
+        ensures { result ≡ find self.now.table name.now }
+    {
+        self.table.find(name)
+    }
+
+    // Draws one number.
+    fn draw(&mut self) -> Result<(Delta, Reply), ShellRefusal>
+        ensures { Performs self.old self.new commands.Next result }
+    {
+        if self.generator.draws() >= MOST_DRAWS {
+            return Err(ShellRefusal::TooLarge);
+        }
+        let number = self.generator.next();
+        Ok((Delta::Draws(1), Reply::Number(number)))
+    }
+
+    // Draws a uniform number.
+    #[inline(never)]
+    fn draw_below(&mut self, bound: i64) -> Result<(Delta, Reply), ShellRefusal>
+        ensures { Performs self.old self.new (commands.Unif bound) result }
+    {
+        if self.generator.draws() >= MOST_DRAWS {
+            return Err(ShellRefusal::TooLarge);
+        }
+        if bound < 1 || bound > MOST_UNIFORM {
+            return Err(ShellRefusal::BadSpecs);
+        }
+        let drawn = self.generator.uniform(bound as u32);
+        Ok((
+            Delta::Draws(u64::from(drawn.draws)),
+            Reply::Number(drawn.value),
+        ))
+    }
+
+    // Makes a graph, which then stands last.
+    #[inline(never)]
+    fn make(&mut self, name: Name, maker: &Maker) -> Result<(Delta, Reply), ShellRefusal>
+        ensures { Performs self.old self.new (commands.Make name maker.now) result }
+    {
+        let operands = self.judge(&name, maker)?;
+        match make_graph(
+            self.alloc,
+            &mut self.generator,
+            &self.table,
+            operands,
+            maker,
+        ) {
+            Ok((graph, delta)) => {
+                let reply = Reply::Made(name, graph.n(), graph.m());
+                self.table.push(name, graph);
+                Ok((delta, reply))
+            }
+            Err(refusal) => Err(refusal_of(refusal)),
+        }
+    }
+
+    // Where the graphs stand that a maker names, where it may make a graph of this name.
+    fn judge(&self, name: &Name, maker: &Maker) -> Result<(usize, usize), ShellRefusal>
+        ensures { Judges self.now name.now maker.now result }
+    {
+        let Some(operands) = find_operands(&self.table, maker) else {
+            return Err(ShellRefusal::NoGraph);
+        };
+        if self.table.find(name).is_some() {
+            return Err(ShellRefusal::NameTaken);
+        }
+        if self.table.len() >= MOST_GRAPHS {
+            return Err(ShellRefusal::TableFull);
+        }
+        if goes_on(maker) && self.generator.draws() >= MOST_DRAWS {
+            return Err(ShellRefusal::TooLarge);
+        }
+        Ok(operands)
+    }
+
+    // Edits the graph of this name.
+    #[inline(never)]
+    fn edit(&mut self, name: &Name, edit: &Edit) -> Result<(Delta, Reply), ShellRefusal>
+        ensures { Performs self.old self.new (commands.Edit name.now edit.now) result }
+    {
+        let Some(place) = self.table.find(name) else {
+            return Err(ShellRefusal::NoGraph);
+        };
+        match self.table.edit(self.alloc, place, edit) {
+            Ok((delta, reply)) => Ok((Delta::Edit(place, delta), reply)),
+            Err(refusal) => Err(refusal_of(refusal)),
+        }
+    }
+
+    // Gives the graph of this name random lengths.
+    #[inline(never)]
+    fn lengthen(
+        &mut self,
+        name: &Name,
+        spec: &LengthsSpec,
+        seed: Seed,
+    ) -> Result<(Delta, Reply), ShellRefusal>
+        ensures { Performs self.old self.new (commands.Lengths name.now spec.now seed) result }
+    {
+        let Some(place) = self.table.find(name) else {
+            return Err(ShellRefusal::NoGraph);
+        };
+        if is_spent(&self.generator, seed) {
+            return Err(ShellRefusal::TooLarge);
+        }
+        match self
+            .table
+            .lengthen(self.alloc, place, &mut self.generator, spec, seed)
+        {
+            Ok((delta, source)) => Ok((Delta::Lengths(place, delta, source), Reply::Done)),
+            Err(refusal) => Err(refusal_of(refusal)),
+        }
+    }
+
+    // Takes the graph of this name out of the table.
+    #[inline(never)]
+    fn drop_graph(&mut self, name: &Name) -> Result<(Delta, Reply), ShellRefusal>
+        ensures { Performs self.old self.new (commands.Drop name.now) result }
+    {
+        let Some(place) = self.table.find(name) else {
+            return Err(ShellRefusal::NoGraph);
+        };
+        let entry = self.table.remove(place);
+        Ok((Delta::Dropped(place, entry.name, entry.graph), Reply::Done))
+    }
+}
+
+// Whether random work with this seed finds its generator spent. That of a number is new.
+fn is_spent(generator: &Mark, seed: Seed) -> bool
+    ensures { result ≡ is_spent (drawn_from seed generator.now) }
+{
+    match seed {
+        Seed::Number(_) => false,
+        Seed::Current => generator.draws() >= MOST_DRAWS,
+    }
+}
+
+fn refusal_of(refusal: Refusal) -> ShellRefusal
+    ensures { result ≡ refusal_from refusal }
+{
+    match refusal {
+        Refusal::NoRoom => ShellRefusal::NoRoom,
+        Refusal::CheckWrong => ShellRefusal::CheckWrong,
+        Refusal::Syntax => ShellRefusal::Syntax,
+        Refusal::BadSpecs => ShellRefusal::BadSpecs,
+        Refusal::LengthRange => ShellRefusal::LengthRange,
+        Refusal::TooLarge => ShellRefusal::TooLarge,
+        Refusal::BadOperand => ShellRefusal::BadOperand,
+        Refusal::Stuck => ShellRefusal::Stuck,
+    }
+}
+
+impl Reversible for Session {
+    ghost use Rattle.sgb_session.specs.State.{step, before, can_revert, takes_memory, may_want};
+    ghost use Rattle.sgb_script.specs.Refusal.{is_no_room};
+
+    type Command = Command;
+
+    type Delta = Delta;
+
+    type Reply = Reply;
+
+    type Refusal = ShellRefusal;
+
+    ghost step = { step };
+
+    ghost before = { before };
+
+    ghost can_revert = { can_revert };
+
+    ghost is_want_of_memory = { is_no_room };
+
+    ghost may_want = { may_want };
+
+    /// Performs a command. Only a new graph, a new arc or edge, new lengths and a text take memory: a text before
+    /// anything is judged, a new arc or edge and a graph without arcs only where the command is accepted, and other new
+    /// graphs and lengths once their names and the generator are good.
+    fn apply(&mut self, command: &Command) -> Result<(Delta, Reply), ShellRefusal>
+        ensures accepted { IfOk result (λ a. step self.old command.now ≡ Accepted self.new a.0 a.1) }
+        ensures can_revert { IfOk result (λ a. can_revert self.new a.0) }
+        ensures before { IfOk result (λ a. before self.new a.0 ≡ self.old) }
+        ensures refused { IfErr result (λ r.
+            ((is_no_room r ≡ true) × (may_want self.old command.now ≡ true)) ⊎ (step self.old command.now ≡ Refused r)) }
+        ensures err { OnErr result (self.new ≡ self.old) }
+        ensures memory { IfErr result (λ r. (takes_memory command.now ≡ true) ⊎ (step self.old command.now ≡ Refused r)) }
+    {
+        match command {
+            Command::Seed(seed) => {
+                let before = self.generator;
+                self.generator = Mark::new(*seed);
+                Ok((Delta::Seed(before), Reply::Done))
+            }
+            Command::Next => self.draw(),
+            Command::Unif(bound) => self.draw_below(*bound),
+            Command::Make(name, maker) => self.make(*name, maker),
+            Command::Edit(name, edit) => self.edit(name, edit),
+            Command::Lengths(name, spec, seed) => self.lengthen(name, spec, *seed),
+            Command::Drop(name) => self.drop_graph(name),
+        }
+    }
+
+    fn revert(&mut self, delta: Delta) {
+        match delta {
+            Delta::Seed(mark) => self.generator = mark,
+            Delta::Draws(draws) => self.generator.back_by(draws),
+            Delta::Made => self.table.pop(),
+            Delta::MadeBy(source) => {
+                self.generator.turn_back(source);
+                self.table.pop();
+            }
+            Delta::Edit(place, delta) => self.table.revert(place, delta),
+            Delta::Lengths(place, delta, source) => {
+                self.generator.turn_back(source);
+                self.table.revert_lengths(place, delta);
+            }
+            Delta::Dropped(place, name, graph) => self.table.insert(place, name, graph),
+        }
+    }
+
+    fn is_memory(refusal: &ShellRefusal) -> bool {
+        matches!(refusal, ShellRefusal::NoRoom)
+    }
+}

@@ -1,0 +1,335 @@
+-- How far a run has come, by a line, and by the end of the script.
+use Rattle.std.proofs.Common.{◌≡◌, ℕ, ◌+◌, ◌<◌, ◌≤◌, ◌^◌, Bool, true, false, ◌==◌, List, [], ◌∷◌, ◌++◌, length, Option, None, Some, Result, Ok, Err, min, ◌-◌, refl, sym, ap, ◌∙◌, subst, arith, length-append, append_assoc, append-nil}
+use Rattle.std.specs.List.{list_any}
+use Rattle.std.specs.Io.KnownBytes.{Appends}
+use Rattle.std.proofs.KnownBytes.{Appends-nil, Appends-trans}
+use Rattle.sgb_print.specs.Print.{AppendsFront, Prints}
+use Rattle.sgb_script.specs.declared.refusal.ShellRefusal.{ShellRefusal}
+use Rattle.sgb_shell.specs.declared.answer.Answer.{Answer}
+use Rattle.sgb_shell.specs.declared.answer.Answer.TheVariants.{Refused}
+use Rattle.sgb_shell.specs.declared.pending.Pending.{Pending}
+use Rattle.sgb_shell.specs.Private.Gathering.{IsGathered, IsRefused}
+use Rattle.sgb_shell.specs.Private.Performing.{Kept, IsBegun, Does, by_unit, lists_of}
+use Rattle.sgb_shell.specs.Private.Reaching.{Taken, GoesOn, Ends, Waits, Settles, unit_by, number_at, unanswered, Reached, Stopped, Finishes, Ended, StoppedAtEnd, Concludes}
+use Rattle.sgb_shell.specs.Run.{AppendsPast}
+use Rattle.sgb_shell.specs.Answer.{answer_text}
+use Rattle.sgb_shell.specs.Transcript.{Course, course, whole_course, ended, answered_unit, goes_on, refusals, state_of}
+use Rattle.sgb_shell.specs.Unit.{ScriptUnit}
+use Rattle.sgb_shell.proofs.Courses.{course-push, stepped, resolved, advance-by, unit_in, number-by, course-lines, refusals-few, course-refused, course_ordered, with_number, course-with_number, other_number, unit-answered, text-grows}
+use Rattle.sgb_shell.proofs.Performing.{machine_is}
+
+-- ---- text past other text
+
+past-append : (held now : Option (List ℕ)) (first all more : List ℕ) → AppendsPast held now first all → AppendsPast held now first (all ++ more)
+past-append held now first all more p = record {
+  more = p.more;
+  rest = p.rest ++ more;
+  whole = ap (λ t. t ++ more) p.whole ∙ append_assoc (first ++ p.more) p.rest more;
+  appends = p.appends;
+}
+
+past-earlier : (held now : Option (List ℕ)) (first more all : List ℕ) → AppendsPast held now (first ++ more) all → AppendsPast held now first all
+past-earlier held now first more all p = record {
+  more = more ++ p.more;
+  rest = p.rest;
+  whole = p.whole ∙ ap (λ t. t ++ p.rest) (append_assoc first more p.more);
+  appends = subst (Appends held now) (append_assoc first more p.more) p.appends;
+}
+
+past-same : (held now : Option (List ℕ)) (first first' all all' : List ℕ) → first ≡ first' → all ≡ all' → AppendsPast held now first all → AppendsPast held now first' all'
+past-same held now first first' all all' e f p = subst (λ t. AppendsPast held now t all') e (subst (AppendsPast held now first) f p)
+
+-- all was written
+past-all : (held now : Option (List ℕ)) (t : List ℕ) → Appends held now t → AppendsPast held now t t
+past-all held now t written = record {
+  more = [];
+  rest = [];
+  whole = sym (append-nil t) ∙ sym (append-nil (t ++ []));
+  appends = subst (Appends held now) (sym (append-nil t)) written;
+}
+
+-- of what stands behind the text so far only a front was written
+past-front : (held now now' : Option (List ℕ)) (t bs : List ℕ) → Appends held now t → AppendsFront now now' bs → AppendsPast held now' t (t ++ bs)
+past-front held now now' t bs written f = record {
+  more = f.front;
+  rest = f.rest;
+  whole = ap (λ x. t ++ x) f.whole ∙ sym (append_assoc t f.front f.rest);
+  appends = Appends-trans held now now' t f.front written f.appends;
+}
+
+-- ---- lines behind the one where the writer failed
+
+pub stopped-append : (held now : Option (List ℕ)) (first ls more : List (List ℕ)) → Stopped held now first ls → Stopped held now first (ls ++ more)
+stopped-append held now first ls more s =
+    let grown = text-grows s.no_room ls more in
+    record { no_room = s.no_room; text = subst (AppendsPast held now (course s.no_room first).text) (sym grown.1) (past-append held now _ _ grown.0 s.text) }
+
+-- what is past more lines is past fewer
+pub stopped-earlier : (held now : Option (List ℕ)) (first more all : List (List ℕ)) → Stopped held now (first ++ more) all → Stopped held now first all
+stopped-earlier held now first more all s =
+    let grown = text-grows s.no_room first more in
+    record { no_room = s.no_room; text = past-earlier held now _ grown.0 _ (subst (λ t. AppendsPast held now t (course s.no_room all).text) grown.1 s.text) }
+
+-- the writer failed where all was written
+pub stopped-reached : (held now : Option (List ℕ)) (ls : List (List ℕ)) (journal : Kept) (pending : Option Pending) (count refused : ℕ)
+    → Reached held now ls journal pending count refused → Stopped held now ls ls
+stopped-reached held now ls journal pending count refused r = record { no_room = r.no_room; text = past-all held now _ r.text }
+
+-- ---- a line that goes on
+
+-- a count that is far from its end grows by what is added
+grows : (count n more result : ℕ) → count ≤ n → n ≤ 2 ^ 32 → more ≤ 1 → result ≡ min (count + more) (2 ^ 64 - 1) → result ≡ count + more
+grows count n more result within few one sum = omega arith
+
+counts : (count n result : ℕ) → count ≡ n → n < 2 ^ 32 → result ≡ min (count + 1) (2 ^ 64 - 1) → result ≡ n + 1
+counts count n result same few sum = omega arith
+
+-- the course after a line that comes to this
+course-line : (no_room : List ℕ) (ls : List (List ℕ)) (line : List ℕ) (count : ℕ) (t : Taken) → count ≡ length ls + 1
+    → unit_by count (course no_room ls).pending line ≡ t → course no_room (ls ++ line ∷ []) ≡ resolved no_room (stepped (course no_room ls)) t
+course-line no_room ls line count t counted comes =
+    let c = course no_room ls in
+    let place : c.lines + 1 ≡ count = ap (λ k. k + 1) (course-lines no_room ls) ∙ sym counted in
+    course-push no_room ls line ∙ advance-by no_room c line
+    ∙ ap (λ k. resolved no_room (stepped c) (unit_by k c.pending line)) place ∙ ap (resolved no_room (stepped c)) comes
+
+-- the number of the unit that a line belongs to
+number-line : (no_room : List ℕ) (ls : List (List ℕ)) (line : List ℕ) (count : ℕ) (t : Taken) → count ≡ length ls + 1
+    → unit_by count (course no_room ls).pending line ≡ t → (unit_in t).number ≡ unanswered (course no_room ls)
+number-line no_room ls line count t counted comes =
+    let c = course no_room ls in
+    let place : count ≡ c.lines + 1 = counted ∙ ap (λ k. k + 1) (sym (course-lines no_room ls)) in
+    ap (λ x. (unit_in x).number) (sym comes) ∙ number-by count c.pending line ∙ ap (λ k. number_at k c.pending) place
+
+line_goes_on : (held now : Option (List ℕ)) (ls : List (List ℕ)) (line : List ℕ) (old new : Kept) (pending pending' : Option Pending) (count refused count' : ℕ)
+    (r : Reached held now ls old pending count refused) (t : Taken) → count' ≡ length ls + 1 → unit_by count' (course r.no_room ls).pending line ≡ t
+    → Settles t old new pending' None → Reached held now (ls ++ line ∷ []) new pending' count' refused
+line_goes_on held now ls line old new pending pending' count refused count' r (Ends u) counted comes s = absurd s
+line_goes_on held now ls line old new pending pending' count refused count' r (GoesOn u) counted comes s =
+    let more = course-line r.no_room ls line count' (GoesOn u) counted comes in
+    let number : u.number ≡ unanswered (course r.no_room ls) = number-line r.no_room ls line count' (GoesOn u) counted comes in record {
+      no_room = r.no_room;
+      above = λ n above. r.above n (subst (λ k. k ≤ n) (ap unanswered more ∙ number) above);
+      lines = counted ∙ sym (length-append ls (line ∷ []));
+      waits = subst (λ o. Waits o pending') (sym (ap (λ c. c.pending) more)) s.1;
+      lists = ap (λ c. c.lists) more ∙ r.lists ∙ ap lists_of (sym s.0);
+      refused = ap (λ c. c.refused) more ∙ r.refused;
+      text = subst (Appends held now) (sym (ap (λ c. c.text) more)) r.text;
+      begun = subst IsBegun (sym s.0) r.begun;
+    }
+
+pub goes_on_taken : (held now : Option (List ℕ)) (ls : List (List ℕ)) (line : List ℕ) (old new : Kept) (pending pending' : Option Pending) (count refused count' : ℕ)
+    (r : Reached held now ls old pending count refused) → length ls < 2 ^ 32 → count' ≡ min (count + 1) (2 ^ 64 - 1)
+    → Settles (unit_by count' (course r.no_room ls).pending line) old new pending' None → Reached held now (ls ++ line ∷ []) new pending' count' refused
+goes_on_taken held now ls line old new pending pending' count refused count' r few counting s =
+    line_goes_on held now ls line old new pending pending' count refused count' r (unit_by count' (course r.no_room ls).pending line)
+    (counts count (length ls) count' r.lines few counting) refl s
+
+-- ---- a line that ends a unit
+
+-- the course after it
+line_ends : (held now : Option (List ℕ)) (ls : List (List ℕ)) (line : List ℕ) (old new : Kept) (pending : Option Pending) (count refused count' : ℕ) (answer : Answer)
+    (r : Reached held now ls old pending count refused) (u : ScriptUnit) (d : Does (by_unit u) old new answer) → count' ≡ length ls + 1
+    → unit_by count' (course r.no_room ls).pending line ≡ Ends u
+    → course (with_number d.no_room u.number r.no_room) (ls ++ line ∷ []) ≡ goes_on (stepped (course r.no_room ls)) u.number (lists_of new, answer)
+line_ends held now ls line old new pending count refused count' answer r u d counted comes =
+    let no_room = with_number d.no_room u.number r.no_room in
+    let c = course r.no_room ls in
+    let number : u.number ≡ unanswered c = number-line r.no_room ls line count' (Ends u) counted comes in
+    let same : course no_room ls ≡ c = course-with_number d.no_room u.number r.no_room ls (omega arith) in
+    course-line no_room ls line count' (Ends u) counted (ap (λ x. unit_by count' x.pending line) same ∙ comes)
+    ∙ ap (λ x. answered_unit no_room (stepped x) u) same
+    ∙ unit-answered r.no_room (stepped c) u old new answer d (r.above u.number (omega arith)) r.lists
+
+-- what is printed for the unit stands behind the text so far
+printed_behind : (c : Course) (number : ℕ) (new : Kept) (answer : Answer) → IsBegun new
+    → (goes_on c number (lists_of new, answer)).text ≡ c.text ++ answer_text number new.machine answer
+printed_behind c number new answer begun = ap (λ s. c.text ++ answer_text number s answer) (machine_is new begun)
+
+reached_more : (held now now' : Option (List ℕ)) (ls : List (List ℕ)) (line : List ℕ) (old new : Kept) (pending pending' : Option Pending) (count refused count' refused' : ℕ) (answer : Answer)
+    (r : Reached held now ls old pending count refused) (u : ScriptUnit) → Does (by_unit u) old new answer → count' ≡ length ls + 1
+    → unit_by count' (course r.no_room ls).pending line ≡ Ends u → pending' ≡ None → refused' ≡ refused + refusals answer
+    → Appends now now' (answer_text u.number new.machine answer) → Reached held now' (ls ++ line ∷ []) new pending' count' refused'
+reached_more held now now' ls line old new pending pending' count refused count' refused' answer r u d counted comes none refusing written =
+    let c = course r.no_room ls in
+    let more = line_ends held now ls line old new pending count refused count' answer r u d counted comes in
+    let number : u.number ≡ unanswered c = number-line r.no_room ls line count' (Ends u) counted comes in
+    let ordered = course_ordered r.no_room ls in
+    let text = ap (λ d. d.text) more ∙ printed_behind (stepped c) u.number new answer d.begun in record {
+      no_room = with_number d.no_room u.number r.no_room;
+      above = λ n above.
+          let past : (c.lines + 1) + 1 ≤ n = subst (λ k. k ≤ n) (ap unanswered more) above in
+          other_number d.no_room u.number n r.no_room (omega arith) (r.above n (omega arith));
+      lines = counted ∙ sym (length-append ls (line ∷ []));
+      waits = subst (λ o. Waits o pending') (sym (ap (λ c. c.pending) more)) (subst (Waits None) (sym none) tt);
+      lists = ap (λ c. c.lists) more;
+      refused = ap (λ c. c.refused) more ∙ ap (λ k. k + refusals answer) r.refused ∙ sym refusing;
+      text = subst (Appends held now') (sym text) (Appends-trans held now now' _ _ r.text written);
+      begun = d.begun;
+    }
+
+stopped_more : (held now now' : Option (List ℕ)) (ls : List (List ℕ)) (line : List ℕ) (old new : Kept) (pending : Option Pending) (count refused count' : ℕ) (answer : Answer)
+    (r : Reached held now ls old pending count refused) (u : ScriptUnit) → Does (by_unit u) old new answer → count' ≡ length ls + 1
+    → unit_by count' (course r.no_room ls).pending line ≡ Ends u
+    → AppendsFront now now' (answer_text u.number new.machine answer) → Stopped held now' ls (ls ++ line ∷ [])
+stopped_more held now now' ls line old new pending count refused count' answer r u d counted comes written =
+    let c = course r.no_room ls in
+    let more = line_ends held now ls line old new pending count refused count' answer r u d counted comes in
+    let number : u.number ≡ unanswered c = number-line r.no_room ls line count' (Ends u) counted comes in
+    let same = course-with_number d.no_room u.number r.no_room ls (omega arith) in
+    let text = ap (λ d. d.text) more ∙ printed_behind (stepped c) u.number new answer d.begun in record {
+      no_room = with_number d.no_room u.number r.no_room;
+      text = past-same held now' _ _ _ _ (sym (ap (λ x. x.text) same)) (sym text) (past-front held now now' _ _ r.text written);
+    }
+
+ends_taken : {X E : Type 0} (held now now' : Option (List ℕ)) (failed failed' : Bool) (ls : List (List ℕ)) (line : List ℕ) (old new : Kept) (pending pending' : Option Pending)
+    (count refused count' refused' : ℕ) (told : ℕ × Answer) (result : Result X E) (r : Reached held now ls old pending count refused) (t : Taken)
+    → length ls < 2 ^ 32 → count' ≡ length ls + 1 → unit_by count' (course r.no_room ls).pending line ≡ t
+    → Settles t old new pending' (Some told) → refused' ≡ refused + refusals told.1
+    → Prints now now' failed failed' result (answer_text told.0 new.machine told.1)
+    → Finishes held now' failed failed' ls (ls ++ line ∷ []) new pending' count' refused' result
+ends_taken held now now' failed failed' ls line old new pending pending' count refused count' refused' told result r (GoesOn u) few counted comes s refusing printed = absurd s
+ends_taken held now now' failed failed' ls line old new pending pending' count refused count' refused' told (Ok x) r (Ends u) few counted comes s refusing printed = (
+  reached_more held now now' ls line old new pending pending' count refused count' refused' told.1 r u s.2 counted comes s.1 refusing
+      (subst (λ k. Appends now now' (answer_text k new.machine told.1)) s.0 printed.0),
+  printed.1,
+)
+ends_taken held now now' failed failed' ls line old new pending pending' count refused count' refused' told (Err e) r (Ends u) few counted comes s refusing printed = (
+  stopped_more held now now' ls line old new pending count refused count' told.1 r u s.2 counted comes
+      (subst (λ k. AppendsFront now now' (answer_text k new.machine told.1)) s.0 printed.0),
+  printed.1,
+)
+
+pub answer_taken : {X E : Type 0} (held now now' : Option (List ℕ)) (failed failed' : Bool) (ls : List (List ℕ)) (line : List ℕ) (old new : Kept) (pending pending' : Option Pending)
+    (count refused count' refused' : ℕ) (told : ℕ × Answer) (result : Result X E) (r : Reached held now ls old pending count refused)
+    → length ls < 2 ^ 32 → count' ≡ min (count + 1) (2 ^ 64 - 1)
+    → Settles (unit_by count' (course r.no_room ls).pending line) old new pending' (Some told)
+    → refused' ≡ min (refused + refusals told.1) (2 ^ 64 - 1)
+    → Prints now now' failed failed' result (answer_text told.0 new.machine told.1)
+    → Finishes held now' failed failed' ls (ls ++ line ∷ []) new pending' count' refused' result
+answer_taken held now now' failed failed' ls line old new pending pending' count refused count' refused' told result r few counting s refusing printed =
+    let within : refused ≤ length ls = omega (arith, course-refused r.no_room ls, r.refused) in
+    ends_taken held now now' failed failed' ls line old new pending pending' count refused count' refused' told result r
+    (unit_by count' (course r.no_room ls).pending line) few (counts count (length ls) count' r.lines few counting) refl s
+    (grows refused (length ls) (refusals told.1) refused' within (omega arith) (refusals-few told.1) refusing) printed
+
+pub nothing_reached : (held : Option (List ℕ)) (j : Kept) → IsBegun j → lists_of j ≡ record { standing = []; undone = [] } → Reached held held [] j None 0 0
+unfolding course
+nothing_reached held j begun lists = record {
+  no_room = [];
+  above = λ n h. refl;
+  lines = refl;
+  waits = tt;
+  lists = sym lists;
+  refused = refl;
+  text = Appends-nil held;
+  begun = begun;
+}
+
+-- ---- the end of the script
+
+whole-course : (no_room : List ℕ) (ls : List (List ℕ)) (o : Option ScriptUnit) → (course no_room ls).pending ≡ o → whole_course no_room ls ≡ ended no_room (course no_room ls) o
+unfolding whole_course
+whole-course no_room ls o e = ap (ended no_room (course no_room ls)) e
+
+end_waits_none : (held now : Option (List ℕ)) (ls : List (List ℕ)) (journal : Kept) (count refused : ℕ) (r : Reached held now ls journal None count refused) (o : Option ScriptUnit)
+    → (course r.no_room ls).pending ≡ o → Waits o None → Ended held now ls count refused
+end_waits_none held now ls journal count refused r (Some u) is waits = absurd waits
+end_waits_none held now ls journal count refused r None is waits =
+    let same = whole-course r.no_room ls None is in record {
+      no_room = r.no_room;
+      lines = r.lines;
+      refused = ap (λ c. c.refused) same ∙ r.refused;
+      text = subst (Appends held now) (sym (ap (λ c. c.text) same)) r.text;
+    }
+
+pub end_none : (held now : Option (List ℕ)) (ls : List (List ℕ)) (journal : Kept) (pending : Option Pending) (count refused : ℕ) → pending ≡ None
+    → Reached held now ls journal pending count refused → Ended held now ls count refused
+end_none held now ls journal pending count refused none reached =
+    let r = subst (λ p. Reached held now ls journal p count refused) none reached in
+    end_waits_none held now ls journal count refused r (course r.no_room ls).pending refl r.waits
+
+-- the course that ends with the refusal of the unit whose text goes on
+unit_ends : (held now : Option (List ℕ)) (ls : List (List ℕ)) (journal : Kept) (pending : Option Pending) (count refused : ℕ) (answer : Answer)
+    (r : Reached held now ls journal pending count refused) (u : ScriptUnit) (d : Does (by_unit u) journal journal answer) → (course r.no_room ls).pending ≡ Some u
+    → whole_course (with_number d.no_room u.number r.no_room) ls ≡ goes_on (course r.no_room ls) u.number (lists_of journal, answer)
+unit_ends held now ls journal pending count refused answer r u d is =
+    let no_room = with_number d.no_room u.number r.no_room in
+    let c = course r.no_room ls in
+    let number : unanswered c ≡ u.number = ap (number_at (c.lines + 1)) is in
+    let same : course no_room ls ≡ c = course-with_number d.no_room u.number r.no_room ls (omega arith) in
+    whole-course no_room ls (Some u) (ap (λ x. x.pending) same ∙ is)
+    ∙ ap (λ x. answered_unit no_room x u) same
+    ∙ unit-answered r.no_room c u journal journal answer d (r.above u.number (omega arith)) r.lists
+
+end_told : {X E : Type 0} (held now now' : Option (List ℕ)) (failed failed' : Bool) (ls : List (List ℕ)) (journal : Kept) (pending : Option Pending) (count refused refused' number : ℕ) (answer : Answer) (result : Result X E)
+    (r : Reached held now ls journal pending count refused) (u : ScriptUnit) → Does (by_unit u) journal journal answer → (course r.no_room ls).pending ≡ Some u → number ≡ u.number
+    → refused' ≡ refused + refusals answer → Prints now now' failed failed' result (answer_text number journal.machine answer)
+    → Concludes held now' failed failed' ls ls count refused' result
+end_told held now now' failed failed' ls journal pending count refused refused' number answer (Ok x) r u d is named refusing printed =
+    let c = course r.no_room ls in
+    let more = unit_ends held now ls journal pending count refused answer r u d is in
+    let text = ap (λ d. d.text) more ∙ printed_behind c u.number journal answer r.begun in (
+      record {
+        no_room = with_number d.no_room u.number r.no_room;
+        lines = r.lines;
+        refused = ap (λ c. c.refused) more ∙ ap (λ k. k + refusals answer) r.refused ∙ sym refusing;
+        text = subst (Appends held now') (sym text)
+            (Appends-trans held now now' _ _ r.text (subst (λ k. Appends now now' (answer_text k journal.machine answer)) named printed.0));
+      },
+      printed.1,
+    )
+end_told held now now' failed failed' ls journal pending count refused refused' number answer (Err e) r u d is named refusing printed =
+    let c = course r.no_room ls in
+    let more = unit_ends held now ls journal pending count refused answer r u d is in
+    let order : unanswered c ≡ u.number = ap (number_at (c.lines + 1)) is in
+    let same = course-with_number d.no_room u.number r.no_room ls (omega arith) in
+    let text = ap (λ d. d.text) more ∙ printed_behind c u.number journal answer r.begun in (
+      record {
+        no_room = with_number d.no_room u.number r.no_room;
+        text = past-same held now' _ _ _ _ (sym (ap (λ x. x.text) same)) (sym text)
+            (past-front held now now' _ _ r.text (subst (λ k. AppendsFront now now' (answer_text k journal.machine answer)) named printed.0));
+      },
+      printed.1,
+    )
+
+end_waits : {X E : Type 0} (held now now' : Option (List ℕ)) (failed failed' : Bool) (ls : List (List ℕ)) (journal : Kept) (p : Pending) (count refused refused' : ℕ) (reason : ShellRefusal) (result : Result X E)
+    (r : Reached held now ls journal (Some p) count refused) (o : Option ScriptUnit) → (course r.no_room ls).pending ≡ o → Waits o (Some p)
+    → ((u : ScriptUnit) → IsGathered u p → IsRefused u reason)
+    → refused' ≡ refused + 1 → Prints now now' failed failed' result (answer_text p.number journal.machine (Refused reason))
+    → Concludes held now' failed failed' ls ls count refused' result
+end_waits held now now' failed failed' ls journal p count refused refused' reason result r None is waits why refusing printed = absurd waits
+end_waits held now now' failed failed' ls journal p count refused refused' reason result r (Some u) is waits why refusing printed =
+    let w = why u waits in
+    let d : Does (by_unit u) journal journal (Refused reason) = record { no_room = w.no_room; told = w.told (lists_of journal); begun = r.begun } in
+    end_told held now now' failed failed' ls journal (Some p) count refused refused' p.number (Refused reason) result r u d is waits.number refusing printed
+
+pub end_refused : {X E : Type 0} (held now now' : Option (List ℕ)) (failed failed' : Bool) (ls : List (List ℕ)) (journal : Kept) (pending : Option Pending) (p : Pending) (count refused refused' : ℕ) (reason : ShellRefusal) (result : Result X E)
+    → length ls ≤ 2 ^ 32 → pending ≡ Some p → Reached held now ls journal pending count refused
+    → ((u : ScriptUnit) → IsGathered u p → IsRefused u reason)
+    → refused' ≡ min (refused + 1) (2 ^ 64 - 1) → Prints now now' failed failed' result (answer_text p.number journal.machine (Refused reason))
+    → Concludes held now' failed failed' ls ls count refused' result
+end_refused held now now' failed failed' ls journal pending p count refused refused' reason result few is reached why refusing printed =
+    let r = subst (λ o. Reached held now ls journal o count refused) is reached in
+    let within : refused ≤ length ls = omega (arith, course-refused r.no_room ls, r.refused) in
+    end_waits held now now' failed failed' ls journal p count refused refused' reason result r (course r.no_room ls).pending refl r.waits why
+    (grows refused (length ls) 1 refused' within few (omega arith) refusing) printed
+
+ended-grows : (no_room : List ℕ) (c : Course) (o : Option ScriptUnit) → (rest : List ℕ) × ((ended no_room c o).text ≡ c.text ++ rest)
+ended-grows no_room c None = ([], sym (append-nil c.text))
+ended-grows no_room c (Some u) =
+    let told = (answered_unit no_room c u).lists in
+    (_, refl)
+
+-- the writer failed before the unit was answered whose text goes on
+pub stopped_before : (held now : Option (List ℕ)) (first all : List (List ℕ)) → Stopped held now first all → StoppedAtEnd held now first all
+unfolding whole_course
+stopped_before held now first all s =
+    let c = course s.no_room all in
+    let grown = ended-grows s.no_room c c.pending in
+    record { no_room = s.no_room; text = subst (AppendsPast held now (course s.no_room first).text) (sym grown.1) (past-append held now _ _ grown.0 s.text) }
+
+pub stopped_earlier : (held now : Option (List ℕ)) (first more all : List (List ℕ)) → StoppedAtEnd held now (first ++ more) all → StoppedAtEnd held now first all
+stopped_earlier held now first more all s =
+    let grown = text-grows s.no_room first more in
+    record { no_room = s.no_room; text = past-earlier held now _ grown.0 _ (subst (λ t. AppendsPast held now t (whole_course s.no_room all).text) grown.1 s.text) }
