@@ -16,8 +16,12 @@ fn drawn(flip: &mut Flip) -> u32 {
 // Takes so many draws back, one by one.
 fn back(flip: &mut Flip, count: u32) {
     for _ in 0..count {
-        flip.back();
+        back_once(flip);
     }
+}
+
+fn back_once(flip: &mut Flip) {
+    flip.back();
 }
 
 fn back_by(flip: &mut Flip, count: u64) {

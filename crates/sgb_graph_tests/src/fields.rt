@@ -183,16 +183,28 @@ fn is_honest_with(graph: &mut Graph, letter: u8, value: Util) -> Result<bool, Re
 }
 
 #[test]
-fn letters_allow_values(rt: HostRuntime) -> Result<(), Fail> {
+fn z_and_i_allow_no_references(rt: HostRuntime) -> Result<(), Fail> {
     let mut graph = one_loop(rt.alloc())?;
-    let word = Util::Text(text(rt.alloc(), b"a")?);
     assert!(rt; is_honest_with(&mut graph, b'Z', Util::Zero)?);
     assert!(rt; !is_honest_with(&mut graph, b'Z', Util::Int(1))?);
     assert!(rt; is_honest_with(&mut graph, b'I', Util::Int(2))?);
     assert!(rt; !is_honest_with(&mut graph, b'I', Util::Vertex(VertexNo(0)))?);
+    Ok(())
+}
+
+#[test]
+fn v_allows_a_vertex_and_1(rt: HostRuntime) -> Result<(), Fail> {
+    let mut graph = one_loop(rt.alloc())?;
     assert!(rt; is_honest_with(&mut graph, b'V', Util::Vertex(VertexNo(0)))?);
     assert!(rt; is_honest_with(&mut graph, b'V', Util::Int(1))?);
     assert!(rt; !is_honest_with(&mut graph, b'V', Util::Int(2))?);
+    Ok(())
+}
+
+#[test]
+fn a_and_s_allow_arcs_and_texts(rt: HostRuntime) -> Result<(), Fail> {
+    let mut graph = one_loop(rt.alloc())?;
+    let word = Util::Text(text(rt.alloc(), b"a")?);
     assert!(rt; is_honest_with(&mut graph, b'A', Util::Arc(ArcNo(0)))?);
     assert!(rt; !is_honest_with(&mut graph, b'A', Util::Vertex(VertexNo(0)))?);
     assert!(rt; is_honest_with(&mut graph, b'S', word)?);

@@ -1,7 +1,7 @@
 //! A reader and a writer that remember whether a call failed. Contracts tell faults by that.
-ghost use Rattle.std.specs.Prelude.{◌≡◌, ◌+◌, ◌<◌, ◌^◌, false, length, MatchResult, IfOk, is_err, ◌||◌};
+ghost use Rattle.std.specs.Prelude.{◌≡◌, ◌+◌, ◌<◌, ◌≤◌, ◌^◌, false, length, take, MatchResult, IfOk, is_err, ◌||◌};
 ghost use Rattle.std.specs.Io.{ReadsAtMost, WritesAtMost};
-ghost use Rattle.std.specs.Io.KnownBytes.{ReadConsumes, WriteAppends, Keeps};
+ghost use Rattle.std.specs.Io.KnownBytes.{Consumes, IsAtEnd, ReadConsumes, WriteAppends, Keeps};
 
 use std::io::{Read, Write};
 use std::marker::Model;
@@ -101,6 +101,25 @@ impl<R: Read> MeteredReader<R> {
                 Err(Failed)
             }
         }
+    }
+
+    /// Makes one read, of at most so many bytes. No bytes at `Ok` say that there are no more.
+    pub fn read_some(&mut self, buffer: &mut [u8], most: usize) -> Result<usize, Failed>
+        requires most { 0 < most }
+        requires buffer { 0 < length buffer.old }
+        requires reads { self.old.reads < 2 ^ 63 }
+        ensures reads { self.new.reads ≡ self.old.reads + 1 }
+        ensures last { MatchResult result (λ count. self.new.last ≡ count) (λ _. self.new.last ≡ 0) }
+        ensures failed { self.new.failed ≡ (self.old.failed || is_err result) }
+        ensures bytes { MatchResult result
+            (λ count. (count ≤ most) × (count ≤ length buffer.new)
+            × Consumes (R.remaining self.old.inner) (R.remaining self.new.inner) (take count buffer.new)
+            × (count ≡ 0 → IsAtEnd (R.remaining self.new.inner)))
+            (λ _. Keeps (R.remaining self.old.inner) (R.remaining self.new.inner)) }
+    {
+        let room = buffer.len().min(most);
+        let (space, _) = buffer.split_at_mut(room);
+        self.read(space)
     }
 }
 

@@ -1,9 +1,8 @@
 //! Reads a whole file.
-ghost use Rattle.std.specs.Prelude.{◌≡◌, ◌+◌, ◌<◌, ◌≤◌, ◌^◌, ◌||◌, false, length, take, MatchResult, is_err};
-ghost use Rattle.std.specs.Io.KnownBytes.{Consumes, IsAtEnd, Keeps};
+ghost use Rattle.std.specs.Prelude.{◌≡◌, false};
 ghost use Rattle.sgb_programs.specs.File.{ReadsFile};
 
-use sgb_print::{Failed, MeteredReader, RunFault};
+use sgb_print::{MeteredReader, RunFault};
 use std::alloc::Global;
 use std::io::Read;
 
@@ -24,7 +23,7 @@ pub fn read_file<R: Read>(alloc: Global, reader: &mut MeteredReader<R>) -> Resul
     let mut chunk = [0u8; CHUNK];
     let mut room = FILE_LIMIT;
     while room > 0 {
-        let Ok(count) = read_some(reader, &mut chunk, room) else {
+        let Ok(count) = reader.read_some(&mut chunk, room) else {
             return Err(RunFault::Read);
         };
         if count == 0 {
@@ -36,31 +35,9 @@ pub fn read_file<R: Read>(alloc: Global, reader: &mut MeteredReader<R>) -> Resul
             return Err(RunFault::NoRoom);
         }
     }
-    match read_some(reader, &mut chunk, 1) {
+    match reader.read_some(&mut chunk, 1) {
         Ok(0) => Ok(file),
         Ok(_) => Err(RunFault::TooLong),
         Err(_) => Err(RunFault::Read),
     }
-}
-
-// Makes one read, of at most so many bytes.
-fn read_some<R: Read>(
-    reader: &mut MeteredReader<R>,
-    chunk: &mut [u8],
-    most: usize,
-) -> Result<usize, Failed>
-    requires most { 0 < most }
-    requires chunk { 0 < length chunk.old }
-    requires reads { reader.old.reads < 2 ^ 63 }
-    ensures reads { reader.new.reads ≡ reader.old.reads + 1 }
-    ensures failed { reader.new.failed ≡ (reader.old.failed || is_err result) }
-    ensures bytes { MatchResult result
-        (λ count. (count ≤ most) × (count ≤ length chunk.new)
-        × Consumes (R.remaining reader.old.inner) (R.remaining reader.new.inner) (take count chunk.new)
-        × (count ≡ 0 → IsAtEnd (R.remaining reader.new.inner)))
-        (λ _. Keeps (R.remaining reader.old.inner) (R.remaining reader.new.inner)) }
-{
-    let room = chunk.len().min(most);
-    let (space, _) = chunk.split_at_mut(room);
-    reader.read(space)
 }

@@ -1,14 +1,12 @@
 //! Runs a script from a reader to a writer.
-ghost use Rattle.std.specs.Prelude.{◌≡◌, ◌+◌, ◌<◌, ◌≤◌, ◌^◌, ◌||◌, false, length, take, MatchResult, IfOk, IsErrOf, is_err, [], List, ℕ};
-ghost use Rattle.sgb_shell.specs.Transcript.{transcript};
-ghost use Rattle.std.specs.Io.KnownBytes.{Consumes, IsAtEnd, Keeps};
+ghost use Rattle.std.specs.Prelude.{◌≡◌, ◌<◌, ◌^◌, false, length, []};
 ghost use Rattle.sgb_shell.specs.Private.Reaching.{Progress};
 ghost use Rattle.sgb_shell.specs.Private.Taking.{TakesScript, ReadsOn};
 ghost use Rattle.sgb_shell.specs.Run.{Runs};
 
 use crate::fault::RunEnd;
 use crate::shell::Shell;
-use sgb_print::{Failed, MeteredReader, MeteredWriter, RunFault};
+use sgb_print::{MeteredReader, MeteredWriter, RunFault};
 use std::alloc::Global;
 use std::io::{Read, Write};
 
@@ -126,30 +124,8 @@ fn read_on<R: Read, W: Write>(
     if writer.flush().is_err() {
         return Err(RunFault::Write);
     }
-    match read_some(reader, chunk, most) {
+    match reader.read_some(chunk, most) {
         Ok(count) => Ok(count),
         Err(_) => Err(RunFault::Read),
     }
-}
-
-// Makes one read, of at most so many bytes.
-fn read_some<R: Read>(
-    reader: &mut MeteredReader<R>,
-    chunk: &mut [u8],
-    most: usize,
-) -> Result<usize, Failed>
-    requires most { 0 < most }
-    requires chunk { 0 < length chunk.old }
-    requires reads { reader.old.reads < 2 ^ 63 }
-    ensures reads { reader.new.reads ≡ reader.old.reads + 1 }
-    ensures failed { reader.new.failed ≡ (reader.old.failed || is_err result) }
-    ensures bytes { MatchResult result
-        (λ count. (reader.new.last ≡ count) × (count ≤ most) × (count ≤ length chunk.new)
-        × Consumes (R.remaining reader.old.inner) (R.remaining reader.new.inner) (take count chunk.new)
-        × (count ≡ 0 → IsAtEnd (R.remaining reader.new.inner)))
-        (λ _. Keeps (R.remaining reader.old.inner) (R.remaining reader.new.inner)) }
-{
-    let room = chunk.len().min(most);
-    let (space, _) = chunk.split_at_mut(room);
-    reader.read(space)
 }
