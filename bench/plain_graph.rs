@@ -4,6 +4,7 @@ use std::time::Instant;
 const VERTICES: u32 = 65_535;
 const ARCS: u32 = 1_000_000;
 const CUTS: u32 = 200_000;
+const RECORDS: u32 = 600_000;
 
 #[derive(Clone, Copy)]
 enum Tip {
@@ -41,6 +42,20 @@ struct Graph {
     vertices: Vec<Vertex>,
     slots: Vec<Option<Slot>>,
     live: u32,
+}
+
+struct VertexPart {
+    #[allow(dead_code)]
+    label: Option<Box<[u8]>>,
+    fields: [Util; 6],
+    first: Option<u32>,
+}
+
+struct ArcPart {
+    tip: Tip,
+    len: i64,
+    fields: [Util; 2],
+    next: Option<u32>,
 }
 
 struct Cut {
@@ -131,6 +146,52 @@ impl Graph {
         self.live += 1;
     }
 
+    // The graph of linked records: a record that no chain reaches is a hole.
+    fn build(vertices: &[VertexPart], arcs: Vec<ArcPart>) -> Result<Graph, ()> {
+        let n = vertices.len();
+        let mut graph = Graph::new(n as u32);
+        let mut owners: Vec<u32> = vec![u32::MAX; arcs.len()];
+        for (owner, vertex) in vertices.iter().enumerate() {
+            let mut link = vertex.first;
+            while let Some(number) = link {
+                let part = arcs.get(number as usize).ok_or(())?;
+                if owners[number as usize] != u32::MAX {
+                    return Err(());
+                }
+                owners[number as usize] = owner as u32;
+                link = part.next;
+            }
+            graph.vertices[owner].first = vertex.first;
+        }
+        let can_name = |value: &Util| match value {
+            Util::Vertex(vertex) => (*vertex as usize) < n,
+            Util::Arc(number) => owners.get(*number as usize).is_some_and(|owner| *owner != u32::MAX),
+            _ => true,
+        };
+        if !vertices.iter().all(|part| part.fields.iter().all(can_name)) {
+            return Err(());
+        }
+        graph.slots.reserve(arcs.len());
+        for (part, owner) in arcs.iter().zip(&owners) {
+            let leads = match part.tip {
+                Tip::To(vertex) => (vertex as usize) < n,
+                _ => true,
+            };
+            if *owner != u32::MAX && (!leads || !part.fields.iter().all(can_name)) {
+                return Err(());
+            }
+        }
+        for (part, owner) in arcs.into_iter().zip(&owners) {
+            graph.slots.push(if *owner == u32::MAX {
+                None
+            } else {
+                graph.live += 1;
+                Some(Slot { owner: *owner, tip: part.tip, next: part.next, names: 0, len: part.len, fields: part.fields })
+            });
+        }
+        Ok(graph)
+    }
+
     fn walk(&self) -> u64 {
         let mut sum = 0u64;
         for vertex in &self.vertices {
@@ -150,6 +211,19 @@ fn tell(name: &str, start: Instant, count: u32, check: u64) {
 
 fn ends(i: u32) -> (u32, u32) {
     (i.wrapping_mul(7919) % VERTICES, i.wrapping_mul(31) % VERTICES)
+}
+
+fn parts() -> (Vec<VertexPart>, Vec<ArcPart>) {
+    let zeros = || [Util::Zero, Util::Zero, Util::Zero, Util::Zero, Util::Zero, Util::Zero];
+    let mut vertices: Vec<VertexPart> =
+        (0..VERTICES).map(|_| VertexPart { label: None, fields: zeros(), first: None }).collect();
+    let mut arcs = Vec::new();
+    for i in 0..RECORDS {
+        let (from, to) = ends(i);
+        let next = vertices[from as usize].first.replace(i);
+        arcs.push(ArcPart { tip: Tip::To(to), len: 1, fields: [Util::Zero, Util::Zero], next });
+    }
+    (vertices, arcs)
 }
 
 fn main() {
@@ -181,5 +255,9 @@ fn main() {
         tell("new_edge", start, ARCS / 2, lens as u64);
         let tips: u64 = graph.slots.iter().flatten().map(|slot| match slot.tip { Tip::To(v) => u64::from(v), _ => 0 }).sum();
         assert!(tips > 0);
+        let (vertices, arcs) = parts();
+        let start = Instant::now();
+        let built = Graph::build(&vertices, arcs);
+        tell("build", start, RECORDS, built.map_or(0, |graph| u64::from(graph.live)));
     }
 }

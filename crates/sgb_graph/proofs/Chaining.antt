@@ -2,7 +2,7 @@
 use Rattle.std.proofs.Common.{◌≡◌, ◌≢◌, ◌<◌, ◌≤◌, ◌+◌, ℕ, zero, suc, List, [], ◌∷◌, ◌++◌, length, get_or, Option, Some, None, is_some, IfSome, All, true, false, not, ◌&&◌, refl, sym, ap, subst, ◌∙◌, arith, cond, ◌⊎◌, inl, inr, FitsSigned, ◌==◌}
 use Rattle.std.specs.Int.{w64}
 use Rattle.std.proofs.lemmas.Bool.{cases_Bool, cases_order, cases_eq, ltb-true, lt-ltb, and_parts}
-use Rattle.std.proofs.lemmas.List.{get_or_at, append_assoc, append-nil, length_push, get_or_default, length-append, get_or_append_left}
+use Rattle.std.proofs.lemmas.List.{get_or_at, append_assoc, append-nil, length_push, get_or_default, length-append, length-map, get_or_append_left}
 use Rattle.std.proofs.lemmas.List.Sums.{sum_by-append}
 use Rattle.sgb_graph.specs.declared.field.ArcNo.{ArcNo}
 use Rattle.sgb_graph.specs.declared.field.VertexNo.{VertexNo}
@@ -19,10 +19,10 @@ use Rattle.sgb_graph.specs.Parts.{vertex_part, arc_part, next_part}
 use Rattle.sgb_graph.specs.declared.refusal.Refusal.{Refusal}
 use Rattle.sgb_graph.specs.declared.refusal.Refusal.TheVariants.{NoRoom, BadOperand}
 use Rattle.std.proofs.lemmas.List.Elements.{All-push}
-use Rattle.sgb_graph.specs.Private.Lay.{RefusesToLay, IsChain, IsLaid, Lays, Laying, LayingAt, laid_arc, can_lead, can_lay}
+use Rattle.sgb_graph.specs.Private.Lay.{RefusesToLay, links_of, link_at, IsChain, IsLaid, Lays, Laying, LayingAt, laid_arc, can_lead, can_lay}
 use Rattle.sgb_graph.specs.Field.{arc_no}
 use Rattle.sgb_graph.specs.Private.Fill.{SameNames}
-use Rattle.sgb_graph.proofs.Chains.{chain_is}
+use Rattle.sgb_graph.proofs.Chains.{chain_is, Leads-agree}
 use Rattle.sgb_graph.proofs.Counts.{occurs_yes, sum_some}
 use Rattle.sgb_graph.proofs.Graphs.{listed_live, one_owner, arcs_live, few_arcs_of, made_of_live}
 use Rattle.sgb_graph.proofs.PutBack.{put_n, put_made, put_vertex_same, put_vertex_other, put_entry_same, put_entry_other}
@@ -72,48 +72,67 @@ begins next k (j ∷ ks) l =
     record { rest = ks; is = ap (λ (x : ArcNo). x.0 ∷ ks) (sym same) }
 
 -- a chain that leaves the records, or is longer than they are many, is none
-pub chain_leaves : (rs : List ArcPart) (first : Option ArcNo) (done : List ℕ) (k : ArcNo) (ks : List ℕ) → Leads (next_part rs) first done (Some k) → length rs ≤ k.0 → IsChain rs first ks → ⊥
-chain_leaves rs first done k ks l past c =
-    let r = rest_of (next_part rs) first done (Some k) ks l c.leads in
-    let b = begins (next_part rs) k r.rest r.leads in
+pub chain_leaves : (ls : List (Option ArcNo)) (first : Option ArcNo) (done : List ℕ) (k : ArcNo) (ks : List ℕ) → Leads (link_at ls) first done (Some k) → length ls ≤ k.0 → IsChain ls first ks → ⊥
+chain_leaves ls first done k ks l past c =
+    let r = rest_of (link_at ls) first done (Some k) ks l c.leads in
+    let b = begins (link_at ls) k r.rest r.leads in
     let is : ks ≡ done ++ (k.0 ∷ b.rest) = r.is ∙ ap (λ x. done ++ x) b.is in
     let size : length ks ≡ length done + (1 + length b.rest) = ap length is ∙ (length-append done (k.0 ∷ b.rest) ∙ omega arith) in
     let at : get_or ks (length done) 0 ≡ k.0 = ap (λ x. get_or x (length done) 0) is ∙ get_or_at done k.0 b.rest 0 (length done) refl in
     omega (arith, c.within (length done) 0 (omega arith), at)
 
-pub chain_too_long : (rs : List ArcPart) (first : Option ArcNo) (done : List ℕ) (k : ArcNo) (ks : List ℕ) → Leads (next_part rs) first done (Some k) → length done ≡ length rs → IsChain rs first ks → length ks ≤ length rs → ⊥
-chain_too_long rs first done k ks l all c few =
-    let r = rest_of (next_part rs) first done (Some k) ks l c.leads in
-    let b = begins (next_part rs) k r.rest r.leads in
+pub chain_too_long : (ls : List (Option ArcNo)) (first : Option ArcNo) (done : List ℕ) (k : ArcNo) (ks : List ℕ) → Leads (link_at ls) first done (Some k) → length done ≡ length ls → IsChain ls first ks → length ks ≤ length ls → ⊥
+chain_too_long ls first done k ks l all c few =
+    let r = rest_of (link_at ls) first done (Some k) ks l c.leads in
+    let b = begins (link_at ls) k r.rest r.leads in
     let is : ks ≡ done ++ (k.0 ∷ b.rest) = r.is ∙ ap (λ x. done ++ x) b.is in
     let size : length ks ≡ length done + (1 + length b.rest) = ap length is ∙ (length-append done (k.0 ∷ b.rest) ∙ omega arith) in
     omega arith
 
+-- a chain over the links is one over the records
+pub link_of_part : (rs : List ArcPart) (k : ℕ) → link_at (links_of rs) k ≡ next_part rs k
+link_of_part [] k = refl
+link_of_part (r ∷ rs) zero = refl
+link_of_part (r ∷ rs) (suc k) = link_of_part rs k
+
+links_count : (rs : List ArcPart) → length (links_of rs) ≡ length rs
+links_count rs = length-map rs (λ (r : ArcPart). r.next)
+
+over_links : (rs : List ArcPart) (link : Option ArcNo) (ks : List ℕ) → Leads (next_part rs) link ks None → All (λ k. k < length rs) ks → IsChain (links_of rs) link ks
+over_links rs link ks leads within =
+    record {
+      leads = Leads-agree (next_part rs) (link_at (links_of rs)) link ks None (λ j _. link_of_part rs j) leads;
+      within = λ i d h. omega (arith, within i d h, links_count rs);
+    }
+
+over_parts : (rs : List ArcPart) (link : Option ArcNo) (ks : List ℕ) → IsChain (links_of rs) link ks → Leads (next_part rs) link ks None
+over_parts rs link ks c = Leads-agree (link_at (links_of rs)) (next_part rs) link ks None (λ j _. sym (link_of_part rs j)) c.leads
+
 -- the chain of a vertex in a graph that lays them all
 pub record ChainOf (vs : List VertexPart) (rs : List ArcPart) (h : GraphOf) (v : ℕ) : Type 0 where
-  pub chain : IsChain rs (vertex_part vs v).first (arcs_of h v)
-  pub few : length (arcs_of h v) ≤ length rs
+  pub chain : IsChain (links_of rs) (vertex_part vs v).first (arcs_of h v)
+  pub few : length (arcs_of h v) ≤ length (links_of rs)
 
 pub chain_of : (vs : List VertexPart) (rs : List ArcPart) (h : GraphOf) (v : ℕ) → Lays vs rs h → v < length vs → ChainOf vs rs h v
 chain_of vs rs h v x low =
     record {
-      chain = record {
-        leads = x.lists v (omega (arith, x.n));
-        within = λ i d l. omega (arith, (arcs_live h v x.graph i d l).made, x.made);
-      };
-      few = omega (arith, few_arcs_of h v x.graph, x.made);
+      chain = over_links rs (vertex_part vs v).first (arcs_of h v) (x.lists v (omega (arith, x.n)))
+          (λ i d l. omega (arith, (arcs_live h v x.graph i d l).made, x.made));
+      few = omega (arith, few_arcs_of h v x.graph, x.made, links_count rs);
     }
 
 -- the laying of one vertex begins and ends
-pub laying_begins : (vs : List VertexPart) (rs : List ArcPart) (v : ℕ) (g : GraphOf) (ks : List ℕ) → Laying vs rs v g → IsChain rs (vertex_part vs v).first ks → LayingAt vs rs v ks g
-laying_begins vs rs v g ks x c =
+pub laying_begins : (vs : List VertexPart) (rs : List ArcPart) (v : ℕ) (g : GraphOf) (ls : List (Option ArcNo)) (first : Option ArcNo) (ks : List ℕ) → Laying vs rs v g → ls ≡ links_of rs → first ≡ (vertex_part vs v).first → IsChain ls first ks
+    → LayingAt vs rs v ks g
+laying_begins vs rs v g ls first ks x links is collected =
+    let c : IsChain (links_of rs) (vertex_part vs v).first ks = subst (λ l. IsChain l (vertex_part vs v).first ks) links (subst (λ f. IsChain ls f ks) is collected) in
     let none : arcs_of g v ≡ [] = x.empty v (omega arith) in
     record {
       n = x.n;
       made = x.made;
       lists = x.lists;
-      here = subst (λ r. Leads (next_part rs) (vertex_part vs v).first r None) (sym (append-nil ks) ∙ ap (λ r. ks ++ r) (sym none)) c.leads;
-      within = c.within;
+      here = subst (λ r. Leads (next_part rs) (vertex_part vs v).first r None) (sym (append-nil ks) ∙ ap (λ r. ks ++ r) (sym none)) (over_parts rs (vertex_part vs v).first ks c);
+      within = λ i d h. omega (arith, c.within i d h, links_count rs);
       empty = λ w h. x.empty w (omega arith);
       arcs = x.arcs;
       graph = x.graph;
@@ -262,42 +281,45 @@ lays_same vs rs g h x y =
     }
 
 -- what is collected of a chain: so many numbers, and the link that is next
-pub record Collected (rs : List ArcPart) (first : Option ArcNo) (ks : List ℕ) (link : Option ArcNo) (n : ℕ) : Type 0 where
-  pub leads : Leads (next_part rs) first ks link
-  pub within : All (λ k. k < length rs) ks
+pub record Collected (ls : List (Option ArcNo)) (first : Option ArcNo) (ks : List ℕ) (link : Option ArcNo) (n : ℕ) : Type 0 where
+  pub leads : Leads (link_at ls) first ks link
+  pub within : All (λ k. k < length ls) ks
   pub count : length ks ≡ n
 
-pub collected_none : (rs : List ArcPart) (first : Option ArcNo) (ks : List ℕ) → ks ≡ [] → Collected rs first ks first 0
+pub collected_none : (ls : List (Option ArcNo)) (first : Option ArcNo) (ks : List ℕ) → ks ≡ [] → Collected ls first ks first 0
 unfolding Leads
-collected_none rs first ks none = subst (λ js. Collected rs first js first 0) (sym none) (record { leads = refl; within = λ i d h. absurd (omega arith); count = refl })
+collected_none ls first ks none = subst (λ js. Collected ls first js first 0) (sym none) (record { leads = refl; within = λ i d h. absurd (omega arith); count = refl })
 
-pub collected_more : (rs : List ArcPart) (first : Option ArcNo) (ks js : List ℕ) (link next : Option ArcNo) (n : ℕ) (k : ArcNo) → Collected rs first ks link n → link ≡ Some k → k.0 < length rs → js ≡ ks ++ k.0 ∷ [] → next ≡ next_part rs k.0
-    → Collected rs first js next (n + 1)
-collected_more rs first ks js link next n k x is low pushed follows =
-    let leads : Leads (next_part rs) first (ks ++ k.0 ∷ []) (next_part rs k.0) =
-    Leads-push (next_part rs) first ks k (subst (λ l. Leads (next_part rs) first ks l) is x.leads) in
-    subst (λ l. Collected rs first js l (n + 1)) (sym follows)
-    (subst (λ l. Collected rs first l (next_part rs k.0) (n + 1)) (sym pushed)
-    (record { leads = leads; within = All-push (λ j. j < length rs) ks k.0 x.within low; count = omega (arith, length_push ks k.0, x.count) }))
+pub collected_more : (ls : List (Option ArcNo)) (first : Option ArcNo) (ks js : List ℕ) (link next : Option ArcNo) (n : ℕ) (k : ArcNo) → Collected ls first ks link n → link ≡ Some k → k.0 < length ls → js ≡ ks ++ k.0 ∷ [] → next ≡ link_at ls k.0
+    → Collected ls first js next (n + 1)
+collected_more ls first ks js link next n k x is low pushed follows =
+    let leads : Leads (link_at ls) first (ks ++ k.0 ∷ []) (link_at ls k.0) =
+    Leads-push (link_at ls) first ks k (subst (λ l. Leads (link_at ls) first ks l) is x.leads) in
+    subst (λ l. Collected ls first js l (n + 1)) (sym follows)
+    (subst (λ l. Collected ls first l (link_at ls k.0) (n + 1)) (sym pushed)
+    (record { leads = leads; within = All-push (λ j. j < length ls) ks k.0 x.within low; count = omega (arith, length_push ks k.0, x.count) }))
 
-pub collected_all : (rs : List ArcPart) (first : Option ArcNo) (ks : List ℕ) (link : Option ArcNo) (n : ℕ) → Collected rs first ks link n → link ≡ None → IsChain rs first ks
-collected_all rs first ks link n x ends = record { leads = subst (λ l. Leads (next_part rs) first ks l) ends x.leads; within = x.within }
+pub collected_all : (ls : List (Option ArcNo)) (first : Option ArcNo) (ks : List ℕ) (link : Option ArcNo) (n : ℕ) → Collected ls first ks link n → link ≡ None → IsChain ls first ks
+collected_all ls first ks link n x ends = record { leads = subst (λ l. Leads (link_at ls) first ks l) ends x.leads; within = x.within }
 
-pub collected_leaves : (rs : List ArcPart) (first : Option ArcNo) (done ks : List ℕ) (link : Option ArcNo) (n : ℕ) (k : ArcNo) → Collected rs first done link n → link ≡ Some k → length rs ≤ k.0 → IsChain rs first ks → ⊥
-collected_leaves rs first done ks link n k x is past c = chain_leaves rs first done k ks (subst (λ l. Leads (next_part rs) first done l) is x.leads) past c
+pub collected_leaves : (ls : List (Option ArcNo)) (first : Option ArcNo) (done ks : List ℕ) (link : Option ArcNo) (n : ℕ) (k : ArcNo) → Collected ls first done link n → link ≡ Some k → length ls ≤ k.0 → IsChain ls first ks → ⊥
+collected_leaves ls first done ks link n k x is past c = chain_leaves ls first done k ks (subst (λ l. Leads (link_at ls) first done l) is x.leads) past c
 
-pub collected_too_many : (rs : List ArcPart) (first : Option ArcNo) (done ks : List ℕ) (link : Option ArcNo) (n : ℕ) (k : ArcNo) → Collected rs first done link n → link ≡ Some k → length rs ≤ n → n ≤ length rs → IsChain rs first ks → length ks ≤ length rs → ⊥
-collected_too_many rs first done ks link n k x is a b c few =
-    chain_too_long rs first done k ks (subst (λ l. Leads (next_part rs) first done l) is x.leads) (omega (arith, x.count)) c few
+pub collected_too_many : (ls : List (Option ArcNo)) (first : Option ArcNo) (done ks : List ℕ) (link : Option ArcNo) (n : ℕ) (k : ArcNo) → Collected ls first done link n → link ≡ Some k → length ls ≤ n → n ≤ length ls → IsChain ls first ks → length ks ≤ length ls → ⊥
+collected_too_many ls first done ks link n k x is a b c few =
+    chain_too_long ls first done k ks (subst (λ l. Leads (link_at ls) first done l) is x.leads) (omega (arith, x.count)) c few
 
 -- a chain that cannot be collected is laid by no graph
-pub collect_refused : (vs : List VertexPart) (rs : List ArcPart) (v : ℕ) (first : Option ArcNo) (e : Refusal) → v < length vs → first ≡ (vertex_part vs v).first
-    → (e ≡ NoRoom) ⊎ ((e ≡ BadOperand) × ((ks : List ℕ) → IsChain rs first ks → length ks ≤ length rs → ⊥)) → RefusesToLay vs rs e
-collect_refused vs rs v first e low is (inl room) = inl room
-collect_refused vs rs v first e low is (inr bad) =
+pub collect_refused : (vs : List VertexPart) (rs : List ArcPart) (ls : List (Option ArcNo)) (v : ℕ) (first : Option ArcNo) (e : Refusal) → v < length vs → first ≡ (vertex_part vs v).first → ls ≡ links_of rs
+    → (e ≡ NoRoom) ⊎ ((e ≡ BadOperand) × ((ks : List ℕ) → IsChain ls first ks → length ks ≤ length ls → ⊥)) → RefusesToLay vs rs e
+collect_refused vs rs ls v first e low is links (inl room) = inl room
+collect_refused vs rs ls v first e low is links (inr bad) =
     inr (
       bad.0,
-      λ h lays. (let c = chain_of vs rs h v lays low in bad.1 (arcs_of h v) (subst (λ l. IsChain rs l (arcs_of h v)) (sym is) c.chain) c.few),
+      λ h lays.
+          (let c = chain_of vs rs h v lays low in
+          bad.1 (arcs_of h v) (subst (λ l. IsChain l first (arcs_of h v)) (sym links) (subst (λ l. IsChain (links_of rs) l (arcs_of h v)) (sym is) c.chain))
+          (omega (arith, c.few, ap length links))),
     )
 
 -- the last number of what is left

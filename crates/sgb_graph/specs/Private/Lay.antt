@@ -1,5 +1,5 @@
 -- Laying chains of records into a graph.
-use Rattle.std.specs.Prelude.{◌≡◌, ◌<◌, ◌≤◌, ◌⊎◌, ◌&&◌, ℕ, List, [], ◌∷◌, ◌++◌, length, None, Option, IfSome, All, Bool, true, not, nat_lt}
+use Rattle.std.specs.Prelude.{◌≡◌, ◌<◌, ◌≤◌, ◌⊎◌, ◌&&◌, ℕ, List, [], ◌∷◌, ◌++◌, length, map, slice_index_or, None, Option, IfSome, All, Bool, true, not, nat_lt}
 use Rattle.sgb_graph.specs.declared.field.ArcNo.{ArcNo}
 use Rattle.sgb_graph.specs.declared.field.VertexNo.{VertexNo}
 use Rattle.sgb_graph.specs.declared.field.Tip.{Tip}
@@ -14,10 +14,17 @@ use Rattle.sgb_graph.specs.Chain.{Leads}
 use Rattle.sgb_graph.specs.Graph.{GraphOf, ArcOf, IsGraph, n_of, made_of, arcs_of, arc_at, has_arc}
 use Rattle.sgb_graph.specs.Parts.{vertex_part, arc_part, next_part}
 
+-- the links of the records, and the number that follows by them
+abbrev pub links_of : List ArcPart → List (Option ArcNo)
+links_of rs = map (λ r. r.next) rs
+
+abbrev pub link_at : List (Option ArcNo) → ℕ → Option ArcNo
+link_at ls k = slice_index_or ls k None
+
 -- the numbers of the chain from this link on
-pub record IsChain (rs : List ArcPart) (link : Option ArcNo) (ks : List ℕ) : Type 0 where
-  pub leads : Leads (next_part rs) link ks None
-  pub within : All (λ k. k < length rs) ks
+pub record IsChain (ls : List (Option ArcNo)) (link : Option ArcNo) (ks : List ℕ) : Type 0 where
+  pub leads : Leads (link_at ls) link ks None
+  pub within : All (λ k. k < length ls) ks
 
 -- the arc is its record, but for the fields
 pub record IsLaid (part : ArcPart) (e : ArcOf) : Type 0 where

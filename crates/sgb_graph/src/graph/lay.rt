@@ -1,15 +1,15 @@
 //! Laying the chains of saved records into the lists of a graph.
-ghost use Rattle.std.specs.Prelude.{◌≡◌, ◌<◌, ◌≤◌, ◌+◌, ◌⊎◌, ℕ, List, length, true, false, IfErr, OnOk};
+ghost use Rattle.std.specs.Prelude.{◌≡◌, ◌<◌, ◌≤◌, ◌+◌, ◌⊎◌, ℕ, List, length, true, false, IfOk, IfErr, OnOk};
 ghost use Rattle.sgb_graph.specs.Graph.{IsGraph, n_of, made_of};
 ghost use Rattle.sgb_graph.specs.Edit.{with_cut_arc};
 ghost use Rattle.sgb_graph.specs.Private.Holes.{with_hole};
 ghost use Rattle.sgb_graph.specs.Private.Link.{CanPutBack};
-ghost use Rattle.sgb_graph.specs.Private.Lay.{IsChain, Lays, Laying, RefusesToLay, laid_arc, can_lead, can_lay};
+ghost use Rattle.sgb_graph.specs.Private.Lay.{IsChain, Lays, Laying, RefusesToLay, links_of, laid_arc, can_lead, can_lay};
 
 use super::Graph;
 use super::link::put_back;
 use crate::{ArcNo, ArcPart, CutArc, Refusal, Tip, Util, VertexNo, VertexPart};
-use std::alloc::Global;
+use std::alloc::{AllocError, Global};
 
 impl Graph {
     // Lays the chain of each vertex. Refused where no graph has these chains.
@@ -23,9 +23,10 @@ impl Graph {
         ensures ok { OnOk result (Lays vertices.now arcs.now self.new) }
         ensures err { IfErr result (RefusesToLay vertices.now arcs.now) }
     {
+        let links = links_of(alloc, arcs)?;
         let mut numbers = Vec::new(alloc);
         for vertex in 0..self.n() {
-            self.lay_vertex(VertexNo(vertex), vertices, arcs, &mut numbers)?;
+            self.lay_vertex(VertexNo(vertex), vertices, arcs, &links, &mut numbers)?;
         }
         Ok(())
     }
@@ -36,14 +37,16 @@ impl Graph {
         vertex: VertexNo,
         vertices: &[VertexPart],
         arcs: &[ArcPart],
+        links: &[Option<ArcNo>],
         numbers: &mut Vec<u32>,
     ) -> Result<(), Refusal>
         requires vertex { vertex.0 < length vertices.now }
+        requires links { links.now ≡ links_of arcs.now }
         requires laying { Laying vertices.now arcs.now vertex.0 self.old }
         ensures ok { OnOk result (Laying vertices.now arcs.now (vertex.0 + 1) self.new) }
         ensures err { IfErr result (RefusesToLay vertices.now arcs.now) }
     {
-        collect_chain(arcs, vertices[vertex.0 as usize].first, numbers)?;
+        collect_chain(links, vertices[vertex.0 as usize].first, numbers)?;
         while let Some(number) = numbers.pop() {
             self.lay(vertex, ArcNo(number), &arcs[number as usize])?;
         }
@@ -111,28 +114,39 @@ fn can_lead(n: u32, tip: Tip) -> bool
     }
 }
 
+// The links of the records alone: a chain that is followed over these touches less memory.
+fn links_of(alloc: Global, arcs: &[ArcPart]) -> Result<Vec<Option<ArcNo>>, AllocError>
+    ensures { IfOk result (λ links. links.items ≡ links_of arcs.now) }
+{
+    let mut links = Vec::with_capacity(alloc, arcs.len())?;
+    for part in arcs {
+        links.push(part.next)?;
+    }
+    Ok(links)
+}
+
 // Puts the numbers of the chain from this link on in place of what `numbers` holds. Refused where the chain returns
 // or leaves the records.
 fn collect_chain(
-    arcs: &[ArcPart],
+    links: &[Option<ArcNo>],
     first: Option<ArcNo>,
     numbers: &mut Vec<u32>,
 ) -> Result<(), Refusal>
-    ensures ok { OnOk result (IsChain arcs.now first numbers.new.items) }
+    ensures ok { OnOk result (IsChain links.now first numbers.new.items) }
     ensures err { IfErr result (λ e. (e ≡ Refusal.NoRoom) ⊎
-        ((e ≡ Refusal.BadOperand) × ((ks : List ℕ) → IsChain arcs.now first ks → length ks ≤ length arcs.now → ⊥))) }
+        ((e ≡ Refusal.BadOperand) × ((ks : List ℕ) → IsChain links.now first ks → length ks ≤ length links.now → ⊥))) }
 {
     numbers.clear();
     let mut link = first;
-    for _step in 0..arcs.len() {
+    for _step in 0..links.len() {
         let Some(number) = link else {
             return Ok(());
         };
-        if number.0 as usize >= arcs.len() {
+        if number.0 as usize >= links.len() {
             return Err(Refusal::BadOperand);
         }
         numbers.push(number.0)?;
-        link = arcs[number.0 as usize].next;
+        link = links[number.0 as usize];
     }
     match link {
         Some(_) => Err(Refusal::BadOperand),

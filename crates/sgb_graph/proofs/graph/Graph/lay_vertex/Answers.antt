@@ -3,14 +3,19 @@ use Rattle.std.proofs.lemmas.List.{get_or_default}
 use Rattle.std.proofs.lemmas.Result.{err_from_is_err_and}
 use Rattle.sgb_graph.specs.declared.parts.VertexPart.{VertexPart}
 use Rattle.sgb_graph.specs.Parts.{any_arc_part, any_vertex_part}
-use Rattle.sgb_graph.proofs.Chaining.{collect_refused, laid_more, part_at, last_within, last_left, record_refused}
+use Rattle.sgb_graph.proofs.Chaining.{laying_begins, collect_refused, laid_more, part_at, last_within, last_left, record_refused}
 use Rattle.sgb_graph.proofs.graph.Graph.lay_vertex.Goals as goal
+
+pub loop-number-init : goal.loop-number-init
+loop-number-init c =
+    laying_begins c.args.vertices.now c.args.arcs.now c.args.vertex.0 c.args.self.now c.args.links.now _ c.collect_chain.new.numbers.items c.requires.laying c.requires.links
+    (ap (λ (p : VertexPart). p.first) (get_or_default c.args.vertices.now c.args.vertex.0 c.index-vertices-vertex.result any_vertex_part c.requires.vertex)) c.in_ok-collect_chain.ensures.ok
 
 pub returns-in_err-collect_chain-clause-err : goal.returns-in_err-collect_chain-clause-err
 returns-in_err-collect_chain-clause-err c =
     let p = err_from_is_err_and c.from_residual.result c.from_residual.ensures.1 in
-    rw (p.1, p.2) (collect_refused c.args.vertices.now c.args.arcs.now c.args.vertex.0 _ c.in_err-collect_chain.field-0.0 c.requires.vertex
-    (ap (λ (p : VertexPart). p.first) (get_or_default c.args.vertices.now c.args.vertex.0 c.index-vertices-vertex.result any_vertex_part c.requires.vertex)) c.in_err-collect_chain.ensures.err)
+    rw (p.1, p.2) (collect_refused c.args.vertices.now c.args.arcs.now c.args.links.now c.args.vertex.0 _ c.in_err-collect_chain.field-0.0 c.requires.vertex
+    (ap (λ (p : VertexPart). p.first) (get_or_default c.args.vertices.now c.args.vertex.0 c.index-vertices-vertex.result any_vertex_part c.requires.vertex)) c.requires.links c.in_err-collect_chain.ensures.err)
 
 pub bounds-arcs-number : goal.bounds-arcs-number
 bounds-arcs-number c = last_within (length c.args.arcs.now) c.loop-number.numbers.items c.pop.new.self.items c.in-Some.number c.loop-number.invariant.within c.in-Some.ensures.items
