@@ -6,5 +6,6 @@ mod Naturals
 mod SpelledItems
 pub mod SpelledRecords
 mod Spelling
+mod Stars
 mod Weights
 mod Words
