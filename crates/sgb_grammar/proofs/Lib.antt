@@ -3,6 +3,7 @@ mod Fronts
 mod Insides
 mod Lines
 mod Naturals
+mod Runs
 mod SpelledItems
 pub mod SpelledRecords
 mod Spelling
