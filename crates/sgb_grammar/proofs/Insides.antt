@@ -17,10 +17,10 @@ behind_both xs ys None = refl
 behind_both xs ys (Some p) = ap (λ zs. Some (zs, p.1)) (sym (append_assoc xs ys p.0))
 
 -- a byte of a text is neither a quote nor a backslash
-no_quote : (c : ℕ) → is_text_byte c ≡ true → (c == 34) ≡ false
+pub no_quote : (c : ℕ) → is_text_byte c ≡ true → (c == 34) ≡ false
 no_quote c h = not-true (c == 34) (and_parts _ _ (and_parts _ (not (c == 92)) h).0).1
 
-no_backslash : (c : ℕ) → is_text_byte c ≡ true → (c == 92) ≡ false
+pub no_backslash : (c : ℕ) → is_text_byte c ≡ true → (c == 92) ≡ false
 no_backslash c h = not-true (c == 92) (and_parts (nat_le 32 c && nat_le c 126 && not (c == 34)) (not (c == 92)) h).1
 
 pub text_byte : (c : ℕ) (cs : List ℕ) → is_text_byte c ≡ true → inside_at false (c ∷ cs) ≡ behind (c ∷ []) (inside_at false cs)

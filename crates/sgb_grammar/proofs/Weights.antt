@@ -1,11 +1,11 @@
 -- What lines weigh.
 use Rattle.std.proofs.Common.{◌≡◌, ℕ, suc, ◌+◌, ◌-◌, ◌*◌, ◌/◌, ◌%◌, ◌^◌, ◌<◌, ◌≤◌, ◌==◌, not, Bool, true, List, [], ◌∷◌, ◌++◌, take, drop, length, get_or, refl, sym, subst, ap, ◌∙◌, inl, inr, arith, ◌&&◌, zero, length-append}
-use Rattle.std.specs.List.{prefix_len, flat_map}
+use Rattle.std.specs.List.{prefix_len}
 use Rattle.std.proofs.lemmas.Bool.{cases_Bool, cases_eq, and_parts, eqb-true}
 use Rattle.std.proofs.lemmas.List.{take_more, take-append-drop}
 use Rattle.std.proofs.lemmas.Nat.{pow-add}
 use Rattle.std.proofs.Math.Nat.{add-mul-mod_self_right, mod-add-div', mod-eq_of_lt}
-use Rattle.sgb_grammar.specs.Check.{code_of, counted, lines_of, with_first, covered, weighed, check_of}
+use Rattle.sgb_grammar.specs.Check.{code_of, lines_of, with_first, covered, weighed, check_of}
 
 -- ---- weights
 
@@ -79,10 +79,6 @@ unfolding weighed
 nothing_weighs s p h = ap (λ k. k % p) (let same : s * 1 + 0 ≡ s = omega arith in same) ∙ mod-eq_of_lt h
 
 -- ---- lines
-
-pub covered_line : (bs line rest : List ℕ) → lines_of bs ≡ line ∷ lines_of rest → covered bs ≡ counted line ++ covered rest
-unfolding covered
-covered_line bs line rest e = ap (flat_map counted) e
 
 pub covered_nothing : (bs : List ℕ) → bs ≡ [] → covered bs ≡ []
 unfolding covered lines_of

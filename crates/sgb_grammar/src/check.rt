@@ -1,7 +1,9 @@
 //! The check number of a saved text.
-ghost use Rattle.std.specs.Prelude.{◌≡◌, ◌<◌, ◌≤◌, ◌+◌, ◌-◌, ◌*◌, ◌^◌, ◌%◌, ◌∷◌, ◌==◌, not, length};
+ghost use Rattle.std.specs.Prelude.{◌≡◌, ◌<◌, ◌≤◌, ◌+◌, ◌-◌, ◌*◌, ◌^◌, ◌%◌, ◌++◌, ◌∷◌, ◌==◌, not, length};
 ghost use Rattle.std.specs.List.{prefix_len};
-ghost use Rattle.sgb_grammar.specs.Check.{code_of, counted, lines_of, weighed, check_of};
+ghost use Rattle.sgb_grammar.specs.Check.{code_of, covered, lines_of, weighed, check_of};
+
+use memchr::memmem;
 
 /// The check number is counted modulo this prime.
 const PRIME: u64 = (1 << 30) - 83;
@@ -38,8 +40,8 @@ pub fn check_number(body: &[u8]) -> u64
     let mut sum = 0;
     let mut rest = body;
     'lines: while !rest.is_empty() {
-        let (line, behind) = split_line(rest);
-        sum = weigh(sum, counted(line));
+        let (lines, behind) = split_counted(rest);
+        sum = weigh(sum, lines);
         rest = behind;
     }
     sum
@@ -80,13 +82,20 @@ fn code_of(byte: u8) -> u8
     CODES[byte as usize]
 }
 
-// The line, where it counts.
-fn counted(line: &[u8]) -> &[u8]
-    ensures { result.now ≡ counted line.now }
+// The lines up to the first that begins with a star, and that line with what follows it. Where the very first line begins
+// with one, no bytes, and what follows that line.
+fn split_counted(bytes: &[u8]) -> (&[u8], &[u8])
+    requires { 0 < length bytes.now }
+    ensures lines { covered bytes.now ≡ result.0.now ++ covered result.1.now }
+    ensures shorter { length result.1.now < length bytes.now }
 {
-    match line {
-        [b'*', ..] => &[],
-        _ => line,
+    if bytes[0] == b'*' {
+        let (_, behind) = split_line(bytes);
+        return (&[], behind);
+    }
+    match memmem::find(bytes, b"\n*") {
+        Some(end) => bytes.split_at(end + 1),
+        None => (bytes, &[]),
     }
 }
 

@@ -5,10 +5,11 @@ ghost use Rattle.sgb_graph.specs.Text.{is_text_byte};
 ghost use Rattle.sgb_grammar.specs.Reading.{Fails};
 ghost use Rattle.sgb_grammar.specs.Private.Reading.{Reads};
 ghost use Rattle.sgb_grammar.specs.String.{inside_at, text_at, within};
-ghost use Rattle.sgb_grammar.specs.Private.Pieces.{Splits, Ends};
+ghost use Rattle.sgb_grammar.specs.Private.Pieces.{Splits, Ends, goes_on};
 
 use crate::Fault;
 use crate::bytes::{after, next};
+use memchr::memchr2;
 use sgb_graph::{Label, Refusal, Text};
 use std::alloc::Global;
 
@@ -141,11 +142,39 @@ fn split_ending(bytes: &[u8]) -> Option<Ending<'_>>
     }
 }
 
+// How many text bytes there are at the front. The first quote or backslash ends them, where no other byte does.
 fn count_text_bytes(bytes: &[u8]) -> usize
     ensures count { result ≡ prefix_len is_text_byte bytes.now }
     ensures within { result ≤ length bytes.now }
 {
+    let end = count_to_mark(bytes);
+    let (run, _) = bytes.split_at(end);
+    if are_text_bytes(run) {
+        return end;
+    }
     bytes.iter().take_while(|b| is_text_byte(**b)).count()
+}
+
+// How many bytes there are before the first quote or backslash.
+fn count_to_mark(bytes: &[u8]) -> usize
+    ensures count { result ≡ prefix_len goes_on bytes.now }
+    ensures within { result ≤ length bytes.now }
+{
+    match memchr2(b'"', b'\\', bytes) {
+        Some(end) => end,
+        None => bytes.len(),
+    }
+}
+
+// Looks at all of them, whatever it meets: so many are looked at together.
+fn are_text_bytes(bytes: &[u8]) -> bool
+    ensures { result ≡ list_all is_text_byte bytes.now }
+{
+    let mut all = true;
+    'bytes: for byte in bytes {
+        all = all & is_text_byte(*byte);
+    }
+    all
 }
 
 fn is_text_byte(byte: u8) -> bool

@@ -1,6 +1,6 @@
 //! The records of a saved text, as they are written.
-ghost use Rattle.std.specs.Prelude.{◌≡◌, ◌<◌, ◌≤◌, ◌*◌, ◌++◌, ◌∷◌, [], length, sum_by, OnOk, IfOk, if◌then◌else◌};
-ghost use Rattle.std.specs.List.{flat_map, range_with_len};
+ghost use Rattle.std.specs.Prelude.{◌≡◌, ◌<◌, ◌≤◌, ◌*◌, ◌++◌, ◌∷◌, [], length, not, ◌==◌, sum_by, OnOk, IfOk, if◌then◌else◌};
+ghost use Rattle.std.specs.List.{flat_map, list_any, range_with_len};
 ghost use Rattle.sgb_graph.specs.Graph.{n_of, made_of, vertex_at, arc_at};
 ghost use Rattle.sgb_graph.specs.Honest.{is_allowed, vertex_letters, arc_letters, graph_letters};
 ghost use Rattle.std.specs.Fmt.{signed_decimal};
@@ -133,7 +133,7 @@ fn put_fields(page: &mut Page, letters: &[u8], values: &[Util]) -> Result<u64, A
     let mut cleaned = 0;
     'fields: for (i, letter) in letters.iter().enumerate() {
         let (_, behind) = letters.split_at(i + 1);
-        put_field(page, *letter, &values[i], is_any_written(behind))?;
+        put_field(page, *letter, &values[i], behind)?;
         cleaned += dirt_in(*letter, &values[i]);
     }
     page.line(b"\n")?;
@@ -147,11 +147,12 @@ fn dirt_in(letter: u8, value: &Util) -> u64
     if value.is_allowed(letter) { 0 } else { 1 }
 }
 
-fn put_field(page: &mut Page, letter: u8, value: &Util, more: bool) -> Result<(), AllocError>
-    ensures { OnOk result (page.new ≡ with_field page.old letter (cleaned letter value.now) more) }
+// The field of this letter, with those of other letters behind it.
+fn put_field(page: &mut Page, letter: u8, value: &Util, behind: &[u8]) -> Result<(), AllocError>
+    ensures { OnOk result (page.new ≡ with_field page.old letter (cleaned letter value.now) (list_any (λ l. not (l == 90)) behind.now)) }
 {
     if letter == b'Z' {
         return Ok(());
     }
-    put_value(page, letter, value, more)
+    put_value(page, letter, value, is_any_written(behind))
 }

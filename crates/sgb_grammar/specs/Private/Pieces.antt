@@ -1,5 +1,5 @@
 -- Strings in pieces, as lines end inside them.
-use Rattle.std.specs.Prelude.{◌≡◌, ◌<◌, ℕ, false, List, [], length, Option, Some, None}
+use Rattle.std.specs.Prelude.{◌≡◌, ◌<◌, ◌==◌, ◌||◌, not, ℕ, Bool, false, List, [], length, Option, Some, None}
 use Rattle.sgb_grammar.specs.Reading.{behind}
 use Rattle.sgb_grammar.specs.String.{inside_at}
 use Rattle.sgb_grammar.specs.declared.strings.Piece.{Piece}
@@ -18,3 +18,7 @@ abbrev pub Ends : Option Ending → List ℕ → Type 0
 Ends None bs = inside_at false bs ≡ None
 Ends (Some (endings.Quote rest)) bs = inside_at false bs ≡ Some ([], rest.now)
 Ends (Some (endings.Line rest)) bs = (inside_at false bs ≡ inside_at false rest.now) × (length rest.now < length bs)
+
+-- neither a quote nor a backslash, one of which ends a run
+abbrev pub goes_on : ℕ → Bool
+goes_on c = not (c == 34 || c == 92)

@@ -1,7 +1,7 @@
 use Rattle.std.proofs.Common.{◌+◌, ◌-◌, ◌*◌, ◌%◌, ◌^◌, length, sym, ap, ◌∙◌, arith}
 use Rattle.std.proofs.lemmas.Bool.{eqb-true}
-use Rattle.sgb_grammar.specs.Check.{counted, covered, weighed}
-use Rattle.sgb_grammar.proofs.Weights.{covered_line, covered_nothing, line_weighs, nothing_weighs, check_start, nil_from_length}
+use Rattle.sgb_grammar.specs.Check.{covered, weighed}
+use Rattle.sgb_grammar.proofs.Weights.{covered_nothing, line_weighs, nothing_weighs, check_start, nil_from_length}
 use Rattle.sgb_grammar.proofs.check.check_number.Goals as goal
 
 pub lines-init : goal.lines-init
@@ -11,13 +11,12 @@ pub lines-preserved : goal.lines-preserved
 lines-preserved c =
     let p = 2 ^ 30 - 83 in
     let s = c.lines.sum in
-    let line = c.split_line.result.0.now in
-    let rest = c.split_line.result.1.now in
-    let new = c.weigh-sum.ensures.value ∙ ap (λ xs. (s * 2 ^ length xs + weighed xs) % p) c.counted.ensures in (
+    let lines = c.split_counted.result.0.now in
+    let rest = c.split_counted.result.1.now in (
       c.lines.invariant.0
-          ∙ ap (λ xs. (s * 2 ^ length xs + weighed xs) % p) (covered_line c.lines.rest.now line rest c.split_line.ensures.lines)
-          ∙ line_weighs s p (counted line) (covered rest)
-          ∙ ap (λ k. (k * 2 ^ length (covered rest) + weighed (covered rest)) % p) (sym new),
+          ∙ ap (λ xs. (s * 2 ^ length xs + weighed xs) % p) c.split_counted.ensures.lines
+          ∙ line_weighs s p lines (covered rest)
+          ∙ ap (λ k. (k * 2 ^ length (covered rest) + weighed (covered rest)) % p) (sym c.weigh-sum.ensures.value),
       c.weigh-sum.ensures.small,
     )
 
