@@ -1,18 +1,21 @@
 -- Lemmas on tables of links as they are written.
-use Rattle.std.proofs.Common.{◌≡◌, ◌<◌, ◌+◌, ℕ, List, [], ◌∷◌, ◌++◌, length, get_or, map, take, sym, ap, ◌∙◌, append_assoc, arith}
+use Rattle.std.proofs.Common.{◌≡◌, ◌<◌, ◌+◌, ◌-◌, ℕ, List, [], ◌∷◌, ◌++◌, length, get_or, map, take, drop, sym, ap, ◌∙◌, append_assoc, arith}
 use Rattle.std.specs.List.{flat_map, range_with_len}
-use Rattle.std.proofs.lemmas.List.{take_more, map-append, map-id}
+use Rattle.std.proofs.lemmas.List.{map-id}
 use Rattle.std.proofs.lemmas.List.FromFn.{map-range_with_len_more}
 use Rattle.std.proofs.lemmas.Grind.{flat_map-append}
-use Rattle.std.proofs.lemmas.List.{append-nil}
+use Rattle.std.proofs.lemmas.List.{append-nil, length-map, length-take, get_or-drop}
+use Rattle.std.proofs.Math.Seq.{get_or-append_right}
 
--- one more element of a list is written
-pub written_more : (f : ℕ → ℕ) (xs old now new : List ℕ) (i : ℕ) → i < length xs → now ≡ old ++ map f (take i xs) → new ≡ now ++ f (get_or xs i 0) ∷ [] → new ≡ old ++ map f (take (i + 1) xs)
-written_more f xs old now new i below so pushed =
-    pushed
-    ∙ (ap (λ t. t ++ f (get_or xs i 0) ∷ []) so
-    ∙ (append_assoc old (map f (take i xs)) (f (get_or xs i 0) ∷ [])
-    ∙ ap (λ t. old ++ t) (sym (ap (map f) (take_more xs i 0 below) ∙ map-append f (take i xs) (get_or xs i 0 ∷ [])))))
+-- an element that a loop has not yet written over is as it was
+pub not_yet : (f : ℕ → ℕ) (xs ys : List ℕ) (i : ℕ) → i < length xs → ys ≡ map f (take i xs) ++ drop i xs → get_or ys i 0 ≡ get_or xs i 0
+not_yet f xs ys i below so =
+    let here : length (map f (take i xs)) ≡ i = omega (arith, length-map (take i xs) f, length-take i xs) in
+    let first : i - length (map f (take i xs)) ≡ 0 = omega (arith, here) in
+    ap (λ t. get_or t i 0) so
+    ∙ (get_or-append_right (map f (take i xs)) (drop i xs) i 0 (omega (arith, here))
+    ∙ (ap (λ k. get_or (drop i xs) k 0) first
+    ∙ (get_or-drop i xs 0 0 ∙ ap (λ k. get_or xs k 0) (omega arith))))
 
 range_more : (n : ℕ) → range_with_len 0 (n + 1) ≡ range_with_len 0 n ++ n ∷ []
 range_more n =

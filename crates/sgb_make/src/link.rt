@@ -53,11 +53,10 @@ fn moved(side: Side, x: u32, step: Step) -> Option<u32>
 
 // Writes so many links to nothing.
 fn append_none(table: &mut Vec<u32>, count: usize) -> Result<(), AllocError>
+    requires { count ≤ 65535 }
     ensures { OnOk result (table.new.items ≡ table.old.items ++ replicate count 0) }
 {
-    for _ in 0..count {
-        table.push(0)?;
-    }
+    table.resize(table.len() + count, 0)?;
     Ok(())
 }
 
@@ -69,20 +68,31 @@ fn shifted(base: u32, link: u32) -> u32
     if link == 0 { 0 } else { base + link }
 }
 
-// Writes these links, each as far on as `base` says.
+// Makes links lead so far on.
+fn shift(links: &mut [u32], base: u32)
+    requires { All (λ t. base + t < 2 ^ 32) links.old }
+    ensures { links.new ≡ map (shifted base) links.old }
+{
+    for link in links.iter_mut() {
+        *link = shifted(base, *link);
+    }
+}
+
+// Writes these links, each as far on as `base` says: all are copied first, so that many are written at a time.
 fn append_shifted(table: &mut Vec<u32>, behind: &[u32], base: u32) -> Result<(), AllocError>
     requires { All (λ t. base + t < 2 ^ 32) behind.now }
     ensures { OnOk result (table.new.items ≡ table.old.items ++ map (shifted base) behind.now) }
 {
-    for link in behind {
-        table.push(shifted(base, *link))?;
-    }
+    let start = table.len();
+    table.extend_from_slice(behind)?;
+    shift(&mut table[start..], base);
     Ok(())
 }
 
 // Writes the links of the positions whose first coordinate moves to `to`.
 fn append_row(table: &mut Vec<u32>, behind: &[u32], to: Option<u32>) -> Result<(), AllocError>
     requires low { All (λ t. t ≤ length behind.now) behind.now }
+    requires short { length behind.now ≤ 65535 }
     requires few { IfSome to (λ y. y * length behind.now + length behind.now ≤ 65535) }
     ensures { OnOk result (table.new.items ≡ table.old.items ++ row_of to behind.now) }
 {

@@ -1,6 +1,6 @@
 -- The overlap of two points by their codes.
 use Rattle.std.proofs.Common.{◌≡◌, ◌<◌, ◌≤◌, ◌+◌, ◌-◌, ◌*◌, ◌%◌, ◌^◌, ℕ, suc, List, [], ◌∷◌, length, drop, map, min, bit_and, inl, inr, refl, sym, ap, ap₂, ◌∙◌, zero-add, arith}
-use Rattle.std.specs.List.{zip, slice_index}
+use Rattle.std.specs.List.{sum, zip, slice_index}
 use Rattle.std.specs.Int.Count.{ones, ones-ones}
 use Rattle.std.proofs.Math.Nat.{mod-eq_of_lt}
 use Rattle.std.proofs.Math.Pow.{ones_lt, suc_ones, pow_mono}
@@ -30,6 +30,17 @@ shared x y =
 
 overlap_cons : (x y : ℕ) (s t : List ℕ) → overlap (x ∷ s) (y ∷ t) ≡ min x y + overlap s t
 overlap_cons x y s t = sum_cons (min x y) (map (λ p. min p.0 p.1) (zip s t))
+
+-- no more is shared than there is room for
+overlap_few : (bs s t : List ℕ) → length s ≡ length bs → ((k : ℕ) → k < length bs → slice_index s k ≤ slice_index bs k) → overlap s t ≤ sum bs
+overlap_few [] [] t long within = omega arith
+overlap_few [] (x ∷ s) t long within = absurd (omega (arith, long))
+overlap_few (b ∷ bs) [] t long within = absurd (omega (arith, long))
+overlap_few (b ∷ bs) (x ∷ s) [] long within = omega arith
+overlap_few (b ∷ bs) (x ∷ s) (y ∷ t) long within =
+    let rest = overlap_few bs s t (omega (arith, long)) (λ k less. within (suc k) (omega (arith, less))) in
+    let here : x ≤ b = within 0 (omega arith) in
+    omega (arith, rest, here, overlap_cons x y s t, sum_cons b bs)
 
 pub shared_codes : (a c : ℕ) (bs s t : List ℕ) → length s ≡ length bs → length t ≡ length bs → ((k : ℕ) → k < length bs → slice_index s k ≤ slice_index bs k) → ((k : ℕ) → k < length bs → slice_index t k ≤ slice_index bs k)
     → ones (bit_and (code_from a bs s) (code_from c bs t)) ≡ ones (bit_and a c) + overlap s t
@@ -87,3 +98,8 @@ pub overlap_is : {total : ℕ} {bs s t : List ℕ} → IsPoint total bs s → Is
 unfolding ones
 overlap_is {total} {bs} {s} {t} first second p q n ps qs is =
     is ∙ (ap₂ (λ a c. ones (bit_and a c)) ps qs ∙ (shared_codes 0 0 bs s t first.long second.long first.within second.within ∙ zero-add (overlap s t)))
+
+-- and its bit is one of 64, where these have room for it
+pub overlap_low : {total : ℕ} {bs s t : List ℕ} → IsPoint total bs s → IsPoint total bs t → (p q n : ℕ) → p ≡ code_from 0 bs s → q ≡ code_from 0 bs t → n ≡ ones (bit_and p q) → sum bs < 64 → n < 64
+overlap_low {total} {bs} {s} {t} first second p q n ps qs is room =
+    omega (arith, overlap_is first second p q n ps qs is, overlap_few bs s t first.long first.within, room)

@@ -4,12 +4,11 @@ ghost use Rattle.std.specs.List.{sum, slice_index};
 ghost use Rattle.sgb_graph.specs.Builder.{Inserts, insertion};
 ghost use Rattle.sgb_graph.specs.Graph.{n_of};
 ghost use Rattle.sgb_simplex.specs.Points.{points};
-ghost use Rattle.sgb_simplex.specs.Overlap.{is_partner, pairs, pairs_to};
+ghost use Rattle.sgb_simplex.specs.Overlap.{has_size, is_partner, pairs, pairs_to};
 ghost use Rattle.sgb_simplex.specs.Private.Codes.{code_from, AreCodes};
 ghost use Rattle.sgb_simplex.specs.Private.Counts.{IsPoint};
 
 use crate::list::PointList;
-use crate::overlap::has_size;
 use sgb_graph::{Builder, Refusal, VertexNo};
 use std::alloc::{AllocError, Global};
 
@@ -46,6 +45,7 @@ pub(crate) fn insert_coded_pairs(
     size_bits: u64,
 ) -> Result<(), Refusal>
     requires all { n_of builder.old.graph ≡ list.now.count }
+    requires room { sum list.now.bounds.items < 64 }
     requires codes { AreCodes list.now.bounds.items (points list.now.total list.now.bounds.items) codes.now }
     ensures { Inserts builder.old builder.new (pairs (points list.now.total list.now.bounds.items) size_bits) result }
 {
@@ -64,6 +64,7 @@ fn insert_coded_pairs_to(
     size_bits: u64,
 ) -> Result<(), Refusal>
     requires all { n_of builder.old.graph ≡ list.now.count }
+    requires room { sum list.now.bounds.items < 64 }
     requires codes { AreCodes list.now.bounds.items (points list.now.total list.now.bounds.items) codes.now }
     requires v { v < list.now.count }
     ensures { Inserts builder.old builder.new
@@ -86,6 +87,7 @@ fn insert_coded_pair(
     size_bits: u64,
 ) -> Result<(), Refusal>
     requires all { n_of builder.old.graph ≡ list.now.count }
+    requires room { sum list.now.bounds.items < 64 }
     requires codes { AreCodes list.now.bounds.items (points list.now.total list.now.bounds.items) codes.now }
     requires u { u < list.now.count }
     requires v { v < list.now.count }
@@ -93,8 +95,17 @@ fn insert_coded_pair(
         then insertion u v (pos 1) ∷ [] else []) result }
 {
     let size = (codes[u as usize] & codes[v as usize]).count_ones();
-    if !has_size(size_bits, u64::from(size)) {
+    if !has_low_size(size_bits, size) {
         return Ok(());
     }
     builder.insert(VertexNo(u), VertexNo(v), 1)
+}
+
+// The bit of a size that is known to be below 64 is set.
+#[inline]
+fn has_low_size(size_bits: u64, size: u32) -> bool
+    requires { size < 64 }
+    ensures { result ≡ has_size size_bits size }
+{
+    (size_bits >> size) % 2 == 1
 }

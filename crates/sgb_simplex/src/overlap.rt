@@ -94,7 +94,7 @@ fn overlap(first: &[u32], second: &[u32]) -> u64
 }
 
 // The size is below 64, and its bit is set.
-pub(crate) fn has_size(size_bits: u64, size: u64) -> bool
+fn has_size(size_bits: u64, size: u64) -> bool
     ensures { result ≡ has_size size_bits size }
 {
     size < 64 && (size_bits >> size) % 2 == 1

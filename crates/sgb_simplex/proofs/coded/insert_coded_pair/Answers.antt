@@ -1,12 +1,12 @@
 use Rattle.std.proofs.Common.{◌≡◌, ◌<◌, ◌∷◌, [], ℕ, pos, List, Bool, length, bit_and, refl, sym, ap, ◌∙◌, arith}
 use Rattle.std.specs.Int.Count.{ones}
-use Rattle.std.specs.List.{slice_index}
+use Rattle.std.specs.List.{sum, slice_index}
 use Rattle.sgb_graph.specs.Builder.{insertion}
 use Rattle.sgb_simplex.specs.Points.{points}
 use Rattle.sgb_simplex.specs.Overlap.{has_size, is_partner}
 use Rattle.sgb_simplex.specs.Private.Codes.{AreCodes}
 use Rattle.sgb_simplex.proofs.Inserted.{none_inserted, some_inserted}
-use Rattle.sgb_simplex.proofs.Ones.{overlap_is}
+use Rattle.sgb_simplex.proofs.Ones.{overlap_is, overlap_low}
 use Rattle.sgb_simplex.proofs.Simplices.{all_points}
 use Rattle.sgb_simplex.proofs.coded.insert_coded_pair.Goals as goal
 
@@ -14,15 +14,24 @@ partner : (total : ℕ) (bounds codes : List ℕ) (bits u v n : ℕ) (r : Bool) 
 partner total bounds codes bits u v n r known first second asked is =
     sym (asked ∙ ap (has_size bits) (overlap_is (all_points total bounds u [] first) (all_points total bounds v [] second) (slice_index codes u) (slice_index codes v) n (known.at u first) (known.at v second) is))
 
-pub returns-then-not-has_size : goal.returns-then-not-has_size
-returns-then-not-has_size c =
+low : (total : ℕ) (bounds codes : List ℕ) (u v n : ℕ) → AreCodes bounds (points total bounds) codes → u < length (points total bounds) → v < length (points total bounds) → n ≡ ones (bit_and (slice_index codes u) (slice_index codes v)) → sum bounds < 64 → n < 64
+low total bounds codes u v n known first second is room =
+    overlap_low (all_points total bounds u [] first) (all_points total bounds v [] second) (slice_index codes u) (slice_index codes v) n (known.at u first) (known.at v second) is room
+
+pub has_low_size-requires : goal.has_low_size-requires
+has_low_size-requires c =
+    let list = c.args.list.now in
+    low list.total list.bounds.items c.args.codes.now c.args.u c.args.v (ones (bit_and (slice_index c.args.codes.now c.args.u) (slice_index c.args.codes.now c.args.v))) c.requires.codes (omega (arith, list.counted)) (omega (arith, list.counted)) refl c.requires.room
+
+pub returns-then-not-has_low_size : goal.returns-then-not-has_low_size
+returns-then-not-has_low_size c =
     let list = c.args.list.now in
     none_inserted c.args.builder.now (is_partner (points list.total list.bounds.items) c.args.size_bits c.args.v c.args.u) (insertion c.args.u c.args.v (pos 1) ∷ [])
-    (partner list.total list.bounds.items c.args.codes.now c.args.size_bits c.args.u c.args.v c.from.result c.has_size.result c.requires.codes (omega (arith, list.counted)) (omega (arith, list.counted)) c.has_size.ensures c.from.ensures ∙ c.if-not-has_size.true)
+    (partner list.total list.bounds.items c.args.codes.now c.args.size_bits c.args.u c.args.v (ones (bit_and (slice_index c.args.codes.now c.args.u) (slice_index c.args.codes.now c.args.v))) c.has_low_size.result c.requires.codes (omega (arith, list.counted)) (omega (arith, list.counted)) c.has_low_size.ensures refl ∙ c.if-not-has_low_size.true)
 
 pub returns : goal.returns
 returns c =
     let list = c.args.list.now in
     some_inserted c.args.builder.now c.insert.new.self (is_partner (points list.total list.bounds.items) c.args.size_bits c.args.v c.args.u) (insertion c.args.u c.args.v (pos 1) ∷ []) (insertion c.args.u c.args.v (pos 1) ∷ []) c.insert.result
-    (partner list.total list.bounds.items c.args.codes.now c.args.size_bits c.args.u c.args.v c.from.result c.has_size.result c.requires.codes (omega (arith, list.counted)) (omega (arith, list.counted)) c.has_size.ensures c.from.ensures ∙ c.if-not-has_size.false)
+    (partner list.total list.bounds.items c.args.codes.now c.args.size_bits c.args.u c.args.v (ones (bit_and (slice_index c.args.codes.now c.args.u) (slice_index c.args.codes.now c.args.v))) c.has_low_size.result c.requires.codes (omega (arith, list.counted)) (omega (arith, list.counted)) c.has_low_size.ensures refl ∙ c.if-not-has_low_size.false)
     refl c.insert.ensures.value
