@@ -8,5 +8,6 @@ pub mod Arranged
 pub mod Exchanging
 pub mod Pieces
 pub mod Looking
+pub mod Counting
 pub mod Runs
 pub mod Moves
