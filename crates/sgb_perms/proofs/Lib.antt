@@ -5,6 +5,7 @@ pub mod Decoding
 pub mod Encoding
 pub mod Pruning
 pub mod Arranged
+pub mod Greatest
 pub mod Exchanging
 pub mod Pieces
 pub mod Looking

@@ -1,4 +1,4 @@
-use Rattle.std.proofs.Common.{◌≡◌, List, ℕ, length, subst, ap, sym, ◌∙◌, arith}
+use Rattle.std.proofs.Common.{List, ℕ, length, subst, ap, sym, ◌∙◌, arith}
 use Rattle.std.specs.Prelude.{reverse}
 use Rattle.sgb_binary.specs.Tree.{trees}
 use Rattle.sgb_binary.specs.Private.Listing.{Lists}
