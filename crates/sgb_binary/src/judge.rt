@@ -17,6 +17,7 @@ pub(crate) fn count_trees(n: u32, most: u32) -> Result<u32, Refusal>
     if n > total {
         return Ok(0);
     }
+    // A tree with 100 dots has 101 leaves, and no more trees wait at a time.
     let mut budgets = [0u32; 101];
     budgets[0] = most;
     let count = count_rows(&mut budgets, 1, n, total, 0);
@@ -39,7 +40,8 @@ fn count_rows(budgets: &mut [u32], waiting: usize, dots: u32, total: u32, found:
         (rows (letters_left dots (reverse (take waiting budgets.old))) (reverse (take waiting budgets.old)))) }
     ensures kept { take waiting budgets.new ≡ take waiting budgets.old }
 {
-    if waiting == 0 {
+    // Without dots only leaves are left, which is one row.
+    if dots == 0 {
         return found + 1;
     }
     let behind = waiting - 1;

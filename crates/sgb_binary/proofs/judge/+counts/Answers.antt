@@ -3,8 +3,8 @@ use Rattle.std.specs.Prelude.{reverse}
 use Rattle.std.proofs.lemmas.List.{length-append, length-map, length-reverse, length-set, length-take-le}
 use Rattle.sgb_binary.specs.Private.Listing.{rows, dotted_rows, leaf_rows, rooms, letters_left}
 use Rattle.sgb_binary.proofs.Rows.{rows_none, dotted_none, dotted_low, room_double, rooms_few}
-use Rattle.sgb_binary.proofs.Listings.{rooms_popped, rows_popped, rows_none_left, rooms_two, rows_two}
-use Rattle.sgb_binary.proofs.Counting.{last_of_front, one_behind, two_behind, kept_before}
+use Rattle.sgb_binary.proofs.Listings.{rooms_popped, rows_popped, rooms_two, rows_two}
+use Rattle.sgb_binary.proofs.Counting.{leaves_alone, some_waiting, last_of_front, one_behind, two_behind, kept_before}
 use Rattle.sgb_binary.proofs.judge.+counts.Goals as goal
 
 pub count_dotted-returns-then-dots-eq0-clause-count : goal.count_dotted-returns-then-dots-eq0-clause-count
@@ -64,37 +64,42 @@ count_leaf-returns-then-dots-others-clause-count t c =
 pub count_leaf-count_rows-requires : goal.count_leaf-count_rows-requires
 count_leaf-count_rows-requires t c = (omega (arith, c.decreases), (omega arith, (c.requires.small, (c.requires.others, (omega arith, omega arith)))))
 
-pub count_rows-returns-then-waiting-eq0-clause-count : goal.count_rows-returns-then-waiting-eq0-clause-count
-count_rows-returns-then-waiting-eq0-clause-count t c =
-    let front : List ℕ = take c.args.waiting c.args.budgets.now in
-    let none : front ≡ [] = ap (λ n. take n c.args.budgets.now) c.if-waiting-eq0.true in
-    let enough : c.args.dots ≤ rooms (reverse front) = omega arith in
-    omega (arith, ap (λ ws. length ws) (rows_none_left c.args.dots front none enough), c.requires.few)
+pub count_rows-returns-then-dots-eq0-clause-count : goal.count_rows-returns-then-dots-eq0-clause-count
+count_rows-returns-then-dots-eq0-clause-count t c =
+    let bs : List ℕ = reverse (take c.args.waiting c.args.budgets.now) in
+    let none = ap (λ d. length (rows (letters_left d bs) bs)) c.if-dots-eq0.true in
+    omega (arith, none, leaves_alone bs, c.requires.few)
+
+pub count_rows-overflow_sub-behind : goal.count_rows-overflow_sub-behind
+count_rows-overflow_sub-behind t c = some_waiting c.args.budgets.now c.args.waiting c.args.dots (omega arith) (omega arith)
 
 pub count_rows-overflow_sub-others : goal.count_rows-overflow_sub-others
 count_rows-overflow_sub-others t c =
     let bs : List ℕ = c.args.budgets.now in
     let w : ℕ = c.args.waiting in
-    let last = last_of_front bs w (omega arith) (omega arith) in
+    let some = some_waiting bs w c.args.dots (omega arith) (omega arith) in
+    let last = last_of_front bs w some (omega arith) in
     omega (arith, rooms_popped (take w bs) (take (w - 1) bs) (get_or bs (w - 1) 0) last, c.requires.total, c.room.ensures.value)
 
 pub count_rows-count_dotted-dotted-requires : goal.count_rows-count_dotted-dotted-requires
 count_rows-count_dotted-dotted-requires t c =
     let bs : List ℕ = c.args.budgets.now in
     let w : ℕ = c.args.waiting in
-    let last = last_of_front bs w (omega arith) (omega arith) in
+    let some = some_waiting bs w c.args.dots (omega arith) (omega arith) in
+    let last = last_of_front bs w some (omega arith) in
     let rooms_are = rooms_popped (take w bs) (take (w - 1) bs) (get_or bs (w - 1) 0) last in
-    (omega (arith, c.decreases), (omega arith, (c.requires.small, (omega (arith, rooms_are, c.requires.total, c.room.ensures.value), (omega (arith, rooms_are, c.requires.total, c.room.ensures.value), omega arith)))))
+    (omega (arith, some, c.decreases), (omega (arith, some), (c.requires.small, (omega (arith, rooms_are, c.requires.total, c.room.ensures.value), (omega (arith, rooms_are, c.requires.total, c.room.ensures.value), omega arith)))))
 
 pub count_rows-count_leaf-count-requires : goal.count_rows-count_leaf-count-requires
 count_rows-count_leaf-count-requires t c =
     let bs : List ℕ = c.args.budgets.now in
     let w : ℕ = c.args.waiting in
-    let last = last_of_front bs w (omega arith) (omega arith) in
+    let some = some_waiting bs w c.args.dots (omega arith) (omega arith) in
+    let last = last_of_front bs w some (omega arith) in
     let rooms_are = rooms_popped (take w bs) (take (w - 1) bs) (get_or bs (w - 1) 0) last in
     let long = c.count_dotted-dotted.auto.budgets in
     let same = ap (λ xs. rooms (reverse xs)) c.count_dotted-dotted.ensures.kept in
-    (omega (arith, c.decreases), (omega (arith, long), (omega (arith, long), (omega (arith, rooms_are, same, c.requires.total, c.room.ensures.value), omega (arith, c.count_dotted-dotted.ensures.count)))))
+    (omega (arith, some, c.decreases), (omega (arith, some, long), (omega (arith, long), (omega (arith, rooms_are, same, c.requires.total, c.room.ensures.value), omega (arith, c.count_dotted-dotted.ensures.count)))))
 
 pub count_rows-returns-clause-count : goal.count_rows-returns-clause-count
 count_rows-returns-clause-count t c =
@@ -103,7 +108,8 @@ count_rows-returns-clause-count t c =
     let d : ℕ = c.args.dots in
     let b : ℕ = get_or bs (w - 1) 0 in
     let behind : List ℕ = reverse (take (w - 1) bs) in
-    let last = last_of_front bs w (omega arith) (omega arith) in
+    let some = some_waiting bs w c.args.dots (omega arith) (omega arith) in
+    let last = last_of_front bs w some (omega arith) in
     let both = rows_popped d (take w bs) (take (w - 1) bs) b last in
     let same = ap (λ xs. length (leaf_rows (letters_left d (reverse xs)) (reverse xs))) c.count_dotted-dotted.ensures.kept in
     let lengths = length-append (dotted_rows (letters_left d behind) b behind) (leaf_rows (letters_left d behind) behind) in
