@@ -7,8 +7,9 @@ use Rattle.std.proofs.lemmas.List.Folds.{concat-append}
 use Rattle.sgb_graph.specs.declared.refusal.Refusal.{Refusal}
 use Rattle.sgb_graph.specs.declared.refusal.Refusal.TheVariants.{NoRoom, TooLarge}
 use Rattle.sgb_binary.specs.declared.lister.Lister.{Lister}
+use Rattle.sgb_binary.specs.Tree.{trees}
 use Rattle.sgb_binary.specs.Private.Listing.{rows, dotted_rows, leaf_rows, room, rooms, letters_left, Listed, Lists}
-use Rattle.sgb_binary.proofs.Rows.{rows_end, rows_more, dotted_some, rooms-cons, rooms-nil}
+use Rattle.sgb_binary.proofs.Rows.{trees_are, rows_none, rows_end, rows_more, dotted_some, rooms-cons, rooms-nil}
 
 -- what `Lists` says of an `Err`
 abbrev pub RefusesList : Lister → List (List ℕ) → Refusal → Type 0
@@ -148,3 +149,19 @@ cut_two xs ys zs us x y n first second cut long =
 
 pub put_back : (xs ys zs us : List ℕ) (b : ℕ) → xs ≡ ys ++ b ∷ [] → zs ≡ ys → us ≡ zs ++ b ∷ [] → us ≡ xs
 put_back xs ys zs us b is same pushed = pushed ∙ (ap (λ ks. ks ++ b ∷ []) same ∙ sym is)
+
+-- ---- the one budget of the start
+pub one_row : (n most : ℕ) (bs : List ℕ) → bs ≡ most ∷ [] → rows (letters_left n (reverse bs)) (reverse bs) ≡ trees n most
+one_row n most bs is =
+    let one : letters_left n (most ∷ []) ≡ 2 * n + 1 = omega arith in
+    ap (λ xs. rows (letters_left n (reverse xs)) (reverse xs)) is
+    ∙ (ap (λ m. rows m (most ∷ [])) one ∙ sym (trees_are n most))
+
+pub one_room : (most : ℕ) (bs : List ℕ) → bs ≡ most ∷ [] → rooms (reverse bs) ≡ room most
+one_room most bs is = ap (λ xs. rooms (reverse xs)) is ∙ omega (arith, rooms-cons most [], rooms-nil)
+
+pub no_trees : (n most : ℕ) → room most < n → n ≤ 127 → trees n most ≡ []
+no_trees n most over few =
+    let little : rooms (most ∷ []) < n = omega (arith, rooms-cons most [], rooms-nil) in
+    let one : letters_left n (most ∷ []) ≡ 2 * n + 1 = omega arith in
+    trees_are n most ∙ (ap (λ m. rows m (most ∷ [])) (sym one) ∙ rows_none n (most ∷ []) little few)

@@ -12,6 +12,7 @@ use Rattle.sgb_graph.specs.Text.{IsText, is_text_byte}
 use Rattle.sgb_plan.specs.Distinct.{Distinct}
 use Rattle.sgb_plan.specs.Plan.{Plan, IsMade, with_named}
 use Rattle.sgb_plan.proofs.Planning.{begun, many_vertices, n-with_named}
+use Rattle.sgb_simplex.specs.Room.{MayWant}
 use Rattle.sgb_binary.specs.Binary.{binary_plan, tree_vertex}
 use Rattle.sgb_binary.specs.Tree.{words, is_low_tree, trees}
 use Rattle.sgb_binary.specs.Private.Listing.{pieces}
@@ -59,6 +60,9 @@ pub refused_trees : (n most : ℕ) (directed : Bool) {e : Refusal} → (e ≡ No
 refused_trees n most directed (inl none) = inl none
 refused_trees n most directed (inr large) =
     many_vertices (binary_plan n most directed) large.0 (omega (arith, large.1, length-map (trees n most) tree_vertex))
+
+pub may_want : (n most : ℕ) (directed : Bool) (count : ℕ) → (count ≡ length (trees n most)) × (count ≤ 65535) → MayWant (Ok (binary_plan n most directed))
+may_want n most directed count few = omega (arith, few.0, few.1, length-map (trees n most) tree_vertex)
 
 -- the builder with its vertices, from the names in the index
 pub named : (p : Plan) (names : List (List ℕ)) (a b : Builder) → map tree_vertex names ≡ p.vertices → b ≡ with_named a (map tree_vertex names) → a ≡ begun p → b ≡ with_named (begun p) p.vertices

@@ -1,11 +1,13 @@
 //! Makes graphs of binary trees.
-ghost use Rattle.std.specs.Prelude.{◌≡◌, ◌≤◌, ◌≤ℤ◌, ◌<◌, pos, unsigned_abs, length, map, All, Ok};
+ghost use Rattle.std.specs.Prelude.{◌≡◌, ◌≤◌, ◌≤ℤ◌, ◌<◌, pos, unsigned_abs, length, map, All, Ok, IsErrOf};
 ghost use Rattle.sgb_graph.specs.Text.{IsText};
 ghost use Rattle.sgb_plan.specs.Plan.{IsMade, Names};
+ghost use Rattle.sgb_simplex.specs.Room.{MayWant};
 ghost use Rattle.sgb_binary.specs.Binary.{plan_of_binary, binary_plan, is_binary, height_within, tree_vertex};
 
 use crate::BinarySpec;
 use crate::index::index_names;
+use crate::judge::count_trees;
 use crate::lister::list_trees;
 use crate::rotation::insert_rotations;
 use sgb_graph::{Builder, Graph, Label, Refusal, Types, Util};
@@ -18,9 +20,10 @@ use std::alloc::Global;
 /// is a vertex.
 ///
 /// Refused `BadSpecs` where `n` is not from 0 to 100 or the height is below 0, and then `TooLarge` where there are more
-/// than 65,535 trees, or more than 1,000,000 numbers would be given out.
+/// than 65,535 trees, which takes no memory to tell, or more than 1,000,000 numbers would be given out.
 pub fn binary(alloc: Global, spec: &BinarySpec) -> Result<Graph, Refusal>
     ensures made { IsMade (plan_of_binary spec.now) result }
+    ensures room { IsErrOf result Refusal.NoRoom → MayWant (plan_of_binary spec.now) }
 {
     if !is_binary(spec) {
         return Err(Refusal::BadSpecs);
@@ -53,14 +56,16 @@ fn height_within(n: u32, height: u64) -> u32
 
 fn make_graph(alloc: Global, n: u32, most: u32, directed: bool) -> Result<Graph, Refusal>
     requires { n ≤ 100 }
-    ensures { IsMade (Ok (binary_plan n most directed)) result }
+    ensures made { IsMade (Ok (binary_plan n most directed)) result }
+    ensures room { IsErrOf result Refusal.NoRoom → MayWant (Ok (binary_plan n most directed)) }
 {
+    let count = count_trees(n, most)?;
     let id = id_of(
         alloc,
         "binary",
         &[Part::Count(n), Part::Count(most), Part::Flag(directed)],
     )?;
-    let names = list_trees(alloc, n, most)?;
+    let names = list_trees(alloc, n, most, count)?;
     let index = index_names(alloc, &names, 2 * n as usize + 1)?;
     let mut builder = Builder::new(alloc, id, Types::none(), directed);
     name_vertices(&mut builder, alloc, index.as_slice())?;
@@ -73,6 +78,7 @@ fn name_vertices(builder: &mut Builder, alloc: Global, trees: &[&[u8]]) -> Resul
     requires { All IsText (map (λ tree. tree.now) trees.now) }
     ensures { Names builder.old builder.new (map tree_vertex (map (λ tree. tree.now) trees.now)) result }
 {
+    builder.reserve_vertices(trees.len())?;
     for tree in trees {
         let fields = [
             Util::Zero,

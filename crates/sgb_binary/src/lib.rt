@@ -4,6 +4,7 @@
 mod facts;
 mod generator;
 mod index;
+mod judge;
 mod lister;
 mod rotation;
 mod spec;

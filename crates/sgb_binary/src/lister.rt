@@ -24,19 +24,22 @@ struct Lister {
     count: u32,
 }
 
-/// The trees with `n` dots and at most this height. Refused `TooLarge` where they are more than 65,535.
-pub(crate) fn list_trees(alloc: Global, n: u32, most: u32) -> Result<Names, Refusal>
+/// The trees with `n` dots and at most this height, with room for so many names taken at once. Refused `TooLarge` where
+/// they are more than 65,535.
+pub(crate) fn list_trees(alloc: Global, n: u32, most: u32, expected: u32) -> Result<Names, Refusal>
     requires few { n ≤ 100 }
+    requires expected { expected ≤ 65535 }
     ensures letters { IfOk result (λ names. names.letters.items ≡ concat (trees n most)) }
     ensures count { IfOk result (λ names. names.count ≡ length (trees n most)) }
     ensures few { IfOk result (λ names. names.count ≤ 65535) }
     ensures err { IfErr result
         (λ e. (e ≡ Refusal.NoRoom) ⊎ ((e ≡ Refusal.TooLarge) × (65535 < length (trees n most)))) }
 {
+    let letters = expected as usize * (2 * n as usize + 1);
     let mut lister = Lister {
         word: Vec::new(alloc),
         budgets: Vec::from_slice(alloc, &[most])?,
-        names: Vec::new(alloc),
+        names: Vec::with_capacity(alloc, letters)?,
         count: 0,
     };
     lister.list_all(n, most)?;
@@ -140,8 +143,8 @@ impl Lister {
     }
 }
 
-// How many dots a tree of this height has at most, or 127 where it is more.
-fn room(height: u32) -> u32
+/// How many dots a tree of this height has at most, or 127 where it is more.
+pub(crate) fn room(height: u32) -> u32
     ensures value { result ≡ room height }
     ensures few { result ≤ 127 }
 {

@@ -2,6 +2,8 @@
 #![tactic(auto)]
 
 #[cfg(test)]
+mod growths;
+#[cfg(test)]
 mod large;
 #[cfg(test)]
 mod laws;

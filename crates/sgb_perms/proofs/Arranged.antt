@@ -81,11 +81,11 @@ start_count : (zeros : ℕ) → count (at 0) (start zeros) ≡ zeros
 start_count zero = refl
 start_count (suc n) = ap suc (start_count n)
 
-record Tells (counts v a : List ℕ) : Type 0 where
-  is : IsArrangement counts a
-  vector : vector_of counts a ≡ v
+pub record Tells (counts v a : List ℕ) : Type 0 where
+  pub is : IsArrangement counts a
+  pub vector : vector_of counts a ≡ v
 
-from_decoded : (zeros : ℕ) (cs v a : List ℕ) → decoded 1 cs (start zeros) v ≡ a ∷ [] → Tells (zeros ∷ cs) v a
+pub from_decoded : (zeros : ℕ) (cs v a : List ℕ) → decoded 1 cs (start zeros) v ≡ a ∷ [] → Tells (zeros ∷ cs) v a
 unfolding counts_from
 from_decoded zeros cs v a made =
     let d = decoded_is 1 cs (start zeros) v a (start_below zeros) made in

@@ -12,7 +12,7 @@ unfoldable pub falls : ℕ → List ℕ → Bool
 falls most [] = true
 falls most (x ∷ xs) = nat_le x most && falls x xs
 
-falls-more : (m n : ℕ) (xs : List ℕ) → m ≤ n → falls m xs ≡ true → falls n xs ≡ true
+pub falls-more : (m n : ℕ) (xs : List ℕ) → m ≤ n → falls m xs ≡ true → falls n xs ≡ true
 unfolding falls
 falls-more m n [] le is = refl
 falls-more m n (x ∷ xs) le is =

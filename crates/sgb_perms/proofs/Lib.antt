@@ -5,8 +5,10 @@ pub mod Decoding
 pub mod Encoding
 pub mod Pruning
 pub mod Arranged
+pub mod Greatest
 pub mod Exchanging
 pub mod Pieces
 pub mod Looking
+pub mod Counting
 pub mod Runs
 pub mod Moves

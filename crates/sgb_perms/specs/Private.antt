@@ -1,3 +1,4 @@
+pub mod Counted
 pub mod Listed
 pub mod Places
 pub mod Rows

@@ -1,36 +1,36 @@
 //! How many elements of each kind there are, and how many inversions.
-ghost use Rattle.std.specs.Prelude.{◌≡◌, ◌⊎◌, ◌≤◌, ◌<◌, ◌&&◌, false, true, pos, int_le, nat_le, length, sum, unsigned_abs, IfOk, IfErr};
+ghost use Rattle.std.specs.Prelude.{◌≡◌, ◌≤◌, ◌<◌, ◌&&◌, false, true, pos, int_le, nat_le, length, take, sum, unsigned_abs, IfOk, IfErr};
 ghost use Rattle.sgb_perms.specs.Arrangement.{greatest_from};
 ghost use Rattle.sgb_perms.specs.Perms.{numbers_of, counts_of, are_allowed, most_of};
 
 use crate::PermsSpec;
 use sgb_graph::Refusal;
-use sgb_plan::list_of;
-use std::alloc::Global;
+use sgb_simplex::list_within;
 
-// The most kinds, and the most elements.
-const MOST_KINDS: u32 = 16;
-
+// The most elements.
 const MOST_ELEMENTS: u64 = 255;
 
-// How many elements there are of each kind, of which there is at least one.
-pub(crate) fn counts_of(alloc: Global, spec: &PermsSpec) -> Result<Vec<u64>, Refusal>
-    ensures counts { IfOk result (λ counts. counts.items ≡ counts_of spec.now) }
-    ensures allowed { IfOk result (λ counts. are_allowed spec.now.n0 spec.now.max_inv counts.items ≡ true) }
-    ensures some { IfOk result (λ counts. 0 < length counts.items) }
-    ensures kinds { IfOk result (λ counts. length counts.items ≤ 16) }
-    ensures elements { IfOk result (λ counts. sum counts.items ≤ 255) }
-    ensures err { IfErr result (λ e. (e ≡ Refusal.NoRoom) ⊎
-        ((e ≡ Refusal.BadSpecs) × (are_allowed spec.now.n0 spec.now.max_inv (counts_of spec.now) ≡ false))) }
+// Writes how many elements there are of each kind to the first of 16 places, and tells how many kinds there are. There
+// is at least one element. It takes no memory.
+pub(crate) fn counts_of(spec: &PermsSpec, places: &mut [u64]) -> Result<usize, Refusal>
+    requires places { length places.old ≡ 16 }
+    ensures counts { IfOk result (λ kinds. take kinds places.new ≡ counts_of spec.now) }
+    ensures allowed { IfOk result (λ kinds. are_allowed spec.now.n0 spec.now.max_inv (counts_of spec.now) ≡ true) }
+    ensures some { IfOk result (λ kinds. 0 < length (counts_of spec.now)) }
+    ensures kinds { IfOk result (λ kinds. length (counts_of spec.now) ≤ 16) }
+    ensures elements { IfOk result (λ kinds. sum (counts_of spec.now) ≤ 255) }
+    ensures few { IfOk result (λ kinds. kinds ≤ 16) }
+    ensures err { IfErr result (λ e. (e ≡ Refusal.BadSpecs)
+        × (are_allowed spec.now.n0 spec.now.max_inv (counts_of spec.now) ≡ false)) }
 {
     if !is_in_range(spec) {
         return Err(Refusal::BadSpecs);
     }
-    let counts = list_of(alloc, &numbers_of(spec), 1, MOST_KINDS)?;
-    if !are_few(&counts) {
+    let kinds = list_within(&numbers_of(spec), 1, places)?;
+    if !are_few(&places[..kinds]) {
         return Err(Refusal::BadSpecs);
     }
-    Ok(counts)
+    Ok(kinds)
 }
 
 // There is an element of kind 0, and the limit is not below 0.

@@ -1,10 +1,13 @@
 //! Makes the graph.
+ghost use Rattle.std.specs.Prelude.{IsErrOf};
 ghost use Rattle.sgb_plan.specs.Plan.{IsMade};
+ghost use Rattle.sgb_simplex.specs.Room.{MayWant};
 ghost use Rattle.sgb_perms.specs.Perms.{plan_of_perms};
 
 use crate::PermsSpec;
 use crate::counts::{counts_of, limit_of, most_of};
 use crate::exchanges::insert_exchanges;
+use crate::judge::count_arrangements;
 use crate::listing::list_arrangements;
 use crate::names::{id_of_perms, name_vertices};
 use crate::places::index_rows;
@@ -20,13 +23,18 @@ use std::alloc::Global;
 /// comes of it by the exchange of two neighbours of which the first is greater.
 ///
 /// Refused `BadSpecs` where `n0` is below 1 or `max_inv` below 0, and where there are more than 16 kinds or 255
-/// elements; then `TooLarge` where there are more than 65,535 vertices or 1,000,000 arc numbers.
+/// elements; then `TooLarge` where there are more than 65,535 vertices, which takes no memory to tell, or 1,000,000 arc
+/// numbers.
 pub fn perms(alloc: Global, spec: &PermsSpec) -> Result<Graph, Refusal>
     ensures made { IsMade (plan_of_perms spec.now) result }
+    ensures room { IsErrOf result Refusal.NoRoom → MayWant (plan_of_perms spec.now) }
 {
-    let counts = counts_of(alloc, spec)?;
-    let most = most_of(&counts, limit_of(spec));
-    let rows = list_arrangements(alloc, &counts, most)?;
+    let mut counts = [0u64; 16];
+    let kinds = counts_of(spec, &mut counts)?;
+    let counts = &counts[..kinds];
+    let most = most_of(counts, limit_of(spec));
+    let count = count_arrangements(counts, most)?;
+    let rows = list_arrangements(alloc, counts, most, count as usize)?;
     let id = id_of_perms(alloc, spec, most as u32)?;
     let mut builder = Builder::new(alloc, id, Types::none(), spec.directed);
     name_vertices(&mut builder, alloc, &rows)?;

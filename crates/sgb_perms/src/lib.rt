@@ -5,6 +5,7 @@ mod counts;
 mod exchanges;
 mod facts;
 mod generate;
+mod judge;
 mod listing;
 mod names;
 mod places;

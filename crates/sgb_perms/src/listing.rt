@@ -8,8 +8,14 @@ use crate::rows::Rows;
 use sgb_graph::Refusal;
 use std::alloc::Global;
 
-// The arrangements with at most so many inversions.
-pub(crate) fn list_arrangements(alloc: Global, counts: &[u64], most: usize) -> Result<Rows, Refusal>
+// The arrangements with at most so many inversions, with room for so many taken at once.
+pub(crate) fn list_arrangements(
+    alloc: Global,
+    counts: &[u64],
+    most: usize,
+    count: usize,
+) -> Result<Rows, Refusal>
+    requires few { count ≤ 65535 }
     requires some { 0 < length counts.now }
     requires kinds { length counts.now ≤ 16 }
     requires elements { sum counts.now ≤ 255 }
@@ -22,7 +28,7 @@ pub(crate) fn list_arrangements(alloc: Global, counts: &[u64], most: usize) -> R
     let width = width_of(counts);
     let mut row = Vec::with_capacity(alloc, width)?;
     row.resize(zeros as usize, 0)?;
-    let mut rows = Rows::new(alloc, width);
+    let mut rows = Rows::with_capacity(alloc, width, count)?;
     list_rows(&mut rows, &mut row, 0, 0, others, 0, most)?;
     Ok(rows)
 }

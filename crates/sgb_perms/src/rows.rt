@@ -1,8 +1,8 @@
 //! Rows of one width, one behind another in one buffer.
-ghost use Rattle.std.specs.Prelude.{◌≡◌, ◌≤◌, ◌<◌, ◌∷◌, [], length, slice_index_or};
+ghost use Rattle.std.specs.Prelude.{◌≡◌, ◌≤◌, ◌<◌, ◌∷◌, [], length, slice_index_or, IfOk};
 
 use sgb_graph::Refusal;
-use std::alloc::Global;
+use std::alloc::{AllocError, Global};
 use std::marker::Model;
 
 // The most rows that are listed, which are as many as a graph has vertices.
@@ -29,16 +29,22 @@ impl Model for Rows {
 impl Rows {
     ghost use Rattle.sgb_perms.specs.Private.Rows.{Lists};
 
-    // No rows yet. Takes no memory.
-    pub(crate) fn new(alloc: Global, width: usize) -> Rows
-        requires { width ≤ 255 }
-        ensures { result ≡ record { width = width; rows = [] } }
+    // No rows yet, with room for so many.
+    pub(crate) fn with_capacity(
+        alloc: Global,
+        width: usize,
+        count: usize,
+    ) -> Result<Rows, AllocError>
+        requires width { width ≤ 255 }
+        requires count { count ≤ 65535 }
+        ensures { IfOk result (λ rows. rows ≡ record { width = width; rows = [] }) }
     {
-        Rows {
-            kinds: Vec::new(alloc),
+        let elements = count * width;
+        Ok(Rows {
+            kinds: Vec::with_capacity(alloc, elements)?,
             width,
             count: 0,
-        }
+        })
     }
 
     // How many rows there are.

@@ -67,8 +67,9 @@ with_length min max c es =
     let drawn = drawn_length min max c.rest in
     record { insertions = es drawn.len; made = c.made + 1; draws = c.draws + drawn.draws; rest = drawn.rest }
 
--- An attempt at u and v, once they are drawn. It goes for nothing where u would be joined to itself and may not be, or
--- where u is joined to v and may not be again.
+-- What an attempt does once u and v are drawn. Where they are one vertex and loops are not wanted, nothing. Where no
+-- insertion joins them yet, or where multi is above 0, it inserts; where one does, it shortens that one if multi is
+-- below 0, and does nothing if multi is 0.
 unfoldable pub tried : RandomSpec → ℕ → ℕ → Course → Course
 tried s u v c =
     if (u == v) && not s.loops then c

@@ -42,7 +42,7 @@ pub(crate) fn judge(spec: RandomSpec) -> Result<LengthRange, Refusal>
     Ok(range)
 }
 
-// There is a vertex, and as many arcs or edges are wanted as there can be.
+// There is a vertex, and the number of arcs or edges that are wanted is not below 0.
 fn is_sound(spec: RandomSpec) -> bool
     ensures { result ≡ (int_lt (pos 0) spec.n && int_le (pos 0) spec.m) }
 {

@@ -9,8 +9,6 @@ use Rattle.sgb_binary.proofs.generator.binary.Goals as goal
 no_plan : (spec : BinarySpec) → is_binary spec ≡ false → plan_of_binary spec ≡ Err BadSpecs
 no_plan spec is = rw is refl
 
-pub returns-then-not-is_binary : goal.returns-then-not-is_binary
-returns-then-not-is_binary c = record {
-  made =
-      subst (λ plan. IsMade plan (Err BadSpecs)) (sym (no_plan c.args.spec.now (sym c.is_binary.ensures ∙ c.if-not-is_binary.true))) (refused_before BadSpecs);
-}
+pub returns-then-not-is_binary-clause-made : goal.returns-then-not-is_binary-clause-made
+returns-then-not-is_binary-clause-made c =
+    subst (λ plan. IsMade plan (Err BadSpecs)) (sym (no_plan c.args.spec.now (sym c.is_binary.ensures ∙ c.if-not-is_binary.true))) (refused_before BadSpecs)

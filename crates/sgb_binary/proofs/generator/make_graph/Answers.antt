@@ -1,4 +1,4 @@
-use Rattle.std.proofs.Common.{◌≡◌, ℕ, List, Bor, length, map, All, sym, ap, subst, ◌∙◌, arith}
+use Rattle.std.proofs.Common.{◌≡◌, ℕ, List, Bor, length, map, All, inr, sym, ap, subst, ◌∙◌, arith}
 use Rattle.std.proofs.lemmas.List.{length-map}
 use Rattle.std.proofs.lemmas.Result.{err_from_is_err_and}
 use Rattle.sgb_graph.specs.Builder.{grown}
@@ -11,11 +11,16 @@ use Rattle.sgb_binary.specs.Binary.{binary_plan, tree_vertex}
 use Rattle.sgb_binary.specs.Rotation.{rotations}
 use Rattle.sgb_binary.specs.Tree.{trees}
 use Rattle.sgb_binary.proofs.Indexing.{names_of}
-use Rattle.sgb_binary.proofs.Making.{trees_text, cut_trees, letters_whole, pieces_apart, begins, refused_trees, named, many_named}
+use Rattle.sgb_binary.proofs.Making.{trees_text, cut_trees, letters_whole, pieces_apart, begins, refused_trees, named, many_named, may_want}
 use Rattle.sgb_binary.proofs.generator.make_graph.Goals as goal
 
-pub returns-in_err-names : goal.returns-in_err-names
-returns-in_err-names c =
+pub returns-in_err-count-clause-made : goal.returns-in_err-count-clause-made
+returns-in_err-count-clause-made c =
+    let p = err_from_is_err_and c.from_residual.result c.from_residual.ensures.1 in
+    rw (p.1, p.2) (refused_trees c.args.n c.args.most c.args.directed (inr c.in_err-count.ensures.err))
+
+pub returns-in_err-names-clause-made : goal.returns-in_err-names-clause-made
+returns-in_err-names-clause-made c =
     let p = err_from_is_err_and c.from_residual-in_err-names.result c.from_residual-in_err-names.ensures.1 in
     rw (p.1, p.2) (refused_trees c.args.n c.args.most c.args.directed c.in_err-names.ensures.err)
 
@@ -33,8 +38,8 @@ name_vertices-requires c =
     c.in_ok-index.ensures.keys ∙ cut_trees c.args.n c.args.most c.in_ok-names.names.count c.in_ok-names.names.letters.items c.in_ok-names.ensures.letters c.in_ok-names.ensures.count in
     subst (All IsText) (sym (ap names_of c.as_slice.ensures.keys ∙ are)) (trees_text c.args.n c.args.most c.requires)
 
-pub returns-in_err-name_vertices : goal.returns-in_err-name_vertices
-returns-in_err-name_vertices c =
+pub returns-in_err-name_vertices-clause-made : goal.returns-in_err-name_vertices-clause-made
+returns-in_err-name_vertices-clause-made c =
     let p = err_from_is_err_and c.from_residual-in_err-name_vertices.result c.from_residual-in_err-name_vertices.ensures.1 in
     let plan : Plan = binary_plan c.args.n c.args.most c.args.directed in
     let are : names_of c.in_ok-index.index.keys ≡ trees c.args.n c.args.most =
@@ -59,8 +64,8 @@ insert_rotations-requires-clause-few c =
     c.in_ok-index.ensures.keys ∙ cut_trees c.args.n c.args.most c.in_ok-names.names.count c.in_ok-names.names.letters.items c.in_ok-names.ensures.letters c.in_ok-names.ensures.count in
     omega (arith, ap (λ xs. length xs) are, length-map c.in_ok-index.index.keys (λ (name : Bor (List ℕ)). name.now), c.in_ok-names.ensures.count, c.in_ok-names.ensures.few)
 
-pub returns-in_err-insert_rotations : goal.returns-in_err-insert_rotations
-returns-in_err-insert_rotations c =
+pub returns-in_err-insert_rotations-clause-made : goal.returns-in_err-insert_rotations-clause-made
+returns-in_err-insert_rotations-clause-made c =
     let p = err_from_is_err_and c.from_residual-in_err-insert_rotations.result c.from_residual-in_err-insert_rotations.ensures.1 in
     let plan : Plan = binary_plan c.args.n c.args.most c.args.directed in
     let are : names_of c.in_ok-index.index.keys ≡ trees c.args.n c.args.most =
@@ -72,8 +77,8 @@ returns-in_err-insert_rotations c =
     (named plan (names_of c.as_slice.result.now) c.new-builder.result c.name_vertices.new.builder vertices c.in_ok-name_vertices.ensures begun_so)
     (subst (λ es. RefusesInsertions c.name_vertices.new.builder es c.in_err-insert_rotations.field-0.0) (ap rotations are) c.in_err-insert_rotations.ensures))
 
-pub returns : goal.returns
-returns c =
+pub returns-clause-made : goal.returns-clause-made
+returns-clause-made c =
     let plan : Plan = binary_plan c.args.n c.args.most c.args.directed in
     let are : names_of c.in_ok-index.index.keys ≡ trees c.args.n c.args.most =
     c.in_ok-index.ensures.keys ∙ cut_trees c.args.n c.args.most c.in_ok-names.names.count c.in_ok-names.names.letters.items c.in_ok-names.ensures.letters c.in_ok-names.ensures.count in
@@ -85,3 +90,18 @@ returns c =
     (c.in_ok-insert_rotations.ensures ∙ ap (grown c.name_vertices.new.builder) (ap rotations are))
     (subst IsGraph c.finish.ensures.value c.finish.ensures.sound) in
     rw c.finish.ensures.value whole
+
+pub returns-in_err-id-clause-room : goal.returns-in_err-id-clause-room
+returns-in_err-id-clause-room c = λ is. may_want c.args.n c.args.most c.args.directed c.in_ok-count.count c.in_ok-count.ensures.ok
+
+pub returns-in_err-names-clause-room : goal.returns-in_err-names-clause-room
+returns-in_err-names-clause-room c = λ is. may_want c.args.n c.args.most c.args.directed c.in_ok-count.count c.in_ok-count.ensures.ok
+
+pub returns-in_err-index-clause-room : goal.returns-in_err-index-clause-room
+returns-in_err-index-clause-room c = λ is. may_want c.args.n c.args.most c.args.directed c.in_ok-count.count c.in_ok-count.ensures.ok
+
+pub returns-in_err-name_vertices-clause-room : goal.returns-in_err-name_vertices-clause-room
+returns-in_err-name_vertices-clause-room c = λ is. may_want c.args.n c.args.most c.args.directed c.in_ok-count.count c.in_ok-count.ensures.ok
+
+pub returns-in_err-insert_rotations-clause-room : goal.returns-in_err-insert_rotations-clause-room
+returns-in_err-insert_rotations-clause-room c = λ is. may_want c.args.n c.args.most c.args.directed c.in_ok-count.count c.in_ok-count.ensures.ok

@@ -1,9 +1,10 @@
-use Rattle.std.proofs.Common.{◌≡◌, ◌<◌, [], List, ℕ, Bor, length, get_or, subst, sym, ◌∙◌, arith}
+use Rattle.std.proofs.Common.{◌≡◌, ◌<◌, [], List, ℕ, Bor, length, get_or, map, subst, sym, ◌∙◌, arith}
 use Rattle.std.proofs.lemmas.List.{get_or-map, length-map}
 use Rattle.std.proofs.lemmas.Result.{err_from_is_err_and}
 use Rattle.sgb_graph.specs.New.{six_zeros}
 use Rattle.sgb_graph.specs.Text.{IsText}
-use Rattle.sgb_plan.proofs.Planning.{pushed, push_refused, names_of_some, names_of_refused, names_of_end}
+use Rattle.sgb_plan.proofs.Planning.{NamesOf, pushed, push_refused, names_of_start, names_of_some, names_of_refused, names_of_end}
+use Rattle.sgb_binary.specs.Binary.{tree_vertex}
 use Rattle.sgb_binary.proofs.Indexing.{names_of}
 use Rattle.sgb_binary.proofs.generator.name_vertices.Goals as goal
 
@@ -13,6 +14,12 @@ name_at trees i r d h = sym (get_or-map (λ (tree : Bor (List ℕ)). tree.now) t
 
 below : (trees : List (Bor (List ℕ))) (i : ℕ) → i < length trees → i < length (names_of trees)
 below trees i h = omega (arith, length-map trees (λ (tree : Bor (List ℕ)). tree.now))
+
+pub loop-tree-init : goal.loop-tree-init
+loop-tree-init c =
+    let trees : List (Bor (List ℕ)) = c.args.trees.now in
+    subst (λ b. NamesOf c.args.builder.now (map tree_vertex (names_of trees)) b tree_vertex (names_of trees) 0) (sym c.in_ok-reserve_vertices.ensures.same)
+    (names_of_start c.args.builder.now tree_vertex (names_of trees))
 
 pub text_of-requires : goal.text_of-requires
 text_of-requires c =

@@ -5,4 +5,4 @@ use Rattle.sgb_binary.proofs.Indexing.{names_of}
 use Rattle.sgb_binary.proofs.generator.name_vertices.Given as goal
 
 abbrev pub invariant-loop-tree : goal.invariant-loop-tree
-invariant-loop-tree l = NamesOf l.initial.builder (map tree_vertex (names_of l.trees)) l.builder tree_vertex (names_of l.trees) l.tree-index
+invariant-loop-tree l = NamesOf l.fn.builder (map tree_vertex (names_of l.trees)) l.builder tree_vertex (names_of l.trees) l.tree-index

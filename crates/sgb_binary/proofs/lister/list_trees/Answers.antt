@@ -8,4 +8,4 @@ pub returns-clause-letters : goal.returns-clause-letters
 returns-clause-letters c =
     let ws : List (List ℕ) = trees c.args.n c.args.most in
     c.in_ok-list_all.ensures.names
-    ∙ (ap₂ (λ xs p. xs ++ concat (map (λ w. p ++ w) ws)) c.new-2.ensures.items c.new.ensures.items ∙ ap concat (map-id ws))
+    ∙ (ap₂ (λ xs p. xs ++ concat (map (λ w. p ++ w) ws)) c.in_ok-with_capacity.ensures.items c.new.ensures.items ∙ ap concat (map-id ws))

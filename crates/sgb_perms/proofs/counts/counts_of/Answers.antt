@@ -1,6 +1,4 @@
-use Rattle.std.proofs.Common.{◌≡◌, ◌<◌, ℕ, ℤ, pos, negsuc, suc, zero, List, [], ◌∷◌, length, sum, drop, true, false, nat_le, int_le, int_lt, ◌&&◌, if◌then◌else◌, ◌==◌, ◌⊎◌, inl, inr, ap, sym, ◌∙◌, arith}
-use Rattle.sgb_graph.specs.declared.refusal.Refusal.{Refusal}
-use Rattle.sgb_graph.specs.declared.refusal.Refusal.TheVariants.{NoRoom, BadSpecs}
+use Rattle.std.proofs.Common.{◌≡◌, ◌<◌, ℕ, ℤ, pos, negsuc, suc, zero, List, [], ◌∷◌, length, sum, drop, true, false, nat_le, int_le, int_lt, ◌&&◌, if◌then◌else◌, ◌==◌, ap, sym, ◌∙◌, arith}
 use Rattle.sgb_plan.specs.Listing.{leading, count_of, count_from, listed, listed_at}
 use Rattle.std.proofs.lemmas.Bool.{false≢true, and_parts, and_left, and_right, lt-leb, lt-ltb, ne_eqb}
 use Rattle.std.proofs.lemmas.List.FromFn.{length-map-range_with_len}
@@ -18,12 +16,11 @@ too_many n0 limit counts many =
     and_left (int_le (pos 1) n0 && int_le (pos 0) limit && nat_le (length counts) 16) (nat_le (sum counts) 255)
     (and_right (int_le (pos 1) n0 && int_le (pos 0) limit) (nat_le (length counts) 16) (lt-leb (length counts) 16 many))
 
-refused : (s : PermsSpec) (ns : List ℤ) (e : Refusal) → ns ≡ numbers_of s → (e ≡ NoRoom) ⊎ ((e ≡ BadSpecs) × (16 < count_of 1 ns)) → (e ≡ NoRoom) ⊎ ((e ≡ BadSpecs) × (are_allowed s.n0 s.max_inv (counts_of s) ≡ false))
-refused s ns e are (inl room) = inl room
-refused s ns e are (inr many) =
+refused : (s : PermsSpec) (ns : List ℤ) (places : ℕ) → ns ≡ numbers_of s → places ≡ 16 → places < count_of 1 ns → are_allowed s.n0 s.max_inv (counts_of s) ≡ false
+refused s ns places are all many =
     let long = length-listed 1 (numbers_of s) in
     let same = ap (count_of 1) are in
-    inr (many.0, too_many s.n0 s.max_inv (counts_of s) (omega (arith, many.1, long, same)))
+    too_many s.n0 s.max_inv (counts_of s) (omega (arith, many, all, long, same))
 
 -- where the first number is above 0, a kind is listed
 behind_some : (before : ℕ) (ns : List ℤ) → 0 < before → 0 < count_from 1 before ns
@@ -42,10 +39,11 @@ first_listed (pos (suc n)) ns above =
     count_some (leading (pos (suc n) ∷ ns)) (pos (suc n) ∷ ns) some
 first_listed (negsuc n) ns above = absurd (false≢true above)
 
-pub returns-in_err-counts-clause-err : goal.returns-in_err-counts-clause-err
-returns-in_err-counts-clause-err c =
+pub returns-in_err-kinds-clause-err : goal.returns-in_err-kinds-clause-err
+returns-in_err-kinds-clause-err c =
     let p = err_from_is_err_and c.from_residual.result c.from_residual.ensures.1 in
-    rw (p.1, p.2) (refused c.args.spec.now c.numbers_of.result c.in_err-counts.field-0.0 c.numbers_of.ensures c.in_err-counts.ensures.err)
+    rw (p.1, p.2)
+    (c.in_err-kinds.ensures.err.0, refused c.args.spec.now c.numbers_of.result _ c.numbers_of.ensures c.requires.places c.in_err-kinds.ensures.err.1)
 
 pub returns-clause-some : goal.returns-clause-some
 returns-clause-some c =
@@ -53,7 +51,4 @@ returns-clause-some c =
     let allowed : (int_le (pos 1) s.n0 && int_le (pos 0) s.max_inv) ≡ true = sym c.is_in_range.ensures ∙ c.if-not-is_in_range.false in
     let above = (and_parts (int_le (pos 1) s.n0) (int_le (pos 0) s.max_inv) allowed).0 in
     let some : 0 < count_of 1 (numbers_of s) = first_listed s.n0 (drop 1 (numbers_of s)) above in
-    let long = length-listed 1 (numbers_of s) in
-    let listed_so : length c.in_ok-counts.counts.items ≡ length (listed 1 (numbers_of s)) =
-    ap length (c.in_ok-counts.ensures.list ∙ ap (listed 1) c.numbers_of.ensures) in
-    omega (arith, some, long, listed_so)
+    omega (arith, some, length-listed 1 (numbers_of s))

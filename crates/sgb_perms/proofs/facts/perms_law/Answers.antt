@@ -1,6 +1,7 @@
 use Rattle.std.proofs.Common.{◌≡◌, ◌≤◌, ◌<◌, ℕ, List, [], ◌∷◌, length, sum, Contains, ◌↔◌, arith}
 use Rattle.sgb_perms.specs.Arrangement.{IsArrangement, arrangements, vector_of}
 use Rattle.sgb_perms.proofs.Arranged.{listed_is, listed_has, arrangements_differ, vector_tells}
+use Rattle.sgb_perms.proofs.Greatest.{at_most, reached}
 use Rattle.sgb_perms.proofs.facts.perms_law.Goals as goal
 
 law_all : (counts a : List ℕ) (most : ℕ) → 0 < length counts → Contains (arrangements counts most) a ↔ (IsArrangement counts a × (sum (vector_of counts a) ≤ most))
@@ -22,3 +23,9 @@ returns-clause-once c = arrangements_differ
 
 pub returns-clause-vector : goal.returns-clause-vector
 returns-clause-vector c = law_vector
+
+pub returns-clause-greatest : goal.returns-clause-greatest
+returns-clause-greatest c = at_most
+
+pub returns-clause-reached : goal.returns-clause-reached
+returns-clause-reached c = reached

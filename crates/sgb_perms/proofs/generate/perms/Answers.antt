@@ -1,4 +1,4 @@
-use Rattle.std.proofs.Common.{◌≡◌, ◌<◌, ◌≤◌, ℕ, List, [], ◌∷◌, length, map, replicate, true, false, All, Ok, Err, ◌⊎◌, inl, inr, refl, sym, ap, ap₂, subst, ◌∙◌, arith, unsigned_abs}
+use Rattle.std.proofs.Common.{◌≡◌, ◌<◌, ◌≤◌, ℕ, List, [], ◌∷◌, length, map, take, replicate, true, false, All, Ok, Err, ◌⊎◌, inl, inr, refl, sym, ap, ap₂, subst, ◌∙◌, arith, unsigned_abs}
 use Rattle.std.proofs.lemmas.List.{length-map}
 use Rattle.std.proofs.lemmas.List.Elements.{All-weaker}
 use Rattle.std.proofs.lemmas.Result.{err_from_is_err_and}
@@ -12,6 +12,7 @@ use Rattle.sgb_graph.proofs.Inserting.{RefusesInsertions}
 use Rattle.sgb_plan.specs.Distinct.{Distinct}
 use Rattle.sgb_plan.specs.Plan.{Plan, IsMade, with_named}
 use Rattle.sgb_plan.proofs.Planning.{begun, n-with_named, RefusesNames, made, refused_before, refused_names, refused_insertions, many_vertices}
+use Rattle.sgb_simplex.specs.Room.{MayWant}
 use Rattle.sgb_perms.specs.declared.spec.PermsSpec.{PermsSpec}
 use Rattle.sgb_perms.specs.Arrangement.{arrangements}
 use Rattle.sgb_perms.specs.Perms.{counts_of, are_allowed, most_of, row_vertex, exchanges, perms_id, perms_plan, plan_of_perms}
@@ -27,9 +28,8 @@ not_planned : (s : PermsSpec) → are_allowed s.n0 s.max_inv (counts_of s) ≡ f
 unfolding plan_of_perms
 not_planned s not_allowed = rw not_allowed refl
 
-refused_early : (s : PermsSpec) (e : Refusal) → (e ≡ NoRoom) ⊎ ((e ≡ BadSpecs) × (are_allowed s.n0 s.max_inv (counts_of s) ≡ false)) → IsMade (plan_of_perms s) (Err e)
-refused_early s e (inl room) = inl room
-refused_early s e (inr bad) =
+refused_early : (s : PermsSpec) (e : Refusal) → (e ≡ BadSpecs) × (are_allowed s.n0 s.max_inv (counts_of s) ≡ false) → IsMade (plan_of_perms s) (Err e)
+refused_early s e bad =
     subst (λ plan. IsMade plan (Err e)) (sym (not_planned s bad.1))
     (subst (λ r. IsMade (Err BadSpecs) (Err r)) (sym bad.0) (refused_before BadSpecs))
 
@@ -38,6 +38,13 @@ record Planned (s : PermsSpec) (counts : List ℕ) (most : ℕ) : Type 0 where
   counted : counts ≡ counts_of s
   allowed : are_allowed s.n0 s.max_inv counts ≡ true
   limit : most ≡ most_of counts (unsigned_abs s.max_inv)
+
+planned : (s : PermsSpec) (counts : List ℕ) (most limit : ℕ) → counts ≡ counts_of s → are_allowed s.n0 s.max_inv (counts_of s) ≡ true → most ≡ most_of counts limit → limit ≡ unsigned_abs s.max_inv → Planned s counts most
+planned s counts most limit are allowed is given = record {
+  counted = are;
+  allowed = ap (are_allowed s.n0 s.max_inv) are ∙ allowed;
+  limit = is ∙ ap (most_of counts) given;
+}
 
 plan_with : PermsSpec → List ℕ → ℕ → Plan
 plan_with s counts most = perms_plan s most (arrangements counts most)
@@ -77,6 +84,12 @@ rows_closed [] most some = absurd (omega arith)
 rows_closed (zeros ∷ counts) most some = closed zeros counts most
 
 -- ---- the answers
+may_want : (s : PermsSpec) (counts : List ℕ) (most count : ℕ) → Planned s counts most → (count ≡ length (arrangements counts most)) × (count ≤ 65535) → MayWant (plan_of_perms s)
+may_want s counts most count p few =
+    let long : length (plan_with s counts most).vertices ≡ length (arrangements counts most) =
+    sym (ap length (planned_vertices s counts most (arrangements counts most) refl)) ∙ length-map (arrangements counts most) row_vertex in
+    subst MayWant (sym (is_planned s counts most p)) (omega (arith, few.0, few.1, long))
+
 too_many_rows : (s : PermsSpec) (counts : List ℕ) (most : ℕ) (e : Refusal) → Planned s counts most → (e ≡ NoRoom) ⊎ ((e ≡ TooLarge) × (65535 < length (arrangements counts most))) → IsMade (plan_of_perms s) (Err e)
 too_many_rows s counts most e p (inl room) = inl room
 too_many_rows s counts most e p (inr many) =
@@ -104,52 +117,51 @@ all_made s counts most rows b named last p are begun_so is inserted sound =
     (made (plan_with s counts most) (is ∙ ap₂ with_named begun_so (planned_vertices s counts most rows are))
     (inserted ∙ ap (grown named) (planned_insertions s counts most rows are)) sound)
 
-pub returns-in_err-counts : goal.returns-in_err-counts
-returns-in_err-counts c =
+pub returns-in_err-kinds-clause-made : goal.returns-in_err-kinds-clause-made
+returns-in_err-kinds-clause-made c =
     let p = err_from_is_err_and c.from_residual.result c.from_residual.ensures.1 in
-    rw (p.1, p.2) (record { made = refused_early c.args.spec.now c.in_err-counts.field-0.0 c.in_err-counts.ensures.err })
+    rw (p.1, p.2) (refused_early c.args.spec.now c.in_err-kinds.field-0.0 c.in_err-kinds.ensures.err)
 
-pub returns-in_err-rows : goal.returns-in_err-rows
-returns-in_err-rows c =
+pub returns-in_err-count-clause-made : goal.returns-in_err-count-clause-made
+returns-in_err-count-clause-made c =
+    let p = err_from_is_err_and c.from_residual-in_err-count.result c.from_residual-in_err-count.ensures.1 in
+    let s = c.args.spec.now in
+    let counts = take c.in_ok-kinds.kinds c.counts_of.new.places in
+    let most = c.most_of-most.result in
+    let known = planned s counts most c.limit_of.result c.in_ok-kinds.ensures.counts c.in_ok-kinds.ensures.allowed c.most_of-most.ensures.value c.limit_of.ensures in
+    rw (p.1, p.2) (too_many_rows s counts most c.in_err-count.field-0.0 known (inr c.in_err-count.ensures.err))
+
+pub returns-in_err-rows-clause-made : goal.returns-in_err-rows-clause-made
+returns-in_err-rows-clause-made c =
     let p = err_from_is_err_and c.from_residual-in_err-rows.result c.from_residual-in_err-rows.ensures.1 in
     let s = c.args.spec.now in
-    let counts = c.deref-2.result.now in
+    let counts = take c.in_ok-kinds.kinds c.counts_of.new.places in
     let most = c.most_of-most.result in
-    let planned : Planned s counts most =
-    record {
-      counted = c.deref-2.ensures.value ∙ c.in_ok-counts.ensures.counts;
-      allowed = ap (are_allowed s.n0 s.max_inv) c.deref-2.ensures.value ∙ c.in_ok-counts.ensures.allowed;
-      limit = c.most_of-most.ensures.value ∙ ap₂ most_of (c.deref.ensures.value ∙ sym c.deref-2.ensures.value) c.limit_of.ensures;
-    } in
-    rw (p.1, p.2) (record { made = too_many_rows s counts most c.in_err-rows.field-0.0 planned c.in_err-rows.ensures.err })
+    let known = planned s counts most c.limit_of.result c.in_ok-kinds.ensures.counts c.in_ok-kinds.ensures.allowed c.most_of-most.ensures.value c.limit_of.ensures in
+    rw (p.1, p.2) (too_many_rows s counts most c.in_err-rows.field-0.0 known c.in_err-rows.ensures.err)
 
 pub name_vertices-requires : goal.name_vertices-requires
 name_vertices-requires c =
-    let counts = c.deref-2.result.now in
-    let few : length counts ≤ 16 = omega (arith, ap length c.deref-2.ensures.value, c.in_ok-counts.ensures.kinds) in
+    let counts = take c.in_ok-kinds.kinds c.counts_of.new.places in
+    let few : length counts ≤ 16 = omega (arith, ap length c.in_ok-kinds.ensures.counts, c.in_ok-kinds.ensures.kinds) in
     subst (All (λ row. All (λ kind. kind < 16) row)) (sym (ap (λ (r : RowsOf). r.rows) c.in_ok-rows.ensures.ok)) (kinds_low counts c.most_of-most.result few)
 
-pub returns-in_err-name_vertices : goal.returns-in_err-name_vertices
-returns-in_err-name_vertices c =
+pub returns-in_err-name_vertices-clause-made : goal.returns-in_err-name_vertices-clause-made
+returns-in_err-name_vertices-clause-made c =
     let p = err_from_is_err_and c.from_residual-in_err-name_vertices.result c.from_residual-in_err-name_vertices.ensures.1 in
     let s = c.args.spec.now in
-    let counts = c.deref-2.result.now in
+    let counts = take c.in_ok-kinds.kinds c.counts_of.new.places in
     let most = c.most_of-most.result in
-    let planned : Planned s counts most =
-    record {
-      counted = c.deref-2.ensures.value ∙ c.in_ok-counts.ensures.counts;
-      allowed = ap (are_allowed s.n0 s.max_inv) c.deref-2.ensures.value ∙ c.in_ok-counts.ensures.allowed;
-      limit = c.most_of-most.ensures.value ∙ ap₂ most_of (c.deref.ensures.value ∙ sym c.deref-2.ensures.value) c.limit_of.ensures;
-    } in
+    let known = planned s counts most c.limit_of.result c.in_ok-kinds.ensures.counts c.in_ok-kinds.ensures.allowed c.most_of-most.ensures.value c.limit_of.ensures in
     let rows = c.in_ok-rows.rows.rows in
     let are : rows ≡ arrangements counts most = ap (λ (r : RowsOf). r.rows) c.in_ok-rows.ensures.ok in
     let begun_so = begins s counts most c.in_ok-id.id c.none.result c.new-builder.result c.new-builder.ensures c.in_ok-id.ensures.value c.none.ensures.value in
     rw (p.1, p.2)
-    (record { made = names_refused s counts most rows c.new-builder.result c.in_err-name_vertices.field-0.0 planned are begun_so c.in_err-name_vertices.ensures })
+    (names_refused s counts most rows c.new-builder.result c.in_err-name_vertices.field-0.0 known are begun_so c.in_err-name_vertices.ensures)
 
 pub index_rows-requires : goal.index_rows-requires
 index_rows-requires c =
-    subst Distinct (sym (ap (λ (r : RowsOf). r.rows) c.in_ok-rows.ensures.ok)) (arrangements_differ c.deref-2.result.now c.most_of-most.result)
+    subst Distinct (sym (ap (λ (r : RowsOf). r.rows) c.in_ok-rows.ensures.ok)) (arrangements_differ (take c.in_ok-kinds.kinds c.counts_of.new.places) c.most_of-most.result)
 
 pub insert_exchanges-requires-clause-vertices : goal.insert_exchanges-requires-clause-vertices
 insert_exchanges-requires-clause-vertices c =
@@ -160,41 +172,71 @@ insert_exchanges-requires-clause-vertices c =
 
 pub insert_exchanges-requires-clause-closed : goal.insert_exchanges-requires-clause-closed
 insert_exchanges-requires-clause-closed c =
-    let counts = c.deref-2.result.now in
-    let some : 0 < length counts = omega (arith, ap length c.deref-2.ensures.value, c.in_ok-counts.ensures.some) in
+    let counts = take c.in_ok-kinds.kinds c.counts_of.new.places in
+    let some : 0 < length counts = omega (arith, ap length c.in_ok-kinds.ensures.counts, c.in_ok-kinds.ensures.some) in
     subst IsClosed (sym (ap (λ (r : RowsOf). r.rows) c.in_ok-rows.ensures.ok)) (rows_closed counts c.most_of-most.result some)
 
-pub returns-in_err-insert_exchanges : goal.returns-in_err-insert_exchanges
-returns-in_err-insert_exchanges c =
+pub returns-in_err-insert_exchanges-clause-made : goal.returns-in_err-insert_exchanges-clause-made
+returns-in_err-insert_exchanges-clause-made c =
     let p = err_from_is_err_and c.from_residual-in_err-insert_exchanges.result c.from_residual-in_err-insert_exchanges.ensures.1 in
     let s = c.args.spec.now in
-    let counts = c.deref-2.result.now in
+    let counts = take c.in_ok-kinds.kinds c.counts_of.new.places in
     let most = c.most_of-most.result in
-    let planned : Planned s counts most =
-    record {
-      counted = c.deref-2.ensures.value ∙ c.in_ok-counts.ensures.counts;
-      allowed = ap (are_allowed s.n0 s.max_inv) c.deref-2.ensures.value ∙ c.in_ok-counts.ensures.allowed;
-      limit = c.most_of-most.ensures.value ∙ ap₂ most_of (c.deref.ensures.value ∙ sym c.deref-2.ensures.value) c.limit_of.ensures;
-    } in
+    let known = planned s counts most c.limit_of.result c.in_ok-kinds.ensures.counts c.in_ok-kinds.ensures.allowed c.most_of-most.ensures.value c.limit_of.ensures in
     let rows = c.in_ok-rows.rows.rows in
     let are : rows ≡ arrangements counts most = ap (λ (r : RowsOf). r.rows) c.in_ok-rows.ensures.ok in
     let begun_so = begins s counts most c.in_ok-id.id c.none.result c.new-builder.result c.new-builder.ensures c.in_ok-id.ensures.value c.none.ensures.value in
     rw (p.1, p.2)
-    (record { made = exchanges_refused s counts most rows c.new-builder.result c.name_vertices.new.builder c.in_err-insert_exchanges.field-0.0 planned are begun_so c.in_ok-name_vertices.ensures c.in_err-insert_exchanges.ensures })
+    (exchanges_refused s counts most rows c.new-builder.result c.name_vertices.new.builder c.in_err-insert_exchanges.field-0.0 known are begun_so c.in_ok-name_vertices.ensures c.in_err-insert_exchanges.ensures)
 
-pub returns : goal.returns
-returns c =
+pub returns-clause-made : goal.returns-clause-made
+returns-clause-made c =
     let s = c.args.spec.now in
-    let counts = c.deref-2.result.now in
+    let counts = take c.in_ok-kinds.kinds c.counts_of.new.places in
     let most = c.most_of-most.result in
-    let planned : Planned s counts most =
-    record {
-      counted = c.deref-2.ensures.value ∙ c.in_ok-counts.ensures.counts;
-      allowed = ap (are_allowed s.n0 s.max_inv) c.deref-2.ensures.value ∙ c.in_ok-counts.ensures.allowed;
-      limit = c.most_of-most.ensures.value ∙ ap₂ most_of (c.deref.ensures.value ∙ sym c.deref-2.ensures.value) c.limit_of.ensures;
-    } in
+    let known = planned s counts most c.limit_of.result c.in_ok-kinds.ensures.counts c.in_ok-kinds.ensures.allowed c.most_of-most.ensures.value c.limit_of.ensures in
     let rows = c.in_ok-rows.rows.rows in
     let are : rows ≡ arrangements counts most = ap (λ (r : RowsOf). r.rows) c.in_ok-rows.ensures.ok in
     let begun_so = begins s counts most c.in_ok-id.id c.none.result c.new-builder.result c.new-builder.ensures c.in_ok-id.ensures.value c.none.ensures.value in
-    let whole = all_made s counts most rows c.new-builder.result c.name_vertices.new.builder c.insert_exchanges.new.builder planned are begun_so c.in_ok-name_vertices.ensures c.in_ok-insert_exchanges.ensures (subst IsGraph c.finish.ensures.value c.finish.ensures.sound) in
-    rw c.finish.ensures.value (record { made = whole })
+    let whole = all_made s counts most rows c.new-builder.result c.name_vertices.new.builder c.insert_exchanges.new.builder known are begun_so c.in_ok-name_vertices.ensures c.in_ok-insert_exchanges.ensures (subst IsGraph c.finish.ensures.value c.finish.ensures.sound) in
+    rw c.finish.ensures.value whole
+
+pub returns-in_err-rows-clause-room : goal.returns-in_err-rows-clause-room
+returns-in_err-rows-clause-room c = λ is.
+    let s = c.args.spec.now in
+    let counts = take c.in_ok-kinds.kinds c.counts_of.new.places in
+    let most = c.most_of-most.result in
+    let known = planned s counts most c.limit_of.result c.in_ok-kinds.ensures.counts c.in_ok-kinds.ensures.allowed c.most_of-most.ensures.value c.limit_of.ensures in
+    may_want s counts most c.in_ok-count.count known c.in_ok-count.ensures.ok
+
+pub returns-in_err-id-clause-room : goal.returns-in_err-id-clause-room
+returns-in_err-id-clause-room c = λ is.
+    let s = c.args.spec.now in
+    let counts = take c.in_ok-kinds.kinds c.counts_of.new.places in
+    let most = c.most_of-most.result in
+    let known = planned s counts most c.limit_of.result c.in_ok-kinds.ensures.counts c.in_ok-kinds.ensures.allowed c.most_of-most.ensures.value c.limit_of.ensures in
+    may_want s counts most c.in_ok-count.count known c.in_ok-count.ensures.ok
+
+pub returns-in_err-name_vertices-clause-room : goal.returns-in_err-name_vertices-clause-room
+returns-in_err-name_vertices-clause-room c = λ is.
+    let s = c.args.spec.now in
+    let counts = take c.in_ok-kinds.kinds c.counts_of.new.places in
+    let most = c.most_of-most.result in
+    let known = planned s counts most c.limit_of.result c.in_ok-kinds.ensures.counts c.in_ok-kinds.ensures.allowed c.most_of-most.ensures.value c.limit_of.ensures in
+    may_want s counts most c.in_ok-count.count known c.in_ok-count.ensures.ok
+
+pub returns-in_err-places-clause-room : goal.returns-in_err-places-clause-room
+returns-in_err-places-clause-room c = λ is.
+    let s = c.args.spec.now in
+    let counts = take c.in_ok-kinds.kinds c.counts_of.new.places in
+    let most = c.most_of-most.result in
+    let known = planned s counts most c.limit_of.result c.in_ok-kinds.ensures.counts c.in_ok-kinds.ensures.allowed c.most_of-most.ensures.value c.limit_of.ensures in
+    may_want s counts most c.in_ok-count.count known c.in_ok-count.ensures.ok
+
+pub returns-in_err-insert_exchanges-clause-room : goal.returns-in_err-insert_exchanges-clause-room
+returns-in_err-insert_exchanges-clause-room c = λ is.
+    let s = c.args.spec.now in
+    let counts = take c.in_ok-kinds.kinds c.counts_of.new.places in
+    let most = c.most_of-most.result in
+    let known = planned s counts most c.limit_of.result c.in_ok-kinds.ensures.counts c.in_ok-kinds.ensures.allowed c.most_of-most.ensures.value c.limit_of.ensures in
+    may_want s counts most c.in_ok-count.count known c.in_ok-count.ensures.ok

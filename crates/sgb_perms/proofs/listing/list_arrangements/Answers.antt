@@ -44,7 +44,7 @@ list_rows-requires c =
     let others : sum (take (length counts - 1) (drop 1 counts)) ≡ sum (drop 1 counts) = ap sum (take_rest counts 1) in
     let fewer : length (take (length counts - 1) (drop 1 counts)) ≡ length counts - 1 = ap length (take_rest counts 1) ∙ length-drop 1 counts in
     let all = first_and_rest counts c.requires.some in
-    let wide : c.new-rows.result.width ≡ sum counts = ap (λ (r : RowsOf). r.width) c.new-rows.ensures ∙ c.width_of-width.ensures in
+    let wide : c.in_ok-rows.rows.width ≡ sum counts = ap (λ (r : RowsOf). r.width) c.in_ok-rows.ensures ∙ c.width_of-width.ensures in
     record {
       kinds = omega (arith, fewer, c.requires.kinds);
       right = omega arith;
@@ -59,8 +59,8 @@ returns-in_err-list_rows-clause-err c =
     let row = filled (get_or counts 0 0) (vec_len c.in_ok-row.row) c.in_ok-row.row.items c.resize.new.self.items c.in_ok-row.ensures.items c.in_ok-row.ensures.len c.in_ok-resize.ensures.items in
     let are = listed_are counts (take (length counts - 1) (drop 1 counts)) c.resize.new.self.items c.args.most c.requires.some (take_rest counts 1) row in
     rw (p.1, p.2)
-    (refused_all c.new-rows.result (arrangements counts c.args.most) c.in_err-list_rows.field-0.0 (ap (λ (r : RowsOf). length r.rows) c.new-rows.ensures)
-    (subst (λ rs. RefusesRows c.new-rows.result rs c.in_err-list_rows.field-0.0) are c.in_err-list_rows.ensures.rows))
+    (refused_all c.in_ok-rows.rows (arrangements counts c.args.most) c.in_err-list_rows.field-0.0 (ap (λ (r : RowsOf). length r.rows) c.in_ok-rows.ensures)
+    (subst (λ rs. RefusesRows c.in_ok-rows.rows rs c.in_err-list_rows.field-0.0) are c.in_err-list_rows.ensures.rows))
 
 pub returns-clause-ok : goal.returns-clause-ok
 returns-clause-ok c =
@@ -68,5 +68,5 @@ returns-clause-ok c =
     let row = filled (get_or counts 0 0) (vec_len c.in_ok-row.row) c.in_ok-row.row.items c.resize.new.self.items c.in_ok-row.ensures.items c.in_ok-row.ensures.len c.in_ok-resize.ensures.items in
     let are = listed_are counts (take (length counts - 1) (drop 1 counts)) c.resize.new.self.items c.args.most c.requires.some (take_rest counts 1) row in
     c.in_ok-list_rows.ensures.rows
-    ∙ (ap₂ with_rows c.new-rows.ensures are
+    ∙ (ap₂ with_rows c.in_ok-rows.ensures are
     ∙ ap (λ w. record { width = w; rows = arrangements counts c.args.most }) c.width_of-width.ensures)
