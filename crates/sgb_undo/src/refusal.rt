@@ -13,6 +13,15 @@ pub enum JournalRefusal<F> {
     Machine(F),
 }
 
+/// Why a group of commands is not performed. `F` is the machine's own refusal.
+#[derive(Debug, Drop, PartialEq, Eq)]
+pub enum GroupRefusal<F> {
+    /// There is no memory for what the commands give.
+    NoRoom,
+    /// The machine refuses one of the commands.
+    Machine(F),
+}
+
 /// No command stands.
 #[derive(Clone, Copy, Debug, PartialEq, Eq)]
 pub struct NothingToUndo;

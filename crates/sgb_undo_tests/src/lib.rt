@@ -1,8 +1,12 @@
-//! Tests of the journal over two small machines.
+//! Tests of groups and of the journal over small machines.
 #![tactic(auto)]
 
 #[cfg(test)]
 mod counter;
+#[cfg(test)]
+mod grouped;
+#[cfg(test)]
+mod groups;
 #[cfg(test)]
 mod stack;
 #[cfg(test)]
