@@ -14,7 +14,7 @@ returns-then-is_err g c =
     let got = read.bytes in
     let file = c.loop-room.file.items in
     let bytes : List ℕ = c.split_at.result.0.now in
-    let size : length bytes ≡ n = ap length c.split_at.ensures.front ∙ length-take-le n c.read_some.new.chunk got.1 in
+    let size : length bytes ≡ n = ap length c.split_at.ensures.front ∙ length-take-le n c.read_some.new.buffer got.1 in
     let whole : length (file ++ bytes) ≡ length file + n = length-append file bytes ∙ ap (λ k. length file + k) size in
     record {
       reads = record {
@@ -35,10 +35,10 @@ returns-in-Ok-read_some g c =
     let n = c.in-Ok-read_some.field-0 in
     let got = read.bytes in
     let file = c.loop-room.file.items in
-    let bytes : List ℕ = take n c.read_some-2.new.chunk in
+    let bytes : List ℕ = take n c.read_some-2.new.buffer in
     let some = c.in-Ok-read_some.field-0-test.1 in
     let one : n ≡ 1 = (let most = got.0 in omega arith) in
-    let byte = one_byte bytes (length-take-le n c.read_some-2.new.chunk got.1 ∙ one) in
+    let byte = one_byte bytes (length-take-le n c.read_some-2.new.buffer got.1 ∙ one) in
     record {
       reads = record {
         file = file;
