@@ -4,6 +4,8 @@
 #[cfg(test)]
 mod boards;
 #[cfg(test)]
+mod growths;
+#[cfg(test)]
 mod laws;
 #[cfg(test)]
 mod looks;

@@ -26,6 +26,11 @@ pub fn counts(alloc: Global, spec: &BoardSpec) -> Result<(u32, u32), Refusal> {
     Ok((graph.n(), graph.m()))
 }
 
+/// Whether the graph has so many vertices and arcs.
+pub fn are_counted(graph: &Graph, n: u32, m: u32) -> bool {
+    graph.n() == n && graph.m() == m
+}
+
 /// Whether the graph has this id and these letters.
 pub fn is_named(graph: &Graph, id: &[u8], letters: &[u8]) -> bool {
     graph.id() == id && graph.types().letters().as_slice() == letters
