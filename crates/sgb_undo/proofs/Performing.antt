@@ -1,8 +1,8 @@
 -- Groups, command by command.
-use Rattle.std.proofs.Common.{◌≡◌, ℕ, ◌+◌, ◌<◌, ◌⊎◌, inl, inr, List, [], ◌∷◌, ◌++◌, ◌||◌, length, get_or, take, drop, refl, sym, ap, ◌∙◌, subst, Bool, true, false}
+use Rattle.std.proofs.Common.{◌≡◌, ℕ, ◌+◌, ◌<◌, ◌⊎◌, inl, inr, List, [], ◌∷◌, ◌++◌, ◌||◌, Some, None, length, get_or, take, drop, refl, sym, ap, ◌∙◌, subst, Bool, true, false}
 use Rattle.std.proofs.lemmas.List.{take-append-drop, take_more, drop_more}
 use Rattle.sgb_undo.specs.Outcome.{Outcome, Accepted, Refused, on_accepted}
-use Rattle.sgb_undo.specs.Replay.{start_of}
+use Rattle.sgb_undo.specs.Replay.{fold, deltas_of, start_of}
 use Rattle.sgb_undo.specs.Group.{led_by, followed, step_all, any_may_want, CanRevertAll}
 use Rattle.sgb_undo.specs.Private.Performed.{IsPerformed}
 use Rattle.sgb_undo.proofs.Keeping.{start_of-push}
@@ -39,7 +39,36 @@ module _ {M D R F : Type 0} where
   on_accepted-led_by d r (Accepted n ds rs) g other = refl
   on_accepted-led_by d r (Refused f) g other = refl
 
+  -- its deltas are these, where it is accepted
+  abbrev HasDeltas : List D → Outcome M (List D) (List R) F → Type 0
+  HasDeltas xs (Accepted n ds rs) = xs ≡ ds
+  HasDeltas xs (Refused f) = Unit {0}
+
+  deltas-led_by : (d : D) (r : R) (o : Outcome M (List D) (List R) F) (xs : List D) → HasDeltas xs o → HasDeltas (d ∷ xs) (led_by d r o)
+  deltas-led_by d r (Accepted n ds rs) xs same = ap (λ es. d ∷ es) same
+  deltas-led_by d r (Refused f) xs same = tt
+
 module _ {M C D R F : Type 0} (step : M → C → Outcome M D R F) where
+  -- the value and the deltas are those of the commands one after another
+  pub fold-all : (m : M) (cs : List C) → fold step m cs ≡ on_accepted (step_all step m cs) (λ n _. Some n) None
+  fold-all m [] = refl
+  fold-all m (c ∷ cs) = at (λ n. fold-all n cs) (step m c)
+    where
+      at : ((n : M) → fold step n cs ≡ on_accepted (step_all step n cs) (λ v _. Some v) None) → (o : Outcome M D R F) → on_accepted o (λ n _. fold step n cs) None ≡ on_accepted (followed o (λ n. step_all step n cs)) (λ v _. Some v) None
+      at others (Accepted n d r) = others n ∙ on_accepted-led_by d r (step_all step n cs) (λ v. Some v) None
+      at others (Refused f) = refl
+
+  deltas-all : (m : M) (cs : List C) → HasDeltas (deltas_of step m cs) (step_all step m cs)
+  deltas-all m [] = refl
+  deltas-all m (c ∷ cs) = at (λ n. deltas-all n cs) (step m c)
+    where
+      at : ((n : M) → HasDeltas (deltas_of step n cs) (step_all step n cs)) → (o : Outcome M D R F) → HasDeltas (on_accepted o (λ n d. d ∷ deltas_of step n cs) []) (followed o (λ n. step_all step n cs))
+      at others (Accepted n d r) = deltas-led_by d r (step_all step n cs) (deltas_of step n cs) (others n)
+      at others (Refused f) = tt
+
+  pub deltas_of-all : (m n : M) (cs : List C) (ds : List D) (rs : List R) → step_all step m cs ≡ Accepted n ds rs → deltas_of step m cs ≡ ds
+  deltas_of-all m n cs ds rs told = subst (HasDeltas (deltas_of step m cs)) told (deltas-all m cs)
+
   -- a group in two parts
   step_all-append : (m : M) (cs es : List C) → step_all step m (cs ++ es) ≡ joined (step_all step m cs) (λ n. step_all step n es)
   step_all-append m [] es = behind-none (step_all step m es)

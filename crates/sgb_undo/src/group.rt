@@ -1,8 +1,8 @@
 //! Commands that are performed as one.
 
-ghost use Rattle.std.specs.Prelude.{◌≡◌, ◌≤◌, ◌⊎◌, [], length, true, vec_capacity, IfOk, OnOk, OnErr, IfErr, IsErrOf};
-ghost use Rattle.sgb_undo.specs.Outcome.{Accepted, Refused};
-ghost use Rattle.sgb_undo.specs.Replay.{start_of};
+ghost use Rattle.std.specs.Prelude.{◌≡◌, ◌≤◌, ◌⊎◌, List, [], Some, None, length, true, vec_capacity, IfOk, OnOk, OnErr, IfErr, IsErrOf};
+ghost use Rattle.sgb_undo.specs.Outcome.{Accepted, Refused, on_accepted};
+ghost use Rattle.sgb_undo.specs.Replay.{fold, deltas_of, start_of};
 ghost use Rattle.sgb_undo.specs.Group.{step_all, any_may_want, CanRevertAll};
 
 use crate::{GroupRefusal, Members, Reversible};
@@ -52,6 +52,14 @@ pub fn revert_all<M: Reversible>(machine: &mut M, deltas: Members<M::Delta>)
         machine.revert(delta);
     }
 }
+
+/// A group leaves the value and the deltas that its commands give one after another, and is refused
+/// where one of them is.
+pub fn group_law<M: Reversible>()
+    ensures value { (m : M) (cs : List M.Command) → fold M.step m cs ≡ on_accepted (step_all M.step m cs) (λ n _. Some n) None }
+    ensures deltas { (m n : M) (cs : List M.Command) (ds : List M.Delta) (rs : List M.Reply) →
+        step_all M.step m cs ≡ Accepted n ds rs → deltas_of M.step m cs ≡ ds }
+{}
 
 // Two empty lists with so many places each.
 fn take_places<D: Drop, R: Drop>(

@@ -12,7 +12,7 @@ mod refusal;
 mod reversible;
 mod runs;
 
-pub use group::{apply_all, revert_all};
+pub use group::{apply_all, group_law, revert_all};
 pub use journal::{GROWTH, Journal, MOST_COMMANDS};
 pub use members::Members;
 pub use refusal::{GroupRefusal, JournalRefusal, NothingToUndo};

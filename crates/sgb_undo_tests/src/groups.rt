@@ -3,7 +3,7 @@
 use crate::counter::{Counter, TooLarge};
 use crate::grouped::{GroupedCommand, GroupedReply, GroupedStack};
 use crate::stack::{ByteStack, StackCommand, StackRefusal};
-use sgb_undo::{GroupRefusal, Journal, JournalRefusal, Members, apply_all, revert_all};
+use sgb_undo::{GroupRefusal, Journal, JournalRefusal, Members, apply_all, group_law, revert_all};
 use std::alloc::Global;
 use std::process::Abort;
 
@@ -32,6 +32,7 @@ fn there_and_back(alloc: Global, counter: &mut Counter, commands: &[u8]) -> Opti
 
 #[test]
 fn a_group_is_performed_in_order(rt: HostRuntime) {
+    group_law::<Counter>();
     let mut counter = Counter { value: 3 };
     let (deltas, replies) = apply(&rt, rt.alloc(), &mut counter, &[5, 7, 1])
         .ok()
