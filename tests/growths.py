@@ -8,6 +8,8 @@ Each run either has written nothing and told `sgb: no room`, or one unit of it, 
 asked of the program itself, or of the command OTHER, another implementation that reads a script from a file.
 A command that takes no memory of its own is refused only where the journal grows: where a multiple of 1,024
 commands stand and nothing is undone.
+
+Texts that claim more records than they have bytes for are refused before they take much memory.
 """
 import os
 import subprocess
@@ -48,6 +50,12 @@ MAKERS = (b'board b 3 0 0 0 1 0 0\nsimplex s 1 0 0 0 0 0 0\nsubsets p 2 1 -3 0 0
           b'lengths u 0 1 100 -\nlengths i 1 1 100 7\nshow u\nsave u\n'
           b'load h check\n' + EDGE + b'.\nload k any\n' + EDGE + b'.\nshow h\nlist\ngen\n'
           + b'undo\n' * 18 + b'list\ngen\n' + b'redo\n' * 18 + b'list\ngen\nsave j\nload m check\n' + EDGE)
+
+# Texts that claim many records and hold none: they end at the first line, at the vertices and at the arcs.
+FIRST_LINE = b'* GraphBase graph (util_types ZZZZZZZZZZZZZZ,%s)\n'
+CLAIMS = [FIRST_LINE % b'65535V,1000000A',
+          FIRST_LINE % b'65535V,1000000A' + b'"",0,0\n* Vertices\n',
+          FIRST_LINE % b'0V,1000000A' + b'"",0,0\n* Vertices\n* Arcs\n']
 
 # The first words of the lines that are refused once at least.
 MET_DRAWS = {b'seed', b'unif'}
@@ -187,6 +195,22 @@ class Growths:
                   'a run with no growth refused differs')
         self.tell(wanted <= words, 'never refused:', wanted - words)
 
+    def check_within(self, limit, text):
+        """How `sgb check` ends on a text where at most `limit` bytes are to be had, and what it prints."""
+        with tempfile.NamedTemporaryFile() as file:
+            file.write(text)
+            file.flush()
+            ended = subprocess.run([self.program, 'check', file.name], stdout=subprocess.PIPE, stderr=subprocess.PIPE,
+                                   env={'LD_PRELOAD': self.library, 'GROWTH_LIMIT': str(limit)})
+            return ended.returncode, ended.stdout, ended.stderr
+
+    def try_claims(self):
+        for text in CLAIMS:
+            met = self.check_within(1 << 20, text)
+            self.tell(met == (1, b'refused 20 bad saved graph\n', b''), text, 'ended', met)
+        met = self.check_within(0, CLAIMS[0])
+        self.tell(met == (2, b'', b'sgb: no room\n'), 'no memory at all ended', met)
+
 
 def main():
     program, library = sys.argv[1:3]
@@ -194,6 +218,7 @@ def main():
     growths.try_script(DRAWS, MET_DRAWS)
     growths.try_script(GRAPHS, MET_GRAPHS)
     growths.try_script(MAKERS, MET_MAKERS, status=1)
+    growths.try_claims()
     print('growths: %d passed, %d failed' % (growths.passed, growths.failed))
     return 1 if growths.failed else 0
 
