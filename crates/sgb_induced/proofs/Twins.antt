@@ -1,10 +1,10 @@
 -- Lemmas on earlier runs with the same ends, as marks find them.
 use Rattle.std.proofs.Common.{◌≡◌, ◌≢◌, ◌⊎◌, ◌==◌, ◌<◌, ◌≤◌, ◌+◌, ℕ, List, length, get_or, set, max, Bool, true, false, All, inl, inr, refl, sym, ap, subst, ◌∙◌, arith}
-use Rattle.std.proofs.lemmas.Bool.{cases_Bool, cases_eq, cases_lt, cases_order, eqb-true, eq-eqb, le-ltb, lt-ltb}
+use Rattle.std.proofs.lemmas.Bool.{cases_Bool, cases_eq, cases_lt, eqb-true, eq-eqb, le-ltb, lt-ltb}
 use Rattle.std.proofs.lemmas.List.{get_or-set_other, length-set}
 use Rattle.std.proofs.lemmas.Grind.{get_or-set_at}
 use Rattle.sgb_induced.specs.declared.run.Run.{Run}
-use Rattle.sgb_induced.specs.Private.Run.{Key, key_of, same_run}
+use Rattle.sgb_induced.specs.Private.Run.{key_of, same_run}
 use Rattle.sgb_induced.specs.Private.Twin.{AreTwins, IsBelow, IsDone, IsMark, IsNext, IsTwin, Marked, key_at, no_run, run_or, twin_of}
 
 -- ---- ends

@@ -1,4 +1,4 @@
-use Rattle.std.proofs.Common.{◌≡◌, ◌+◌, length, All, refl, sym, subst, arith}
+use Rattle.std.proofs.Common.{◌+◌, length, All, refl, sym, subst, arith}
 use Rattle.sgb_induced.specs.Private.Twin.{IsBelow, Marked}
 use Rattle.sgb_induced.proofs.Twins.{marked_end, marked_start}
 use Rattle.sgb_induced.proofs.twin.mark_twins.Goals as goal
