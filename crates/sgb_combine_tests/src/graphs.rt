@@ -1,4 +1,5 @@
-//! Graphs to combine, and questions that promise nothing, so that the proof of a test stays short.
+//! Graphs to combine, and questions that promise nothing, so that the proof of a test stays short. For the same reason
+//! operands and answers are handed about with their refusals, and a function has few graphs of its own.
 
 use sgb_combine::{
     ComplementSpec, GunionSpec, ProductSpec, complement, gunion, intersection, product,
@@ -12,12 +13,19 @@ use std::alloc::Global;
 /// An arc or an edge from one vertex to another, of this length.
 pub type Line = (u32, u32, i64);
 
+/// A graph, or its refusal.
+pub type Made = Result<Graph, Refusal>;
+
 /// A graph of n vertices with these edges and then these arcs.
-pub fn graph_of(alloc: Global, n: u32, edges: &[Line], arcs: &[Line]) -> Result<Graph, Refusal> {
+pub fn graph_of(alloc: Global, n: u32, edges: &[Line], arcs: &[Line]) -> Made {
     let mut graph = Graph::new(alloc, n)?;
-    insert_edges(&mut graph, edges)?;
-    insert_arcs(&mut graph, arcs)?;
+    insert_lines(&mut graph, edges, arcs)?;
     Ok(graph)
+}
+
+fn insert_lines(graph: &mut Graph, edges: &[Line], arcs: &[Line]) -> Result<(), Refusal> {
+    insert_edges(graph, edges)?;
+    insert_arcs(graph, arcs)
 }
 
 fn insert_edges(graph: &mut Graph, edges: &[Line]) -> Result<(), Refusal> {
@@ -35,7 +43,7 @@ fn insert_arcs(graph: &mut Graph, arcs: &[Line]) -> Result<(), Refusal> {
 }
 
 /// Two edges between 0 and 1, an edge of a loop at 1, an arc from 2 to 0 and one from 3 to itself.
-pub fn first(alloc: Global) -> Result<Graph, Refusal> {
+pub fn first(alloc: Global) -> Made {
     graph_of(
         alloc,
         4,
@@ -45,17 +53,17 @@ pub fn first(alloc: Global) -> Result<Graph, Refusal> {
 }
 
 /// An edge between 1 and 0, one of a loop at 1, and an arc from 2 to 1.
-pub fn second(alloc: Global) -> Result<Graph, Refusal> {
+pub fn second(alloc: Global) -> Made {
     graph_of(alloc, 3, &[(1, 0, 6), (1, 1, 8)], &[(2, 1, 2)])
 }
 
 /// Two vertices and an edge between them.
-pub fn one_edge(alloc: Global, len: i64) -> Result<Graph, Refusal> {
+pub fn one_edge(alloc: Global, len: i64) -> Made {
     graph_of(alloc, 2, &[(0, 1, len)], &[])
 }
 
 /// A graph of one vertex whose arc has this tip.
-pub fn leading_to(alloc: Global, tip: Tip) -> Result<Graph, Refusal> {
+pub fn leading_to(alloc: Global, tip: Tip) -> Made {
     let arc = ArcPart {
         tip,
         len: 1,
@@ -88,53 +96,66 @@ fn zeros() -> [Util; 6] {
     ]
 }
 
-/// The calls, by their flags.
-pub fn union_of(
-    alloc: Global,
-    first: &Graph,
-    second: &Graph,
-    multi: bool,
-    directed: bool,
-) -> Result<Graph, Refusal> {
-    gunion(alloc, first, second, &GunionSpec { multi, directed })
+// An operand. Where it is wanting there is no room, which no test of refusals asks for.
+fn operand(made: &Made) -> Result<&Graph, Refusal> {
+    match made {
+        Ok(graph) => Ok(graph),
+        Err(_) => Err(Refusal::NoRoom),
+    }
 }
 
-pub fn complement_of(
-    alloc: Global,
-    graph: &Graph,
-    copy: bool,
-    loops: bool,
-    directed: bool,
-) -> Result<Graph, Refusal> {
+/// The calls, by their flags.
+pub fn union_of(alloc: Global, first: &Made, second: &Made, multi: bool, directed: bool) -> Made {
+    let spec = GunionSpec { multi, directed };
+    gunion(alloc, operand(first)?, operand(second)?, &spec)
+}
+
+pub fn complement_of(alloc: Global, graph: &Made, copy: bool, loops: bool, directed: bool) -> Made {
     let spec = ComplementSpec {
         copy,
         loops,
         directed,
     };
-    complement(alloc, graph, &spec)
+    complement(alloc, operand(graph)?, &spec)
 }
 
-pub fn intersection_of(
-    alloc: Global,
-    first: &Graph,
-    second: &Graph,
-    directed: bool,
-) -> Result<Graph, Refusal> {
-    intersection(alloc, first, second, directed)
+pub fn intersection_of(alloc: Global, first: &Made, second: &Made, directed: bool) -> Made {
+    intersection(alloc, operand(first)?, operand(second)?, directed)
 }
 
-pub fn product_of(
-    alloc: Global,
-    first: &Graph,
-    second: &Graph,
-    kind: i64,
-    directed: bool,
-) -> Result<Graph, Refusal> {
-    product(alloc, first, second, &ProductSpec { kind, directed })
+pub fn product_of(alloc: Global, first: &Made, second: &Made, kind: i64, directed: bool) -> Made {
+    let spec = ProductSpec { kind, directed };
+    product(alloc, operand(first)?, operand(second)?, &spec)
 }
 
-/// Whether the arcs are these, by their numbers.
-pub fn arcs_are(graph: &Graph, wanted: &[Line]) -> bool {
+/// The union of the first graph and the second, their intersection, and the product of two edges.
+pub fn union_of_both(alloc: Global, multi: bool, directed: bool) -> Made {
+    union_of(alloc, &first(alloc), &second(alloc), multi, directed)
+}
+
+pub fn intersection_of_both(alloc: Global, directed: bool) -> Made {
+    intersection_of(alloc, &first(alloc), &second(alloc), directed)
+}
+
+pub fn product_of_edges(alloc: Global, kind: i64, directed: bool) -> Made {
+    product_of(
+        alloc,
+        &one_edge(alloc, 5),
+        &one_edge(alloc, 3),
+        kind,
+        directed,
+    )
+}
+
+/// Whether it was made, with these arcs by their numbers.
+pub fn arcs_are(made: &Made, wanted: &[Line]) -> bool {
+    match made {
+        Ok(graph) => has_arcs(graph, wanted),
+        Err(_) => false,
+    }
+}
+
+fn has_arcs(graph: &Graph, wanted: &[Line]) -> bool {
     if graph.made() as usize != wanted.len() {
         return false;
     }
@@ -157,11 +178,17 @@ fn view_of(line: &Line) -> ArcView {
     }
 }
 
-pub fn has_id(graph: &Graph, id: &[u8]) -> bool {
-    graph.id() == id
+pub fn has_id(made: &Made, id: &[u8]) -> bool {
+    match made {
+        Ok(graph) => graph.id() == id,
+        Err(_) => false,
+    }
 }
 
 /// How many vertices, and how many arcs.
-pub fn counts(graph: &Graph) -> (u32, u32) {
-    (graph.n(), graph.m())
+pub fn counts(made: &Made) -> Option<(u32, u32)> {
+    match made {
+        Ok(graph) => Some((graph.n(), graph.m())),
+        Err(_) => None,
+    }
 }

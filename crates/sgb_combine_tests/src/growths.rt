@@ -1,67 +1,59 @@
 //! What refused growths lead to: who asks again has what is asked for. Expected values come from another implementation.
 
 use crate::graphs::{
-    arcs_are, complement_of, first, has_id, intersection_of, one_edge, product_of, second, union_of,
+    Made, arcs_are, complement_of, first, has_id, intersection_of_both, one_edge, product_of_edges,
+    union_of_both,
 };
-use sgb_graph::{Graph, Refusal};
+use sgb_graph::Refusal;
 use std::alloc::Global;
 use std::test::Fail;
 
-// The operands. Where a growth is refused, each is asked for once more.
-fn first_again(alloc: Global) -> Result<Graph, Refusal> {
-    match first(alloc) {
-        Err(Refusal::NoRoom) => first(alloc),
-        made => made,
-    }
-}
-
-fn second_again(alloc: Global) -> Result<Graph, Refusal> {
-    match second(alloc) {
-        Err(Refusal::NoRoom) => second(alloc),
-        made => made,
-    }
-}
-
-fn edge_again(alloc: Global, len: i64) -> Result<Graph, Refusal> {
-    match one_edge(alloc, len) {
-        Err(Refusal::NoRoom) => one_edge(alloc, len),
-        made => made,
-    }
-}
-
-// The calls in the same way.
-fn complement_again(alloc: Global, graph: &Graph, copy: bool) -> Result<Graph, Refusal> {
+// The calls and their operands. Where a growth is refused, each is asked for once more.
+fn complement_again(alloc: Global, graph: &Made, copy: bool) -> Made {
     match complement_of(alloc, graph, copy, true, true) {
         Err(Refusal::NoRoom) => complement_of(alloc, graph, copy, true, true),
         made => made,
     }
 }
 
-fn union_again(alloc: Global, first: &Graph, second: &Graph) -> Result<Graph, Refusal> {
-    match union_of(alloc, first, second, false, false) {
-        Err(Refusal::NoRoom) => union_of(alloc, first, second, false, false),
+fn first_again(alloc: Global) -> Made {
+    match first(alloc) {
+        Err(Refusal::NoRoom) => first(alloc),
         made => made,
     }
 }
 
-fn intersection_again(alloc: Global, first: &Graph, second: &Graph) -> Result<Graph, Refusal> {
-    match intersection_of(alloc, first, second, false) {
-        Err(Refusal::NoRoom) => intersection_of(alloc, first, second, false),
+fn edge_again(alloc: Global) -> Made {
+    match one_edge(alloc, 5) {
+        Err(Refusal::NoRoom) => one_edge(alloc, 5),
         made => made,
     }
 }
 
-fn product_again(alloc: Global, first: &Graph, second: &Graph) -> Result<Graph, Refusal> {
-    match product_of(alloc, first, second, 0, false) {
-        Err(Refusal::NoRoom) => product_of(alloc, first, second, 0, false),
+fn union_again(alloc: Global) -> Made {
+    match union_of_both(alloc, false, false) {
+        Err(Refusal::NoRoom) => union_of_both(alloc, false, false),
+        made => made,
+    }
+}
+
+fn intersection_again(alloc: Global) -> Made {
+    match intersection_of_both(alloc, false) {
+        Err(Refusal::NoRoom) => intersection_of_both(alloc, false),
+        made => made,
+    }
+}
+
+fn product_again(alloc: Global) -> Made {
+    match product_of_edges(alloc, 0, false) {
+        Err(Refusal::NoRoom) => product_of_edges(alloc, 0, false),
         made => made,
     }
 }
 
 #[test]
 fn of_complements_are_granted_when_asked_again(rt: HostRuntime) -> Result<(), Fail> {
-    let graph = first_again(rt.alloc())?;
-    let made = complement_again(rt.alloc(), &graph, true)?;
+    let made = complement_again(rt.alloc(), &first_again(rt.alloc()), true);
     assert!(rt; has_id(&made, b"complement(gb_new_graph(4),1,1,1)"));
     assert!(rt;
         arcs_are(
@@ -74,8 +66,7 @@ fn of_complements_are_granted_when_asked_again(rt: HostRuntime) -> Result<(), Fa
 
 #[test]
 fn of_absences_are_granted_when_asked_again(rt: HostRuntime) -> Result<(), Fail> {
-    let graph = edge_again(rt.alloc(), 5)?;
-    let made = complement_again(rt.alloc(), &graph, false)?;
+    let made = complement_again(rt.alloc(), &edge_again(rt.alloc()), false);
     assert!(rt; has_id(&made, b"complement(gb_new_graph(2),0,1,1)"));
     assert!(rt; arcs_are(&made, &[(0, 0, 1), (1, 1, 1)]));
     Ok(())
@@ -83,8 +74,7 @@ fn of_absences_are_granted_when_asked_again(rt: HostRuntime) -> Result<(), Fail>
 
 #[test]
 fn of_unions_are_granted_when_asked_again(rt: HostRuntime) -> Result<(), Fail> {
-    let (first, second) = (first_again(rt.alloc())?, second_again(rt.alloc())?);
-    let made = union_again(rt.alloc(), &first, &second)?;
+    let made = union_again(rt.alloc());
     assert!(rt; has_id(&made, b"gunion(gb_new_graph(4),gb_new_graph(3),0,0)"));
     assert!(rt;
         arcs_are(
@@ -104,8 +94,7 @@ fn of_unions_are_granted_when_asked_again(rt: HostRuntime) -> Result<(), Fail> {
 
 #[test]
 fn of_intersections_are_granted_when_asked_again(rt: HostRuntime) -> Result<(), Fail> {
-    let (first, second) = (first_again(rt.alloc())?, second_again(rt.alloc())?);
-    let made = intersection_again(rt.alloc(), &first, &second)?;
+    let made = intersection_again(rt.alloc());
     assert!(rt; has_id(&made, b"intersection(gb_new_graph(4),gb_new_graph(3),0,0)"));
     assert!(rt; arcs_are(&made, &[(0, 1, 6), (1, 0, 6), (1, 1, 8), (1, 1, 8)]));
     Ok(())
@@ -113,8 +102,7 @@ fn of_intersections_are_granted_when_asked_again(rt: HostRuntime) -> Result<(), 
 
 #[test]
 fn of_products_are_granted_when_asked_again(rt: HostRuntime) -> Result<(), Fail> {
-    let (first, second) = (edge_again(rt.alloc(), 5)?, edge_again(rt.alloc(), 3)?);
-    let made = product_again(rt.alloc(), &first, &second)?;
+    let made = product_again(rt.alloc());
     assert!(rt; has_id(&made, b"product(gb_new_graph(2),gb_new_graph(2),0,0)"));
     assert!(rt;
         arcs_are(

@@ -1,9 +1,9 @@
 //! Operands: their spokes, and the refusal of one that leads nowhere.
 
-use crate::graphs::{first, leading_to};
+use crate::graphs::{Made, first, leading_to};
 use sgb_graph::{Graph, Refusal, Tip, VertexNo};
 use sgb_operand::{Spoke, check_operand, read_spokes};
-use std::alloc::Global;
+use std::alloc::{AllocError, Global};
 use std::test::Fail;
 
 // How many spokes vertex 1 has, and its first one.
@@ -11,7 +11,7 @@ fn of_vertex_1(
     alloc: Global,
     graph: &Graph,
     directed: bool,
-) -> Result<(usize, Option<Spoke>), Refusal> {
+) -> Result<(usize, Option<Spoke>), AllocError> {
     let mut spokes = Vec::new(alloc);
     if graph.n() > 1 {
         read_spokes(&mut spokes, graph, VertexNo(1), directed)?;
@@ -19,24 +19,39 @@ fn of_vertex_1(
     Ok((spokes.len(), spokes.first().copied()))
 }
 
+fn of_made(alloc: Global, made: &Made, directed: bool) -> Option<(usize, Option<Spoke>)> {
+    match made {
+        Ok(graph) => of_vertex_1(alloc, graph, directed).ok(),
+        Err(_) => None,
+    }
+}
+
 #[test]
 fn spokes(rt: HostRuntime) -> Result<(), Fail> {
-    let graph = first(rt.alloc())?;
+    let graph = first(rt.alloc());
     let newest = Some(Spoke { to: 1, len: 3 });
-    assert!(rt; of_vertex_1(rt.alloc(), &graph, true)? == (4, newest));
-    assert!(rt; of_vertex_1(rt.alloc(), &graph, false)? == (3, newest));
+    assert!(rt; of_made(rt.alloc(), &graph, true) == Some((4, newest)));
+    assert!(rt; of_made(rt.alloc(), &graph, false) == Some((3, newest)));
     Ok(())
 }
 
-fn refusal(graph: &Graph) -> Option<Refusal> {
-    check_operand(graph).err()
+// What is told of the graph as an operand.
+fn told(made: &Made) -> Result<(), Refusal> {
+    match made {
+        Ok(graph) => check_operand(graph),
+        Err(_) => Err(Refusal::NoRoom),
+    }
+}
+
+fn told_of(alloc: Global, tip: Tip) -> Result<(), Refusal> {
+    told(&leading_to(alloc, tip))
 }
 
 #[test]
 fn checked(rt: HostRuntime) -> Result<(), Fail> {
-    assert!(rt; refusal(&first(rt.alloc())?).is_none());
-    assert!(rt; refusal(&leading_to(rt.alloc(), Tip::Zero)?) == Some(Refusal::BadOperand));
-    assert!(rt; refusal(&leading_to(rt.alloc(), Tip::One)?) == Some(Refusal::BadOperand));
-    assert!(rt; refusal(&leading_to(rt.alloc(), Tip::To(VertexNo(0)))?).is_none());
+    assert!(rt; told(&first(rt.alloc())).is_ok());
+    assert!(rt; told_of(rt.alloc(), Tip::Zero) == Err(Refusal::BadOperand));
+    assert!(rt; told_of(rt.alloc(), Tip::One) == Err(Refusal::BadOperand));
+    assert!(rt; told_of(rt.alloc(), Tip::To(VertexNo(0))).is_ok());
     Ok(())
 }

@@ -1,6 +1,6 @@
 pub mod Ranges
 pub mod Alone
-pub mod Orders
+pub mod Linking
 pub mod Twins
 pub mod Positions
 pub mod Expanding

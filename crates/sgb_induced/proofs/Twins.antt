@@ -1,17 +1,20 @@
 -- Lemmas on earlier runs with the same ends, as marks find them.
-use Rattle.std.proofs.Common.{◌≡◌, ◌==◌, ◌<◌, ◌≤◌, ◌+◌, ℕ, List, length, get_or, set, max, Bool, true, false, All, inl, inr, refl, sym, ap, subst, ◌∙◌, arith}
-use Rattle.std.proofs.lemmas.Bool.{cases_Bool, cases_eq, cases_lt, cases_order, eqb-true, eq-eqb, le-ltb, lt-ltb}
+use Rattle.std.proofs.Common.{◌≡◌, ◌≢◌, ◌⊎◌, ◌==◌, ◌<◌, ◌≤◌, ◌+◌, ℕ, List, length, get_or, set, max, Bool, true, false, All, inl, inr, refl, sym, ap, subst, ◌∙◌, arith}
+use Rattle.std.proofs.lemmas.Bool.{cases_Bool, cases_eq, cases_lt, eqb-true, eq-eqb, le-ltb, lt-ltb}
 use Rattle.std.proofs.lemmas.List.{get_or-set_other, length-set}
 use Rattle.std.proofs.lemmas.Grind.{get_or-set_at}
 use Rattle.sgb_induced.specs.declared.run.Run.{Run}
-use Rattle.sgb_induced.specs.Private.Run.{Key, key_of, same_run}
-use Rattle.sgb_induced.specs.Private.Twin.{AreTwins, IsBelow, IsOrder, IsTwin, key_at, no_run, run_or, twin_of}
-use Rattle.sgb_induced.proofs.Orders.{before_le, before_tie}
+use Rattle.sgb_induced.specs.Private.Run.{key_of, same_run}
+use Rattle.sgb_induced.specs.Private.Twin.{AreTwins, IsBelow, IsDone, IsMark, IsNext, IsTwin, Marked, key_at, no_run, run_or, twin_of}
 
 -- ---- ends
 last_le : (d : Bool) (r : Run) → (key_of d r).1 ≤ max r.from r.to
 last_le true r = omega arith
 last_le false r = omega arith
+
+first_le : (d : Bool) (r : Run) → (key_of d r).0 ≤ max r.from r.to
+first_le true r = omega arith
+first_le false r = omega arith
 
 pub below_more : (v w : ℕ) (rs : List Run) → v ≤ w → All (IsBelow v) rs → All (IsBelow w) rs
 below_more v w rs h all = λ i e k. omega (arith, h, all i e k)
@@ -30,69 +33,94 @@ keys_from d r s is =
 keys_same : (d : Bool) (r s : Run) → (key_of d r).0 ≡ (key_of d s).0 → (key_of d r).1 ≡ (key_of d s).1 → same_run d r s ≡ true
 keys_same d r s first last = rw (eq-eqb (key_of d r).0 (key_of d s).0 first, eq-eqb (key_of d r).1 (key_of d s).1 last) refl
 
--- ---- marks, after the first t ends
-abbrev pub no_end : Key
-no_end = (0, 0)
+-- ---- what is done
+done_more : (d : Bool) (rs : List Run) (a p r q : ℕ) → p ≤ r → IsDone d rs a p q → IsDone d rs a r q
+done_more d rs a p r q h (inl less) = inl less
+done_more d rs a p r q h (inr here) = inr (here.0, omega (arith, h, here.1))
 
-abbrev pub place_of : List Key → ℕ → ℕ
-place_of es i = (get_or es i no_end).1
+mark_kept : {d : Bool} {rs : List Run} {a p b r q : ℕ} {marks : List ℕ} → ((u : ℕ) → IsDone d rs a p u → IsDone d rs b r u) → IsMark d rs a p marks q → IsMark d rs b r marks q
+mark_kept more m = record { at = m.at; done = more m.at m.done; later = m.later; last = m.last; mark = m.mark }
 
-abbrev pub last_of : Bool → List Run → List Key → ℕ → ℕ
-last_of d rs es i = (key_at d rs (place_of es i)).1
+pub marked_start : (d : Bool) (rs : List Run) (n : ℕ) {twins marks : List ℕ} → length twins ≡ length rs → length marks ≡ n → Marked d rs 0 0 n twins marks
+marked_start d rs n count width = record {
+  count = count;
+  width = width;
+  mark = λ q h done. absurd (nothing q done);
+  twin = λ q h done. absurd (nothing q done);
+} where
+  nothing : (q : ℕ) → IsDone d rs 0 0 q → ⊥
+  nothing q (inl less) = omega (arith, less)
+  nothing q (inr here) = omega (arith, here.1)
 
--- the mark at the last end of the run at i is that of a later one with this last end
-pub record IsMark (d : Bool) (rs : List Run) (es : List Key) (t : ℕ) (marks : List ℕ) (i : ℕ) : Type 0 where
-  pub at : ℕ
-  pub later : i ≤ at
-  pub done : at < t
-  pub last : last_of d rs es at ≡ last_of d rs es i
-  pub mark : get_or marks (last_of d rs es i) 0 ≡ place_of es at
+pub narrow_last : (d : Bool) (rs : List Run) (n p : ℕ) → All (IsBelow n) rs → p < length rs → (key_at d rs p).1 < n
+narrow_last d rs n p all h = omega (arith, last_le d (run_or rs p), all p no_run h)
 
-pub record Marked (d : Bool) (rs : List Run) (es : List Key) (t n : ℕ) (twins marks : List ℕ) : Type 0 where
-  pub count : length twins ≡ length rs
-  pub width : length marks ≡ n
-  pub mark : (i : ℕ) → i < t → IsMark d rs es t marks i
-  pub twin : (i : ℕ) → i < t → IsTwin d rs (place_of es i) (get_or twins (place_of es i) 0)
+pub narrow_first : (d : Bool) (rs : List Run) (n p : ℕ) → All (IsBelow n) rs → p < length rs → (key_at d rs p).0 < n
+narrow_first d rs n p all h = omega (arith, first_le d (run_or rs p), all p no_run h)
 
-pub marked_start : (d : Bool) (rs : List Run) (es : List Key) (n : ℕ) {twins marks : List ℕ} → length twins ≡ length rs → length marks ≡ n → Marked d rs es 0 n twins marks
-marked_start d rs es n count width = record { count = count; width = width; mark = λ i h. absurd (omega (arith, h)); twin = λ i h. absurd (omega (arith, h)) }
+-- no run with the first end a stands between p and the next
+skips : (d : Bool) (rs : List Run) (a p h q : ℕ) → IsNext d rs a p h → IsDone d rs a h q → IsDone d rs a p q
+skips d rs a p h q next (inl less) = inl less
+skips d rs a p h q next (inr here) =
+    elim (cases_lt q p) [
+      | inl low ↦ inr (here.0, low)
+      | inr high ↦ absurd (next.none q high here.1 here.0)
+    ]
 
-pub narrow : (d : Bool) (rs : List Run) (es : List Key) (n t : ℕ) → IsOrder d rs es → t < length es → All (IsBelow n) rs → last_of d rs es t < n
-narrow d rs es n t order h all = omega (arith, last_le d (run_or rs (place_of es t)), all (place_of es t) no_run (order.place t no_end h))
+pub marked_skip : {d : Bool} {rs : List Run} {a p h n : ℕ} {twins marks : List ℕ} → IsNext d rs a p h → Marked d rs a p n twins marks → Marked d rs a h n twins marks
+marked_skip {d} {rs} {a} {p} {h} next left = record {
+  count = left.count;
+  width = left.width;
+  mark = λ q k done. mark_kept (λ u was. done_more d rs a p h u next.from was) (left.mark q k (skips d rs a p h q next done));
+  twin = λ q k done. left.twin q k (skips d rs a p h q next done);
+}
 
--- an earlier run with the ends of that at t is found at the mark
+-- behind all runs those with the next first end begin
+passes : (d : Bool) (rs : List Run) (a p q : ℕ) → length rs ≤ p → q < length rs → IsDone d rs (a + 1) 0 q → IsDone d rs a p q
+passes d rs a p q h k (inl less) =
+    elim (cases_lt (key_at d rs q).0 a) [
+      | inl low ↦ inl low
+      | inr high ↦ inr (omega (arith, less, high), omega (arith, h, k))
+    ]
+passes d rs a p q h k (inr here) = absurd (omega (arith, here.1))
+
+begins : (d : Bool) (rs : List Run) (a p u : ℕ) → IsDone d rs a p u → IsDone d rs (a + 1) 0 u
+begins d rs a p u (inl less) = inl (omega (arith, less))
+begins d rs a p u (inr here) = inl (omega (arith, here.0))
+
+pub marked_pass : {d : Bool} {rs : List Run} {a p n : ℕ} {twins marks : List ℕ} → length rs ≤ p → Marked d rs a p n twins marks → Marked d rs (a + 1) 0 n twins marks
+marked_pass {d} {rs} {a} {p} h left = record {
+  count = left.count;
+  width = left.width;
+  mark = λ q k done. mark_kept (begins d rs a p) (left.mark q k (passes d rs a p q h k done));
+  twin = λ q k done. left.twin q k (passes d rs a p q h k done);
+}
+
+-- what is done no earlier than a run with the first end a has that first end too
+met_at : (d : Bool) (rs : List Run) (a p q u : ℕ) → (key_at d rs q).0 ≡ a → IsDone d rs a p u
+    → ((key_at d rs q).0 < (key_at d rs u).0) ⊎ (((key_at d rs q).0 ≡ (key_at d rs u).0) × (q ≤ u)) → ((key_at d rs u).0 ≡ a) × (u < p)
+met_at d rs a p q u first (inr here) later = here
+met_at d rs a p q u first (inl less) (inl more) = absurd (omega (arith, first, less, more))
+met_at d rs a p q u first (inl less) (inr tie) = absurd (omega (arith, first, less, tie.0))
+
+-- an earlier run with the ends of that at p is found at the mark
 record Meets (d : Bool) (rs : List Run) (m p : ℕ) : Type 0 where
   below : m < p
   same : same_run d (run_or rs m) (run_or rs p) ≡ true
 
-meets : (d : Bool) (rs : List Run) (es : List Key) (t q : ℕ) {marks : List ℕ} → IsOrder d rs es → t < length es → ((i : ℕ) → i < t → IsMark d rs es t marks i)
-    → q < place_of es t → same_run d (run_or rs q) (run_or rs (place_of es t)) ≡ true → Meets d rs (get_or marks (last_of d rs es t) 0) (place_of es t)
-meets d rs es t q {marks} order h marked low is =
-    let keys = keys_from d (run_or rs q) (run_or rs (place_of es t)) is in
-    let here = order.all q (omega (arith, low, order.place t no_end h)) in
-    let i : ℕ = here.0 in
-    let at_q : place_of es i ≡ q = here.2 no_end in
-    let first : (get_or es i no_end).0 ≡ (get_or es t no_end).0 = order.first i no_end here.1 ∙ (ap (λ k. (key_at d rs k).0) at_q ∙ (keys.first ∙ sym (order.first t no_end h))) in
-    let last : last_of d rs es i ≡ last_of d rs es t = ap (λ k. (key_at d rs k).1) at_q ∙ keys.last in
-    let before : i < t = elim (cases_order i t) [
-      | inl same ↦ absurd (omega (arith, low, at_q, ap (place_of es) same))
-      | inr (inl less) ↦ less
-      | inr (inr more) ↦ absurd (omega (arith, low, at_q, before_tie (get_or es t no_end) (get_or es i no_end) (order.rises t i no_end more here.1) (sym first)))
-    ] in
-    let mark = marked i before in
+meets : {d : Bool} {rs : List Run} {a p n : ℕ} {twins marks : List ℕ} → p < length rs → (key_at d rs p).0 ≡ a → Marked d rs a p n twins marks
+    → (q : ℕ) → q < p → same_run d (run_or rs q) (run_or rs p) ≡ true → Meets d rs (get_or marks (key_at d rs p).1 0) p
+meets {d} {rs} {a} {p} {n} {twins} {marks} h own left q low is =
+    let keys = keys_from d (run_or rs q) (run_or rs p) is in
+    let first : (key_at d rs q).0 ≡ a = keys.first ∙ own in
+    let mark = left.mark q (omega (arith, low, h)) (inr (first, low)) in
     let u : ℕ = mark.at in
-    let inside : u < length es = omega (arith, mark.done, h) in
-    let high = order.rises u t no_end mark.done h in
-    let from_i : (get_or es i no_end).0 ≤ (get_or es u no_end).0 = elim (cases_eq i u) [
-      | inl same ↦ omega (arith, ap (λ k. (get_or es k no_end).0) same)
-      | inr apart ↦ before_le (get_or es i no_end) (get_or es u no_end) (order.rises i u no_end (omega (arith, mark.later, apart)) inside)
-    ] in
-    let tie : (get_or es u no_end).0 ≡ (get_or es t no_end).0 = omega (arith, first, from_i, before_le (get_or es u no_end) (get_or es t no_end) high) in
-    let is_u : get_or marks (last_of d rs es t) 0 ≡ place_of es u = ap (λ b. get_or marks b 0) (sym last) ∙ mark.mark in
+    let is_u : get_or marks (key_at d rs p).1 0 ≡ u = ap (λ b. get_or marks b 0) (sym keys.last) ∙ mark.mark in
+    let there = met_at d rs a p q u first mark.done mark.later in
     record {
-      below = omega (arith, is_u, before_tie (get_or es u no_end) (get_or es t no_end) high tie);
-      same = ap (λ m. same_run d (run_or rs m) (run_or rs (place_of es t))) is_u
-          ∙ keys_same d (run_or rs (place_of es u)) (run_or rs (place_of es t)) (sym (order.first u no_end inside) ∙ (tie ∙ order.first t no_end h)) (mark.last ∙ last);
+      below = omega (arith, is_u, there.1);
+      same = ap (λ m. same_run d (run_or rs m) (run_or rs p)) is_u
+          ∙ keys_same d (run_or rs u) (run_or rs p) (there.0 ∙ sym own) (mark.last ∙ keys.last);
     }
 
 -- so what is written is its twin
@@ -118,53 +146,62 @@ twin_found d rs m p met =
           subst (IsTwin d rs p) (sym is) (own_twin d rs p (λ q h same. omega (arith, high, (met q h same).below))))
     ]
 
-pub marked_more : {d : Bool} {rs : List Run} {es : List Key} {n t : ℕ} {twins marks new after : List ℕ} → IsOrder d rs es → t < length es → last_of d rs es t < n → Marked d rs es t n twins marks
-    → new ≡ set twins (place_of es t) (twin_of d rs (get_or marks (last_of d rs es t) 0) (place_of es t)) → after ≡ set marks (last_of d rs es t) (place_of es t) → Marked d rs es (t + 1) n new after
-marked_more {d} {rs} {es} {n} {t} {twins} {marks} {new} {after} order h narrow left written noted =
-    let p : ℕ = place_of es t in
-    let b : ℕ = last_of d rs es t in
-    let m : ℕ = get_or marks b 0 in
-    let length-set_as : length new ≡ length twins = ap length written ∙ length-set twins p (twin_of d rs m p) in
-    record {
-      count = length-set_as ∙ left.count;
-      width = ap length noted ∙ (length-set marks b p ∙ left.width);
-      mark = λ i k. elim (cases_eq (last_of d rs es i) b) [
-        | inl same ↦ record {
-          at = t;
-          later = omega (arith, k);
-          done = omega arith;
-          last = sym same;
-          mark = ap (λ l. get_or l (last_of d rs es i) 0) noted ∙ get_or-set_at marks b (last_of d rs es i) p 0 same (omega (arith, narrow, left.width));
-        }
-        | inr apart ↦ (let old : i < t = elim (cases_eq i t) [
-          | inl now ↦ absurd (apart (ap (last_of d rs es) now))
-          | inr other ↦ omega (arith, k, other)
-        ] in
-            let mark = left.mark i old in
-            record {
-              at = mark.at;
-              later = mark.later;
-              done = omega (arith, mark.done);
-              last = mark.last;
-              mark = ap (λ l. get_or l (last_of d rs es i) 0) noted ∙ (get_or-set_other marks b (last_of d rs es i) p 0 apart ∙ mark.mark);
-            })
-      ];
-      twin = λ i k. elim (cases_eq (place_of es i) p) [
-        | inl same ↦ (let value : get_or new (place_of es i) 0 ≡ twin_of d rs m p = ap (λ l. get_or l (place_of es i) 0) written ∙ get_or-set_at twins p (place_of es i) (twin_of d rs m p) 0 same (omega (arith, order.place t no_end h, left.count)) in
-            let now : IsTwin d rs p (get_or new (place_of es i) 0) = subst (IsTwin d rs p) (sym value) (twin_found d rs m p (λ q low is. meets d rs es t q order h left.mark low is)) in
-            subst (λ k. IsTwin d rs k (get_or new (place_of es i) 0)) (sym same) now)
-        | inr apart ↦ (let old : i < t = elim (cases_eq i t) [
-          | inl now ↦ absurd (apart (ap (place_of es) now))
-          | inr other ↦ omega (arith, k, other)
-        ] in
-            let stays : get_or new (place_of es i) 0 ≡ get_or twins (place_of es i) 0 = ap (λ l. get_or l (place_of es i) 0) written ∙ get_or-set_other twins p (place_of es i) (twin_of d rs m p) 0 apart in
-            subst (IsTwin d rs (place_of es i)) (sym stays) (left.twin i old))
-      ];
-    }
+-- one run more is done
+older : (d : Bool) (rs : List Run) (a p q : ℕ) → q ≢ p → IsDone d rs a (p + 1) q → IsDone d rs a p q
+older d rs a p q apart (inl less) = inl less
+older d rs a p q apart (inr here) = inr (here.0, omega (arith, apart, here.1))
 
-pub marked_end : {d : Bool} {rs : List Run} {es : List Key} {n t : ℕ} {twins marks : List ℕ} → IsOrder d rs es → length es ≤ t → Marked d rs es t n twins marks → AreTwins d rs twins
-marked_end {d} {rs} {es} {twins = twins} order h left = record {
+last_done : (d : Bool) (rs : List Run) (a p q : ℕ) → (key_at d rs p).0 ≡ a → IsDone d rs a (p + 1) q
+    → ((key_at d rs q).0 < (key_at d rs p).0) ⊎ (((key_at d rs q).0 ≡ (key_at d rs p).0) × (q ≤ p))
+last_done d rs a p q own (inl less) = inl (omega (arith, own, less))
+last_done d rs a p q own (inr here) = inr (here.0 ∙ sym own, omega (arith, here.1))
+
+mark_more : {d : Bool} {rs : List Run} {a p n : ℕ} {twins marks after : List ℕ} → p < length rs → (key_at d rs p).0 ≡ a → (key_at d rs p).1 < n → Marked d rs a p n twins marks
+    → after ≡ set marks (key_at d rs p).1 p → (q : ℕ) → q < length rs → IsDone d rs a (p + 1) q → IsMark d rs a (p + 1) after q
+mark_more {d} {rs} {a} {p} {n} {twins} {marks} {after} h own narrow left noted q k done =
+    let b : ℕ = (key_at d rs p).1 in
+    elim (cases_eq (key_at d rs q).1 b) [
+      | inl same ↦ record {
+        at = p;
+        done = inr (own, omega arith);
+        later = last_done d rs a p q own done;
+        last = sym same;
+        mark = ap (λ l. get_or l (key_at d rs q).1 0) noted ∙ get_or-set_at marks b (key_at d rs q).1 p 0 same (omega (arith, narrow, left.width));
+      }
+      | inr apart ↦ (let was = left.mark q k (older d rs a p q (λ now. apart (ap (λ j. (key_at d rs j).1) now)) done) in
+          record {
+            at = was.at;
+            done = done_more d rs a p (p + 1) was.at (omega arith) was.done;
+            later = was.later;
+            last = was.last;
+            mark = ap (λ l. get_or l (key_at d rs q).1 0) noted ∙ (get_or-set_other marks b (key_at d rs q).1 p 0 apart ∙ was.mark);
+          })
+    ]
+
+twin_more : {d : Bool} {rs : List Run} {a p n : ℕ} {twins marks new : List ℕ} → p < length rs → (key_at d rs p).0 ≡ a → Marked d rs a p n twins marks
+    → new ≡ set twins p (twin_of d rs (get_or marks (key_at d rs p).1 0) p) → (q : ℕ) → q < length rs → IsDone d rs a (p + 1) q → IsTwin d rs q (get_or new q 0)
+twin_more {d} {rs} {a} {p} {n} {twins} {marks} {new} h own left written q k done =
+    let t : ℕ = twin_of d rs (get_or marks (key_at d rs p).1 0) p in
+    elim (cases_eq q p) [
+      | inl same ↦ (let value : get_or new q 0 ≡ t = ap (λ l. get_or l q 0) written ∙ get_or-set_at twins p q t 0 same (omega (arith, h, left.count)) in
+          let now : IsTwin d rs p (get_or new q 0) = subst (IsTwin d rs p) (sym value) (twin_found d rs (get_or marks (key_at d rs p).1 0) p (meets h own left)) in
+          subst (λ j. IsTwin d rs j (get_or new q 0)) (sym same) now)
+      | inr apart ↦ (let stays : get_or new q 0 ≡ get_or twins q 0 = ap (λ l. get_or l q 0) written ∙ get_or-set_other twins p q t 0 apart in
+          subst (IsTwin d rs q) (sym stays) (left.twin q k (older d rs a p q apart done)))
+    ]
+
+pub marked_more : {d : Bool} {rs : List Run} {a p n : ℕ} {twins marks new after : List ℕ} → p < length rs → (key_at d rs p).0 ≡ a → (key_at d rs p).1 < n → Marked d rs a p n twins marks
+    → new ≡ set twins p (twin_of d rs (get_or marks (key_at d rs p).1 0) p) → after ≡ set marks (key_at d rs p).1 p → Marked d rs a (p + 1) n new after
+marked_more {d} {rs} {a} {p} {n} {twins} {marks} h own narrow left written noted = record {
+  count = ap length written ∙ (length-set twins p (twin_of d rs (get_or marks (key_at d rs p).1 0) p) ∙ left.count);
+  width = ap length noted ∙ (length-set marks (key_at d rs p).1 p ∙ left.width);
+  mark = mark_more h own narrow left noted;
+  twin = twin_more h own left written;
+}
+
+-- in the end all are
+pub marked_end : {d : Bool} {rs : List Run} {a n : ℕ} {twins marks : List ℕ} → n ≤ a → All (IsBelow n) rs → Marked d rs a 0 n twins marks → AreTwins d rs twins
+marked_end {d} {rs} {a} {n} h all left = record {
   count = left.count;
-  twin = λ p k. let here = order.all p k in
-      subst (λ q. IsTwin d rs q (get_or twins q 0)) (here.2 no_end) (left.twin here.0 (omega (arith, here.1, h)));
+  twin = λ p k. left.twin p k (inl (omega (arith, h, narrow_first d rs n p all k)));
 }

@@ -1,7 +1,7 @@
 //! Runs of which each pair of ends has one.
-ghost use Rattle.std.specs.Prelude.{◌≡◌, ◌<◌, ◌∷◌, ◌++◌, [], length, All, slice_index_or, slice_set, IfOk, OnOk};
+ghost use Rattle.std.specs.Prelude.{◌≡◌, ◌<◌, ◌+◌, ◌∷◌, ◌++◌, [], length, replicate, All, slice_index_or, slice_set, IfOk, OnOk};
 ghost use Rattle.sgb_induced.specs.Private.Run.{merged, same_run};
-ghost use Rattle.sgb_induced.specs.Private.Twin.{AreTwins, IsBelow, IsOrder, key_at, kept_with, place_by, twin_of};
+ghost use Rattle.sgb_induced.specs.Private.Twin.{AreLinked, AreTwins, IsBelow, Marked, key_at, kept_with, place_by, twin_of};
 
 use crate::run::{Run, key_of, lowered_run};
 use std::alloc::{AllocError, Global};
@@ -14,8 +14,7 @@ pub(crate) fn merge_runs(
 ) -> Result<Vec<Run>, AllocError>
     ensures { IfOk result (λ rs. rs.items ≡ merged directed runs.now) }
 {
-    let order = order_runs(alloc, runs, directed)?;
-    let twins = find_twins(alloc, runs, &order, directed)?;
+    let twins = find_twins(alloc, runs, directed)?;
     let mut kept = Vec::new(alloc);
     let mut places = Vec::with_capacity(alloc, runs.len())?;
     for i in 0..runs.len() {
@@ -48,33 +47,46 @@ fn keep_run(
     Ok(())
 }
 
-// The first end of each run and its place, in order.
-fn order_runs(alloc: Global, runs: &[Run], directed: bool) -> Result<Vec<(u32, usize)>, AllocError>
-    ensures { IfOk result (λ order. IsOrder directed runs.now order.items) }
-{
-    let mut order = Vec::with_capacity(alloc, runs.len())?;
-    for place in 0..runs.len() {
-        let key = key_of(runs[place], directed);
-        order.push((key.0, place))?;
-    }
-    order.sort_unstable();
-    Ok(order)
-}
-
 // For each run the place of an earlier one with its ends, or its own where there is none.
-fn find_twins(
-    alloc: Global,
-    runs: &[Run],
-    order: &[(u32, usize)],
-    directed: bool,
-) -> Result<Vec<usize>, AllocError>
-    requires { IsOrder directed runs.now order.now }
+fn find_twins(alloc: Global, runs: &[Run], directed: bool) -> Result<Vec<usize>, AllocError>
     ensures { IfOk result (λ twins. AreTwins directed runs.now twins.items) }
 {
+    let width = width_of(runs);
+    let mut heads = vec![in alloc; runs.len(); width]?;
+    let mut nexts = vec![in alloc; runs.len(); runs.len()]?;
+    order_runs(&mut heads, &mut nexts, runs, directed);
     let mut twins = vec![in alloc; 0usize; runs.len()]?;
-    let mut marks = vec![in alloc; 0usize; width_of(runs)]?;
-    mark_twins(&mut twins, &mut marks, runs, order, directed);
+    let mut marks = vec![in alloc; 0usize; width]?;
+    mark_twins(&mut twins, &mut marks, runs, &heads, &nexts, directed);
     Ok(twins)
+}
+
+// Links the runs of each first end in their order: `heads` has the place of the first, and `nexts` for each that of the
+// next, or a place behind all runs where there is none.
+fn order_runs(heads: &mut [usize], nexts: &mut [usize], runs: &[Run], directed: bool)
+    requires fresh { heads.old ≡ replicate (length heads.old) (length runs.now) }
+    requires count { length nexts.old ≡ length runs.now }
+    requires ends { All (IsBelow (length heads.old)) runs.now }
+    ensures linked { AreLinked directed runs.now heads.new nexts.new }
+    ensures width { length heads.new ≡ length heads.old }
+{
+    for place in (0..runs.len()).rev() {
+        link_run(heads, nexts, runs, place, directed);
+    }
+}
+
+// Puts a run in front of those with its first end.
+fn link_run(heads: &mut [usize], nexts: &mut [usize], runs: &[Run], place: usize, directed: bool)
+    requires place { place < length runs.now }
+    requires count { length nexts.old ≡ length runs.now }
+    requires end { (key_at directed runs.now place).0 < length heads.old }
+    ensures nexts { nexts.new ≡ slice_set nexts.old place
+        (slice_index_or heads.old (key_at directed runs.now place).0 0) }
+    ensures heads { heads.new ≡ slice_set heads.old (key_at directed runs.now place).0 place }
+{
+    let first = key_of(runs[place], directed).0 as usize;
+    nexts[place] = heads[first];
+    heads[first] = place;
 }
 
 // A number above the ends of all the runs.
@@ -94,16 +106,41 @@ fn mark_twins(
     twins: &mut [usize],
     marks: &mut [usize],
     runs: &[Run],
-    order: &[(u32, usize)],
+    heads: &[usize],
+    nexts: &[usize],
     directed: bool,
 )
-    requires order { IsOrder directed runs.now order.now }
+    requires linked { AreLinked directed runs.now heads.now nexts.now }
     requires count { length twins.old ≡ length runs.now }
+    requires width { length marks.old ≡ length heads.now }
     requires ends { All (IsBelow (length marks.old)) runs.now }
     ensures { AreTwins directed runs.now twins.new }
 {
-    for end in order {
-        mark_twin(twins, marks, runs, end.1, directed);
+    for first in 0..heads.len() {
+        mark_linked(twins, marks, runs, heads, nexts, first, directed);
+    }
+}
+
+// Writes the twins of the runs with one first end.
+fn mark_linked(
+    twins: &mut [usize],
+    marks: &mut [usize],
+    runs: &[Run],
+    heads: &[usize],
+    nexts: &[usize],
+    first: usize,
+    directed: bool,
+)
+    requires linked { AreLinked directed runs.now heads.now nexts.now }
+    requires first { first < length heads.now }
+    requires ends { All (IsBelow (length marks.old)) runs.now }
+    requires marked { Marked directed runs.now first 0 (length marks.old) twins.old marks.old }
+    ensures { Marked directed runs.now (first + 1) 0 (length marks.old) twins.new marks.new }
+{
+    let mut place = heads[first];
+    while place < runs.len() {
+        mark_twin(twins, marks, runs, place, directed);
+        place = nexts[place];
     }
 }
 

@@ -4,10 +4,8 @@ use sgb_graph::{Graph, Place, Refusal, Text, Util, VertexField, VertexNo};
 use sgb_induced::{InducedSpec, induced};
 use std::alloc::Global;
 
-/// A graph of so many vertices.
-pub fn new_graph(alloc: Global, n: u32) -> Result<Graph, Refusal> {
-    Graph::new(alloc, n)
-}
+/// A graph, or its refusal. Graphs are handed about like this, since each `?` beside one lengthens a proof.
+pub type Made = Result<Graph, Refusal>;
 
 /// Makes an arc.
 pub fn arc(graph: &mut Graph, from: u32, to: u32, len: i64) -> Result<(), Refusal> {
@@ -44,15 +42,18 @@ pub fn set_name(
     Ok(())
 }
 
-/// What is induced by the graph.
+/// What is induced by the graph. Where that is wanting there is no room, which no test of refusals asks for.
 pub fn induce(
     alloc: Global,
-    graph: &Graph,
+    graph: &Made,
     description: &[u8],
     loops: bool,
     multi: bool,
     directed: bool,
-) -> Result<Graph, Refusal> {
+) -> Made {
+    let Ok(graph) = graph else {
+        return Err(Refusal::NoRoom);
+    };
     let description = Text::new(alloc, description)?;
     let spec = InducedSpec {
         loops,
@@ -63,6 +64,6 @@ pub fn induce(
 }
 
 /// The refusal of what is induced by the graph.
-pub fn refusal(alloc: Global, graph: &Graph, description: &[u8]) -> Option<Refusal> {
+pub fn refusal(alloc: Global, graph: &Made, description: &[u8]) -> Option<Refusal> {
     induce(alloc, graph, description, false, false, false).err()
 }

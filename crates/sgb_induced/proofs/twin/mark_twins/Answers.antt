@@ -1,25 +1,21 @@
-use Rattle.std.proofs.Common.{length, refl, arith}
-use Rattle.sgb_induced.proofs.Twins.{marked_end, marked_more, marked_start, narrow, no_end}
+use Rattle.std.proofs.Common.{◌+◌, length, All, refl, sym, subst, arith}
+use Rattle.sgb_induced.specs.Private.Twin.{IsBelow, Marked}
+use Rattle.sgb_induced.proofs.Twins.{marked_end, marked_start}
 use Rattle.sgb_induced.proofs.twin.mark_twins.Goals as goal
 
-pub loop-end-init : goal.loop-end-init
-loop-end-init c = marked_start c.args.directed c.args.runs.now c.args.order.now (length c.args.marks.now) c.requires.count refl
+pub loop-first-init : goal.loop-first-init
+loop-first-init c = marked_start c.args.directed c.args.runs.now (length c.args.marks.now) c.requires.count refl
 
-pub mark_twin-requires-clause-place : goal.mark_twin-requires-clause-place
-mark_twin-requires-clause-place c = c.requires.order.place c.loop-end.end-index no_end (omega arith)
+pub mark_linked-requires-clause-ends : goal.mark_linked-requires-clause-ends
+mark_linked-requires-clause-ends c = subst (λ n. All (IsBelow n) c.args.runs.now) (sym c.loop-first.invariant.width) c.requires.ends
 
-pub mark_twin-requires-clause-count : goal.mark_twin-requires-clause-count
-mark_twin-requires-clause-count c = c.loop-end.invariant.count
+pub mark_linked-requires-clause-marked : goal.mark_linked-requires-clause-marked
+mark_linked-requires-clause-marked c =
+    subst (λ n. Marked c.args.directed c.args.runs.now c.loop-first.first 0 n c.loop-first.twins c.loop-first.marks) (sym c.loop-first.invariant.width) c.loop-first.invariant
 
-pub mark_twin-requires-clause-end : goal.mark_twin-requires-clause-end
-mark_twin-requires-clause-end c =
-    omega (arith, narrow c.args.directed c.args.runs.now c.args.order.now (length c.args.marks.now) c.loop-end.end-index c.requires.order (omega arith) c.requires.ends, c.loop-end.invariant.width)
-
-pub loop-end-preserved : goal.loop-end-preserved
-loop-end-preserved c =
-    marked_more c.requires.order (omega arith)
-    (narrow c.args.directed c.args.runs.now c.args.order.now (length c.args.marks.now) c.loop-end.end-index c.requires.order (omega arith) c.requires.ends)
-    c.loop-end.invariant c.mark_twin.ensures.twins c.mark_twin.ensures.marks
+pub loop-first-preserved : goal.loop-first-preserved
+loop-first-preserved c =
+    subst (λ n. Marked c.args.directed c.args.runs.now (c.loop-first.first + 1) 0 n c.mark_linked.new.twins c.mark_linked.new.marks) c.loop-first.invariant.width c.mark_linked.ensures
 
 pub returns : goal.returns
-returns c = marked_end c.requires.order (omega arith) c.loop-end.invariant
+returns c = marked_end (omega (arith, c.requires.width, c.loop-first-test.false)) c.requires.ends c.loop-first.invariant
