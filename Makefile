@@ -35,7 +35,7 @@ edits:
 # Compares each example's transcript, and those of the language's description.
 examples: bin/sgb
 	sh tests/examples.sh bin/sgb
-	python3 tests/documents.py bin/sgb docs/language.md
+	python3 tests/documents.py bin/sgb docs/language.md docs/combinations.md
 
 # Runs scripts with each growth refused in its turn.
 growths: bin/sgb tests/out/refuse_growth.so

@@ -225,7 +225,7 @@ class Gate:
     def parts_of_program(self):
         self.log.call(['make', REFUSING])
         yield 'examples', ['sh', 'tests/examples.sh', PROGRAM]
-        yield 'documents', [sys.executable, 'tests/documents.py', PROGRAM, 'docs/language.md']
+        yield 'documents', [sys.executable, 'tests/documents.py', PROGRAM, 'docs/language.md', 'docs/combinations.md']
         yield 'growths', [sys.executable, 'tests/growths.py', PROGRAM, REFUSING]
         if os.path.isfile('tests/program.py'):
             yield 'program', [sys.executable, 'tests/program.py', PROGRAM]
