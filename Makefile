@@ -6,8 +6,11 @@ PREFIX ?= /usr/local
 CC ?= cc
 # Where the benchmarks are built: outside this repository, so that `rt` here does not meet their copies.
 BENCH ?= /tmp/sgb_bench
+# What they compare with in plain Rust.
+PLAIN = plain_graph plain_make plain_combine plain_text plain_lines
 
-.PHONY: all demo test quick edits examples growths program bench bench_flip bench_graph bench_make bench_lines install clean FORCE
+.PHONY: all demo test quick edits examples growths program bench bench_flip bench_graph bench_make bench_lines \
+	bench_instructions install clean FORCE
 
 all: bin/sgb
 
@@ -50,11 +53,16 @@ tests/out/refuse_growth.so: tests/refuse_growth.c
 	$(CC) -O2 -shared -fPIC -o $@ $<
 
 # Times the generator beside the same one in plain C, graphs, and standard and random ones, beside the same in
-# plain Rust, and the program's lines, in one run on one machine. No part of the gate.
+# plain Rust, and the program's lines beside those of a shell in plain Rust, in one run on one machine. No part of
+# the gate.
 bench: bench_flip bench_graph bench_make bench_lines
 
-bench_lines: bin/sgb
-	python3 bench/lines.py bin/sgb
+bench_lines: bin/sgb $(BENCH)/plain_lines
+	python3 bench/lines.py bin/sgb $(BENCH)/plain_lines
+
+# The same lines, not timed but counted in instructions, where perf or valgrind counts them.
+bench_instructions: bin/sgb $(BENCH)/plain_lines
+	python3 bench/lines.py --instructions bin/sgb $(BENCH)/plain_lines
 
 # The combinations and random lengths, and saved texts, beside the same in plain Rust.
 bench: bench_combine bench_text
@@ -68,10 +76,6 @@ bench_combine: $(BENCH)/plain_combine
 bench_text: $(BENCH)/plain_text
 	sh bench/build.sh text "sgb_graph sgb_parts sgb_grammar sgb_text" $(BENCH)
 	python3 bench/compare.py --same $(BENCH)/text/crates/text_bench/out/text_bench $(BENCH)/plain_text
-
-$(BENCH)/plain_combine $(BENCH)/plain_text: $(BENCH)/%: bench/%.rs
-	mkdir -p $(BENCH)
-	rustc -O --edition 2021 -C target-cpu=x86-64-v2 -o $@ $<
 
 bench_flip: $(BENCH)/plain_flip
 	sh bench/build.sh flip sgb_flip $(BENCH)
@@ -89,14 +93,10 @@ $(BENCH)/plain_flip: bench/plain_flip.c
 	mkdir -p $(BENCH)
 	$(CC) -O3 -o $@ $<
 
-$(BENCH)/plain_graph: bench/plain_graph.rs
-	mkdir -p $(BENCH)
-	rustc -O -o $@ $<
-
 # For the processors that `rt` builds for.
-$(BENCH)/plain_make: bench/plain_make.rs
+$(PLAIN:%=$(BENCH)/%): $(BENCH)/%: bench/%.rs bench/plain/arena.rs bench/plain/flip.rs
 	mkdir -p $(BENCH)
-	rustc -O -C target-cpu=x86-64-v2 -o $@ $<
+	rustc -O --edition 2021 -C target-cpu=x86-64-v2 -o $@ $<
 
 install: bin/sgb
 	mkdir -p $(PREFIX)/bin

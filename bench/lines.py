@@ -1,22 +1,33 @@
 #!/usr/bin/env python3
-"""Times scripts, and prints nanoseconds a line.
+"""Times scripts by two programs in turn, and compares them line by line.
 
-    lines.py PROGRAM
+    lines.py [--instructions] OURS PLAIN
 
-Undo and redo are timed by the difference of two scripts, the shorter of which is the front of the longer.
+Each is called as PROGRAM run FILE, and both must write the same transcripts. Printed are nanoseconds of processor time
+for a line, the best of several runs, and the ratio of ours to the plain one: below 1 ours is faster. With
+--instructions it is instructions for a line, of shorter scripts, by perf where it counts them and else by valgrind;
+they hardly change from run to run.
+
+A row is the difference of two scripts, the shorter of which is the front of the longer.
 """
 import os
+import random
+import re
+import shutil
 import subprocess
 import sys
 import tempfile
-import time
 
+ROUNDS = 7
 EDITS = 60_000
+SHOWS = 20
+# No more commands than this stand at once in the rows with undos.
+BLOCK = 1000
 
 
-def edits():
+def edits(count):
     lines = ['graph g 1000']
-    for k in range(EDITS - 1):
+    for k in range(count - 1):
         lines.append((
             'arc g %d %d %d' % (k % 1000, k * 7 % 1000, k),
             'edge g %d %d 3' % (k * 3 % 1000, k % 997),
@@ -28,37 +39,121 @@ def edits():
     return lines
 
 
-def seconds(program, lines):
-    with tempfile.NamedTemporaryFile('w', suffix='.sgb') as script:
-        script.write('\n'.join(lines) + '\n')
-        script.flush()
-        best = None
-        for _ in range(5):
-            with open(os.devnull, 'wb') as sink:
-                start = time.perf_counter()
-                subprocess.run([program, 'run', script.name], stdout=sink, check=True)
-                taken = time.perf_counter() - start
-            best = taken if best is None else min(best, taken)
-        return best
+def blocks(count, make, *behind):
+    """About so many lines: a block of commands, and as many of each line behind, again and again."""
+    lines = []
+    for start in range(0, count, BLOCK * (1 + len(behind))):
+        lines += [make(k) for k in range(start, start + BLOCK)]
+        for line in behind:
+            lines += [line] * BLOCK
+    return lines
+
+
+def scattered(count):
+    chance = random.Random(1)
+    pairs = [(chance.randrange(1000), chance.randrange(1000)) for _ in range(count)]
+    return ['graph g 1000'] + ['arc g %d %d %d' % (u, v, k % 1000) for k, (u, v) in enumerate(pairs)]
+
+
+def rows(scale):
+    """Of each row its name, its lines, those in front of them, and by how many it is divided."""
+    million, count = 1_000_000 // scale, EDITS // scale
+    bounds = (6, 1000, 2 ** 30 + 1)
+
+    def row(name, lines, front=()):
+        return name, list(front), list(lines), len(lines)
+
+    yield row('gen', ['gen'] * million)
+    yield row('draws, undos, redos', blocks(million, lambda k: 'next', 'undo', 'redo', 'undo'))
+    yield row('seeds and undos', blocks(million // 4, lambda k: 'seed %d' % k, 'undo'))
+    yield row('uniform draws and undos', blocks(million // 2, lambda k: 'unif %d' % bounds[k % 3], 'undo'))
+    yield row('arcs and undos', blocks(million // 2, lambda k: 'arc g %d %d %d' % (k % 1000, k * 7 % 1000, k), 'undo'),
+              ['graph g 1000'])
+    made = edits(count)
+    yield row('%d mixed edits' % count, made)
+    yield row('their undo', ['undo'] * count, made)
+    yield row('their redo', ['redo'] * count, made + ['undo'] * count)
+    graph = scattered(count)
+    name, front, lines, _ = row('show of %d arcs, an arc' % count, ['show g'] * SHOWS, graph)
+    yield name, front, lines, SHOWS * count
+
+
+def processor_time(program, script):
+    """In nanoseconds, of user and system."""
+    with open(os.devnull, 'wb') as sink:
+        child = subprocess.Popen([program, 'run', script], stdout=sink)
+        _, status, usage = os.wait4(child.pid, 0)
+        child.returncode = os.waitstatus_to_exitcode(status)
+    if child.returncode != 0:
+        sys.exit('%s: status %d' % (program, child.returncode))
+    return (usage.ru_utime + usage.ru_stime) * 1e9
+
+
+def by_perf(program, script):
+    command = ['perf', 'stat', '-x,', '-e', 'instructions:u', program, 'run', script]
+    told = subprocess.run(command, stdout=subprocess.DEVNULL, stderr=subprocess.PIPE, text=True).stderr
+    found = re.search(r'^(\d+),', told, re.MULTILINE)
+    return int(found.group(1)) if found else None
+
+
+def by_valgrind(program, script):
+    command = ['valgrind', '--tool=cachegrind', '--cache-sim=no', '--cachegrind-out-file=' + os.devnull,
+               program, 'run', script]
+    told = subprocess.run(command, stdout=subprocess.DEVNULL, stderr=subprocess.PIPE, text=True).stderr
+    found = re.search(r'I\s+refs:\s+([\d,]+)', told)
+    return int(found.group(1).replace(',', '')) if found else None
+
+
+def counter(programs):
+    """What counts instructions here."""
+    for tool, count in (('perf', by_perf), ('valgrind', by_valgrind)):
+        if shutil.which(tool) and all(count(program, os.devnull) for program in programs):
+            return count
+    sys.exit('neither perf nor valgrind counts instructions here')
+
+
+class Scripts:
+    """What scripts cost each program; each script is run once for all rows."""
+
+    def __init__(self, programs, place, cost, rounds):
+        self.programs = programs
+        self.place = place
+        self.cost = cost
+        self.rounds = rounds
+        self.known = {}
+
+    def costs(self, lines):
+        text = ''.join(line + '\n' for line in lines)
+        if text not in self.known:
+            name = os.path.join(self.place, 'script.sgb')
+            with open(name, 'w') as script:
+                script.write(text)
+            self.compare(name)
+            # In turn, so that what else the machine does is the same for both.
+            runs = [[self.cost(program, name) for program in self.programs] for _ in range(self.rounds)]
+            self.known[text] = [min(of_one) for of_one in zip(*runs)]
+        return self.known[text]
+
+    def compare(self, name):
+        transcripts = [subprocess.run([program, 'run', name], stdout=subprocess.PIPE, check=True).stdout
+                       for program in self.programs]
+        if transcripts[0] != transcripts[1]:
+            sys.exit('different transcripts of the same script')
 
 
 def main():
-    program = sys.argv[1]
-    empty = seconds(program, [])
-    million = 1_000_000
-
-    def tell(name, taken, count):
-        print('%-36s %8.1f ns a line' % (name, taken * 1e9 / count))
-
-    tell('a million lines "gen"', seconds(program, ['gen'] * million) - empty, million)
-    tell('a million lines "next", "undo"', seconds(program, ['next', 'undo'] * (million // 2)) - empty, million)
-    front = edits()
-    made = seconds(program, front)
-    undone = seconds(program, front + ['undo'] * EDITS)
-    redone = seconds(program, front + ['undo'] * EDITS + ['redo'] * EDITS)
-    tell('60,000 mixed edits', made - empty, EDITS)
-    tell('their undo', undone - made, EDITS)
-    tell('their redo', redone - undone, EDITS)
+    counts = sys.argv[1:2] == ['--instructions']
+    programs = sys.argv[-2:]
+    cost, rounds, scale, unit = processor_time, ROUNDS, 1, 'ns'
+    if counts:
+        cost, rounds, scale, unit = counter(programs), 1, 20, 'instr.'
+    print('%-32s %14s %14s %7s' % ('a line', 'ours, ' + unit, 'plain, ' + unit, 'ratio'))
+    with tempfile.TemporaryDirectory() as place:
+        scripts = Scripts(programs, place, cost, rounds)
+        for name, front, lines, count in rows(scale):
+            less = scripts.costs(front)
+            ours, plain = [(all_of - front_of) / count for all_of, front_of in zip(scripts.costs(front + lines), less)]
+            print('%-32s %14.1f %14.1f %7.2f' % (name, ours, plain, ours / plain), flush=True)
 
 
 if __name__ == '__main__':
