@@ -1,207 +1,139 @@
-// The same arena in plain Rust, and how long each edit takes.
+// The same edits of a graph in plain Rust, over an arena with 32 bytes an arc, and how long each takes.
 use std::time::Instant;
+
+#[path = "plain/arena.rs"]
+mod arena;
+
+use arena::{Arc, Arena, Cut, NONE, ONE, Util};
 
 const VERTICES: u32 = 65_535;
 const ARCS: u32 = 1_000_000;
 const CUTS: u32 = 200_000;
 const RECORDS: u32 = 600_000;
 
-#[derive(Clone, Copy)]
-enum Tip {
-    #[allow(dead_code)]
-    Zero,
-    #[allow(dead_code)]
-    One,
-    To(u32),
-}
-
-#[allow(dead_code)]
-enum Util {
-    Zero,
-    Int(i64),
-    Vertex(u32),
-    Arc(u32),
-    Text(Box<[u8]>),
-}
-
-struct Slot {
-    owner: u32,
-    tip: Tip,
-    next: Option<u32>,
-    names: u32,
-    len: i64,
-    #[allow(dead_code)]
-    fields: [Util; 2],
-}
-
+#[derive(Default)]
 struct Vertex {
-    first: Option<u32>,
+    #[allow(dead_code)]
+    label: Box<[u8]>,
+    fields: Option<Box<[Util; 6]>>,
 }
 
 struct Graph {
     vertices: Vec<Vertex>,
-    slots: Vec<Option<Slot>>,
-    live: u32,
-}
-
-struct VertexPart {
-    #[allow(dead_code)]
-    label: Option<Box<[u8]>>,
-    fields: [Util; 6],
-    first: Option<u32>,
+    arena: Arena,
 }
 
 struct ArcPart {
-    tip: Tip,
+    tip: u32,
+    next: u32,
     len: i64,
-    fields: [Util; 2],
-    next: Option<u32>,
-}
-
-struct Cut {
-    number: u32,
-    place: u32,
-    slot: Slot,
+    fields: Option<Box<[Util; 2]>>,
 }
 
 impl Graph {
     fn new(n: u32) -> Graph {
-        let vertices = (0..n).map(|_| Vertex { first: None }).collect();
-        Graph { vertices, slots: Vec::new(), live: 0 }
+        let mut vertices = Vec::new();
+        vertices.resize_with(n as usize, Vertex::default);
+        Graph { vertices, arena: Arena::new(n) }
+    }
+
+    fn has_vertex(&self, v: u32) -> bool {
+        (v as usize) < self.vertices.len()
     }
 
     fn new_arc(&mut self, from: u32, to: u32, len: i64) -> Result<u32, ()> {
-        let n = self.vertices.len() as u32;
-        if from >= n || to >= n || self.slots.len() >= ARCS as usize {
+        if !self.has_vertex(from) || !self.has_vertex(to) {
             return Err(());
         }
-        let number = self.slots.len() as u32;
-        let vertex = &mut self.vertices[from as usize];
-        self.slots.push(Some(Slot {
-            owner: from,
-            tip: Tip::To(to),
-            next: vertex.first,
-            names: 0,
-            len,
-            fields: [Util::Zero, Util::Zero],
-        }));
-        vertex.first = Some(number);
-        self.live += 1;
-        Ok(number)
+        self.arena.new_arc(from, to, len).map_err(|_| ())
     }
 
     fn new_edge(&mut self, from: u32, to: u32, len: i64) -> Result<u32, ()> {
-        let (low, high) = (from.min(to), from.max(to));
-        if high as usize >= self.vertices.len() || self.slots.len() + 2 > ARCS as usize {
+        if !self.has_vertex(from) || !self.has_vertex(to) {
             return Err(());
         }
-        let number = self.new_arc(low, high, len)?;
-        self.new_arc(high, low, len)?;
-        Ok(number)
+        self.arena.new_edge(from, to, len).map_err(|_| ())
     }
 
     fn cut(&mut self, number: u32) -> Result<Cut, ()> {
-        let slot = match self.slots.get(number as usize) {
-            Some(Some(slot)) if slot.names == 0 => slot,
-            _ => return Err(()),
-        };
-        let (owner, next) = (slot.owner as usize, slot.next);
-        let mut place = 0;
-        let mut before = None;
-        let mut link = self.vertices[owner].first;
-        while let Some(other) = link {
-            if other == number {
-                break;
-            }
-            place += 1;
-            before = Some(other);
-            link = self.slots[other as usize].as_ref().and_then(|slot| slot.next);
+        if !self.arena.is_live(number) || self.arena.arcs[number as usize].names > 0 {
+            return Err(());
         }
-        match before.and_then(|other| self.slots[other as usize].as_mut()) {
-            Some(slot) => slot.next = next,
-            None => self.vertices[owner].first = next,
-        }
-        self.live -= 1;
-        match self.slots[number as usize].take() {
-            Some(slot) => Ok(Cut { number, place, slot }),
-            None => Err(()),
-        }
-    }
-
-    fn revert(&mut self, cut: Cut) {
-        let owner = cut.slot.owner as usize;
-        let mut before = None;
-        let mut link = self.vertices[owner].first;
-        for _ in 0..cut.place {
-            before = link;
-            link = link.and_then(|other| self.slots[other as usize].as_ref()).and_then(|slot| slot.next);
-        }
-        let mut slot = cut.slot;
-        slot.next = link;
-        self.slots[cut.number as usize] = Some(slot);
-        match before.and_then(|other| self.slots[other as usize].as_mut()) {
-            Some(slot) => slot.next = Some(cut.number),
-            None => self.vertices[owner].first = Some(cut.number),
-        }
-        self.live += 1;
+        Ok(self.arena.cut(number))
     }
 
     // The graph of linked records: a record that no chain reaches is a hole.
-    fn build(vertices: &[VertexPart], arcs: Vec<ArcPart>) -> Result<Graph, ()> {
-        let n = vertices.len();
-        let mut graph = Graph::new(n as u32);
-        let mut owners: Vec<u32> = vec![u32::MAX; arcs.len()];
-        for (owner, vertex) in vertices.iter().enumerate() {
-            let mut link = vertex.first;
-            while let Some(number) = link {
-                let part = arcs.get(number as usize).ok_or(())?;
-                if owners[number as usize] != u32::MAX {
-                    return Err(());
-                }
-                owners[number as usize] = owner as u32;
-                link = part.next;
-            }
-            graph.vertices[owner].first = vertex.first;
-        }
-        let can_name = |value: &Util| match value {
-            Util::Vertex(vertex) => (*vertex as usize) < n,
-            Util::Arc(number) => owners.get(*number as usize).is_some_and(|owner| *owner != u32::MAX),
-            _ => true,
+    fn build(vertices: Vec<Vertex>, firsts: Vec<u32>, parts: Vec<ArcPart>) -> Result<Graph, ()> {
+        let hole = |part: ArcPart| Arc {
+            owner: NONE,
+            tip: part.tip,
+            next: part.next,
+            names: 0,
+            len: part.len,
+            fields: part.fields,
         };
-        if !vertices.iter().all(|part| part.fields.iter().all(can_name)) {
-            return Err(());
-        }
-        graph.slots.reserve(arcs.len());
-        for (part, owner) in arcs.iter().zip(&owners) {
-            let leads = match part.tip {
-                Tip::To(vertex) => (vertex as usize) < n,
-                _ => true,
-            };
-            if *owner != u32::MAX && (!leads || !part.fields.iter().all(can_name)) {
-                return Err(());
-            }
-        }
-        for (part, owner) in arcs.into_iter().zip(&owners) {
-            graph.slots.push(if *owner == u32::MAX {
-                None
-            } else {
-                graph.live += 1;
-                Some(Slot { owner: *owner, tip: part.tip, next: part.next, names: 0, len: part.len, fields: part.fields })
-            });
-        }
+        let arcs: Vec<Arc> = parts.into_iter().map(hole).collect();
+        let holes = arcs.len() as u32;
+        let mut graph = Graph { vertices, arena: Arena { firsts, arcs, holes } };
+        graph.lay_chains()?;
+        graph.check_tips()?;
+        graph.count_names()?;
         Ok(graph)
     }
 
-    fn walk(&self) -> u64 {
-        let mut sum = 0u64;
-        for vertex in &self.vertices {
-            let mut link = vertex.first;
-            while let Some(number) = link {
-                sum = sum.wrapping_add(u64::from(number));
-                link = self.slots[number as usize].as_ref().and_then(|slot| slot.next);
+    // Each arc of a chain has the chain's vertex as owner; chains do not meet or return.
+    fn lay_chains(&mut self) -> Result<(), ()> {
+        for (owner, first) in self.arena.firsts.iter().enumerate() {
+            let mut link = *first;
+            while link != NONE {
+                let arc = self.arena.arcs.get_mut(link as usize).ok_or(())?;
+                if arc.owner != NONE {
+                    return Err(());
+                }
+                arc.owner = owner as u32;
+                link = arc.next;
+                self.arena.holes -= 1;
             }
         }
-        sum
+        Ok(())
+    }
+
+    fn check_tips(&mut self) -> Result<(), ()> {
+        let n = self.arena.n();
+        for arc in &mut self.arena.arcs {
+            if arc.owner == NONE {
+                arc.fields = None;
+            } else if arc.tip >= n && arc.tip < ONE {
+                return Err(());
+            }
+        }
+        Ok(())
+    }
+
+    // Each field names what is there.
+    fn count_names(&mut self) -> Result<(), ()> {
+        let of_vertices = self.vertices.iter().flat_map(|vertex| vertex.fields.iter()).flat_map(|fields| fields.iter());
+        let of_arcs = self.arena.arcs.iter().flat_map(|arc| arc.fields.iter()).flat_map(|fields| fields.iter());
+        let mut named = Vec::new();
+        for value in of_vertices.chain(of_arcs) {
+            match value {
+                Util::Vertex(v) if !self.has_vertex(*v) => return Err(()),
+                Util::Arc(number) => named.push(*number),
+                _ => {}
+            }
+        }
+        for number in named {
+            if !self.arena.is_live(number) {
+                return Err(());
+            }
+            self.arena.arcs[number as usize].names += 1;
+        }
+        Ok(())
+    }
+
+    fn walk(&self) -> u64 {
+        let lists = (0..self.arena.n()).flat_map(|v| self.arena.walk(v));
+        lists.fold(0, |sum: u64, (number, _)| sum.wrapping_add(u64::from(number)))
     }
 }
 
@@ -213,17 +145,17 @@ fn ends(i: u32) -> (u32, u32) {
     (i.wrapping_mul(7919) % VERTICES, i.wrapping_mul(31) % VERTICES)
 }
 
-fn parts() -> (Vec<VertexPart>, Vec<ArcPart>) {
-    let zeros = || [Util::Zero, Util::Zero, Util::Zero, Util::Zero, Util::Zero, Util::Zero];
-    let mut vertices: Vec<VertexPart> =
-        (0..VERTICES).map(|_| VertexPart { label: None, fields: zeros(), first: None }).collect();
+fn parts() -> (Vec<Vertex>, Vec<u32>, Vec<ArcPart>) {
+    let mut vertices = Vec::new();
+    vertices.resize_with(VERTICES as usize, Vertex::default);
+    let mut firsts = vec![NONE; VERTICES as usize];
     let mut arcs = Vec::new();
     for i in 0..RECORDS {
         let (from, to) = ends(i);
-        let next = vertices[from as usize].first.replace(i);
-        arcs.push(ArcPart { tip: Tip::To(to), len: 1, fields: [Util::Zero, Util::Zero], next });
+        let next = std::mem::replace(&mut firsts[from as usize], i);
+        arcs.push(ArcPart { tip: to, next, len: 1, fields: None });
     }
-    (vertices, arcs)
+    (vertices, firsts, arcs)
 }
 
 fn main() {
@@ -234,18 +166,19 @@ fn main() {
             let (from, to) = ends(i);
             let _ = graph.new_arc(from, to, 1);
         }
-        tell("new_arc", start, ARCS, u64::from(graph.live));
+        tell("new_arc", start, ARCS, u64::from(graph.arena.live()));
         let start = Instant::now();
         let sum = graph.walk();
         tell("walk", start, ARCS, sum);
         let start = Instant::now();
         for i in 0..CUTS {
-            if let Ok(cut) = graph.cut(i.wrapping_mul(4001) % ARCS) {
-                graph.revert(cut);
+            let number = i.wrapping_mul(4001) % ARCS;
+            if let Ok(cut) = graph.cut(number) {
+                graph.arena.revert(number, &cut);
             }
         }
-        tell("cut_and_revert", start, CUTS, u64::from(graph.live));
-        let lens: i64 = graph.slots.iter().flatten().map(|slot| slot.len).sum();
+        tell("cut_and_revert", start, CUTS, u64::from(graph.arena.live()));
+        let lens: i64 = graph.arena.arcs.iter().map(|arc| arc.len).sum();
         let mut graph = Graph::new(VERTICES);
         let start = Instant::now();
         for i in 0..ARCS / 2 {
@@ -253,11 +186,11 @@ fn main() {
             let _ = graph.new_edge(from, to, 1);
         }
         tell("new_edge", start, ARCS / 2, lens as u64);
-        let tips: u64 = graph.slots.iter().flatten().map(|slot| match slot.tip { Tip::To(v) => u64::from(v), _ => 0 }).sum();
+        let tips: u64 = graph.arena.arcs.iter().map(|arc| u64::from(arc.tip)).sum();
         assert!(tips > 0);
-        let (vertices, arcs) = parts();
+        let (vertices, firsts, arcs) = parts();
         let start = Instant::now();
-        let built = Graph::build(&vertices, arcs);
-        tell("build", start, RECORDS, built.map_or(0, |graph| u64::from(graph.live)));
+        let built = Graph::build(vertices, firsts, arcs);
+        tell("build", start, RECORDS, built.map_or(0, |graph| u64::from(graph.arena.live())));
     }
 }
