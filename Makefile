@@ -94,7 +94,7 @@ $(BENCH)/plain_flip: bench/plain_flip.c
 	$(CC) -O3 -o $@ $<
 
 # For the processors that `rt` builds for.
-$(PLAIN:%=$(BENCH)/%): $(BENCH)/%: bench/%.rs bench/plain/arena.rs bench/plain/flip.rs
+$(PLAIN:%=$(BENCH)/%): $(BENCH)/%: bench/%.rs $(wildcard bench/plain/*.rs)
 	mkdir -p $(BENCH)
 	rustc -O --edition 2021 -C target-cpu=x86-64-v2 -o $@ $<
 

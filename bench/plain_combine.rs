@@ -2,12 +2,13 @@
 // take.
 use std::time::Instant;
 
-const MOST_VERTICES: usize = 65_535;
-const MOST_ARCS: usize = 1_000_000;
-// No arc, and the owner of a hole.
-const NONE: u32 = u32::MAX;
-// Tips that are no vertex are these numbers and above.
-const NO_VERTEX: u32 = u32::MAX - 1;
+#[path = "plain/arena.rs"]
+mod arena;
+#[path = "plain/flip.rs"]
+mod flip;
+
+use arena::{Arc, Arena, MOST_VERTICES, NONE, ONE, Util};
+use flip::{Below, Flip};
 
 #[derive(Debug)]
 enum Refusal {
@@ -17,41 +18,26 @@ enum Refusal {
     TooLarge,
 }
 
-#[allow(dead_code)]
-enum Util {
-    Zero,
-    Int(i64),
-    Vertex(u32),
-    Arc(u32),
-    Text(Box<[u8]>),
-}
-
-struct Arc {
-    owner: u32,
-    tip: u32,
-    next: u32,
-    #[allow(dead_code)]
-    names: u32,
-    len: i64,
-    #[allow(dead_code)]
-    fields: Option<Box<[Util; 2]>>,
+impl From<arena::TooLarge> for Refusal {
+    fn from(_: arena::TooLarge) -> Refusal {
+        Refusal::TooLarge
+    }
 }
 
 struct Vertex {
     label: Box<[u8]>,
     fields: Option<Box<[Util; 6]>>,
-    first: u32,
 }
 
 struct Graph {
     id: String,
     vertices: Vec<Vertex>,
-    arcs: Vec<Arc>,
+    arena: Arena,
 }
 
 impl Graph {
     fn new(id: String, n: usize) -> Graph {
-        Graph { id, vertices: Vec::with_capacity(n), arcs: Vec::new() }
+        Graph { id, vertices: Vec::with_capacity(n), arena: Arena::new(0) }
     }
 
     fn n(&self) -> u32 {
@@ -62,67 +48,37 @@ impl Graph {
         if self.vertices.len() >= MOST_VERTICES {
             return Err(Refusal::TooLarge);
         }
-        self.vertices.push(Vertex { label: label.into(), fields: None, first: NONE });
-        Ok(())
-    }
-
-    // Room for so many arcs, or for as many as a graph may have.
-    fn reserve(&mut self, count: usize) {
-        self.arcs.reserve_exact(count.min(MOST_ARCS));
-    }
-
-    #[inline]
-    fn new_arc(&mut self, from: u32, to: u32, len: i64) -> Result<(), Refusal> {
-        if self.arcs.len() >= MOST_ARCS {
-            return Err(Refusal::TooLarge);
-        }
-        let number = self.arcs.len() as u32;
-        let first = &mut self.vertices[from as usize].first;
-        let next = std::mem::replace(first, number);
-        self.arcs.push(Arc { owner: from, tip: to, next, names: 0, len, fields: None });
-        Ok(())
-    }
-
-    // The arc from the larger end is linked first, so that of a loop the first arc stands before the second.
-    #[inline]
-    fn new_edge(&mut self, from: u32, to: u32, len: i64) -> Result<(), Refusal> {
-        if self.arcs.len() + 2 > MOST_ARCS {
-            return Err(Refusal::TooLarge);
-        }
-        let number = self.arcs.len() as u32;
-        let (low, high) = (from.min(to), from.max(to));
-        let second = std::mem::replace(&mut self.vertices[high as usize].first, number + 1);
-        let first = std::mem::replace(&mut self.vertices[low as usize].first, number);
-        self.arcs.push(Arc { owner: low, tip: high, next: first, names: 0, len, fields: None });
-        self.arcs.push(Arc { owner: high, tip: low, next: second, names: 0, len, fields: None });
+        self.vertices.push(Vertex { label: label.into(), fields: None });
+        self.arena.firsts.push(NONE);
         Ok(())
     }
 
     #[inline]
     fn insert(&mut self, from: u32, to: u32, len: i64, directed: bool) -> Result<(), Refusal> {
-        if directed { self.new_arc(from, to, len) } else { self.new_edge(from, to, len) }
+        self.arena.insert(from, to, len, directed)?;
+        Ok(())
     }
 
     // Lowers the length of an arc, or of both halves of an edge.
     #[inline]
     fn lower(&mut self, number: u32, len: i64, directed: bool) {
-        let arc = &mut self.arcs[number as usize];
+        let arc = &mut self.arena.arcs[number as usize];
         if len < arc.len {
             arc.len = len;
             if !directed {
-                self.arcs[number as usize + 1].len = len;
+                self.arena.arcs[number as usize + 1].len = len;
             }
         }
     }
 
     #[inline]
     fn walk(&self, vertex: u32, directed: bool) -> Walk<'_> {
-        Walk { arcs: &self.arcs, directed, next: self.vertices[vertex as usize].first }
+        Walk { arcs: &self.arena.arcs, directed, next: self.arena.firsts[vertex as usize] }
     }
 
     fn check_operand(&self) -> Result<(), Refusal> {
-        let leads_on = |arc: &Arc| arc.tip < NO_VERTEX || arc.owner == NONE;
-        if self.arcs.iter().all(leads_on) { Ok(()) } else { Err(Refusal::BadOperand) }
+        let leads_on = |arc: &Arc| arc.tip < ONE || arc.owner == NONE;
+        if self.arena.arcs.iter().all(leads_on) { Ok(()) } else { Err(Refusal::BadOperand) }
     }
 }
 
@@ -183,7 +139,7 @@ fn complement(graph: &Graph, copy: bool, loops: bool, directed: bool) -> Result<
     let end = format!(",{},{},{})", copy as u8, loops as u8, directed as u8);
     let mut made = begin_as(id_of_one("complement", &graph.id, &end), graph)?;
     let n = graph.n();
-    made.reserve(if copy { graph.arcs.len() } else { n as usize * n as usize });
+    made.arena.reserve(if copy { graph.arena.arcs.len() } else { n as usize * n as usize });
     let mut tips = Vec::new();
     let mut mark = vec![NONE; n as usize];
     for u in 0..n {
@@ -216,7 +172,7 @@ fn gunion(g: &Graph, h: &Graph, multi: bool, directed: bool) -> Result<Graph, Re
     h.check_operand()?;
     let end = format!(",{},{})", multi as u8, directed as u8);
     let mut made = begin_as(id_of_two("gunion", &g.id, &h.id, &end), g)?;
-    made.reserve(g.arcs.len() + h.arcs.len());
+    made.arena.reserve(g.arena.arcs.len() + h.arena.arcs.len());
     let n = g.n();
     // By target, whose arc was inserted last, and its number.
     let mut marks = vec![(NONE, 0u32); n as usize];
@@ -233,7 +189,7 @@ fn gunion(g: &Graph, h: &Graph, multi: bool, directed: bool) -> Result<Graph, Re
                     made.lower(mark.1, arc.len, directed);
                     continue;
                 }
-                *mark = (v, made.arcs.len() as u32);
+                *mark = (v, made.arena.arcs.len() as u32);
             }
             made.insert(v, arc.tip, arc.len, directed)?;
         }
@@ -246,7 +202,7 @@ fn intersection(g: &Graph, h: &Graph, directed: bool) -> Result<Graph, Refusal> 
     h.check_operand()?;
     let end = format!(",0,{})", directed as u8);
     let mut made = begin_as(id_of_two("intersection", &g.id, &h.id, &end), g)?;
-    made.reserve(g.arcs.len().min(h.arcs.len()));
+    made.arena.reserve(g.arena.arcs.len().min(h.arena.arcs.len()));
     let n = g.n();
     // By target, from whom an arc was met last, and the least length or where that stands.
     let mut mine = vec![(NONE, 0u32); n as usize];
@@ -430,7 +386,7 @@ fn name_images(made: &mut Graph, graph: &Graph, images: &[Image]) -> Result<(), 
 }
 
 fn read_runs(graph: &Graph, images: &[Image], directed: bool) -> Vec<Run> {
-    let mut runs = Vec::with_capacity(graph.arcs.len());
+    let mut runs = Vec::with_capacity(graph.arena.arcs.len());
     for v in 0..graph.n() {
         let from = images[v as usize];
         if from.count == 0 {
@@ -495,7 +451,7 @@ fn induced(graph: &Graph, description: &str, loops: bool, multi: bool, directed:
     if !multi {
         runs = merge_runs(runs, images.len(), directed);
     }
-    made.reserve(if directed { runs.len() } else { 2 * runs.len() });
+    made.arena.reserve(if directed { runs.len() } else { 2 * runs.len() });
     for run in &runs {
         let (from, to) = (images[run.from as usize], images[run.to as usize]);
         let alone = run.from == run.to;
@@ -510,63 +466,11 @@ fn induced(graph: &Graph, description: &str, loops: bool, multi: bool, directed:
     Ok(made)
 }
 
-fn diff(a: u32, b: u32) -> u32 {
-    a.wrapping_sub(b) & 0x7fff_ffff
-}
-
-struct Flip {
-    words: [u32; 55],
-    unread: usize,
-}
-
-impl Flip {
-    fn new(seed: i64) -> Flip {
-        let mut turned = (seed & 0x7fff_ffff) as u32;
-        let (mut before, mut term) = (turned, 1);
-        let mut words = [0; 55];
-        words[54] = before;
-        for j in 1..55 {
-            words[21 * j % 55 - 1] = term;
-            turned = (turned >> 1) | ((turned & 1) << 30);
-            let next = diff(diff(before, term), turned);
-            before = term;
-            term = next;
-        }
-        let mut flip = Flip { words, unread: 54 };
-        for _ in 0..5 {
-            flip.cycle();
-        }
-        flip
-    }
-
-    #[inline(never)]
-    fn cycle(&mut self) {
-        let a = &mut self.words;
-        for i in 0..24 {
-            a[i] = diff(a[i], a[i + 31]);
-        }
-        for i in 24..55 {
-            a[i] = diff(a[i], a[i - 24]);
-        }
-    }
-
-    #[inline]
-    fn next(&mut self) -> u32 {
-        if self.unread == 0 {
-            self.cycle();
-            self.unread = 55;
-        }
-        self.unread -= 1;
-        self.words[self.unread]
-    }
-}
-
 // Draws lengths, and counts the numbers that this takes.
 struct Lengths {
     min: i64,
-    // How many lengths there are, or 0 for one alone, and below what a number must be.
-    count: u32,
-    limit: u32,
+    // Of more lengths than one.
+    below: Option<Below>,
     draws: u64,
 }
 
@@ -578,38 +482,29 @@ impl Lengths {
         if max.abs_diff(min) >= 1 << 31 {
             return Err(Refusal::LengthRange);
         }
-        if min == max {
-            return Ok(Lengths { min, count: 0, limit: 0, draws: 0 });
-        }
-        let count = max.abs_diff(min) as u32 + 1;
-        Ok(Lengths { min, count, limit: (1 << 31) - (1 << 31) % count, draws: 0 })
+        let below = if min == max { None } else { Some(Below::new(max.abs_diff(min) as u32 + 1)) };
+        Ok(Lengths { min, below, draws: 0 })
     }
 
     #[inline]
     fn draw(&mut self, flip: &mut Flip) -> i64 {
-        if self.count == 0 {
-            return self.min;
-        }
-        loop {
-            let number = flip.next();
-            self.draws += 1;
-            if number < self.limit {
-                return self.min + i64::from(number % self.count);
-            }
-        }
+        let Some(below) = self.below else { return self.min };
+        let (number, draws) = flip.uniform(below);
+        self.draws += u64::from(draws);
+        self.min + i64::from(number)
     }
 }
 
 // Each arc leads to a vertex and has its other half.
 fn is_paired(graph: &Graph) -> bool {
     let goes = |number: usize, from: u32, to: u32| {
-        graph.arcs.get(number).is_some_and(|arc| arc.owner == from && arc.tip == to)
+        graph.arena.arcs.get(number).is_some_and(|arc| arc.owner == from && arc.tip == to)
     };
-    for (number, arc) in graph.arcs.iter().enumerate() {
+    for (number, arc) in graph.arena.arcs.iter().enumerate() {
         if arc.owner == NONE || arc.tip == arc.owner {
             continue;
         }
-        let is_matched = if arc.tip >= NO_VERTEX {
+        let is_matched = if arc.tip >= ONE {
             false
         } else if arc.tip < arc.owner {
             number >= 1 && goes(number - 1, arc.tip, arc.owner)
@@ -625,16 +520,16 @@ fn is_paired(graph: &Graph) -> bool {
 
 // Each loop is a second half, or its second half is the next arc of the list.
 fn are_loops_paired(graph: &Graph) -> bool {
-    for vertex in &graph.vertices {
-        let mut link = vertex.first;
+    for first in &graph.arena.firsts {
+        let mut link = *first;
         while link != NONE {
-            let arc = &graph.arcs[link as usize];
+            let arc = &graph.arena.arcs[link as usize];
             let mut next = arc.next;
             if arc.tip == arc.owner {
                 if next != link + 1 {
                     return false;
                 }
-                let second = &graph.arcs[next as usize];
+                let second = &graph.arena.arcs[next as usize];
                 if second.tip != second.owner {
                     return false;
                 }
@@ -660,11 +555,11 @@ fn random_lengths(graph: &mut Graph, flip: &mut Flip, directed: bool, min: i64, 
     }
     let end = format!(",{},{min},{max},0,{seed})", directed as u8);
     let id = id_of_one("random_lengths", &graph.id, &end);
-    let lengths = graph.arcs.iter().map(|arc| if arc.owner == NONE { 0 } else { arc.len }).collect();
+    let lengths = graph.arena.arcs.iter().map(|arc| if arc.owner == NONE { 0 } else { arc.len }).collect();
     for v in 0..graph.n() {
-        let mut link = graph.vertices[v as usize].first;
+        let mut link = graph.arena.firsts[v as usize];
         while link != NONE {
-            let arc = &mut graph.arcs[link as usize];
+            let arc = &mut graph.arena.arcs[link as usize];
             let (tip, mut next) = (arc.tip, arc.next);
             if directed {
                 arc.len = range.draw(flip);
@@ -672,7 +567,7 @@ fn random_lengths(graph: &mut Graph, flip: &mut Flip, directed: bool, min: i64, 
                 // Its other half, which comes later, or is the loop's second half.
                 let len = range.draw(flip);
                 arc.len = len;
-                let second = &mut graph.arcs[link as usize + 1];
+                let second = &mut graph.arena.arcs[link as usize + 1];
                 second.len = len;
                 if tip == v {
                     next = second.next;
@@ -686,7 +581,7 @@ fn random_lengths(graph: &mut Graph, flip: &mut Flip, directed: bool, min: i64, 
 }
 
 fn revert_lengths(graph: &mut Graph, delta: LengthsDelta) {
-    for (arc, len) in graph.arcs.iter_mut().zip(delta.lengths) {
+    for (arc, len) in graph.arena.arcs.iter_mut().zip(delta.lengths) {
         arc.len = len;
     }
     graph.id = delta.id;
@@ -716,7 +611,7 @@ fn with_edges(n: u32, edges: u32, begin: u32, far: bool) -> Graph {
         } else {
             (i, i + begin + i / n * 7 + 1)
         };
-        let _ = graph.new_edge(from % n, to % n, i64::from(1 + i % 1000));
+        let _ = graph.arena.new_edge(from % n, to % n, i64::from(1 + i % 1000));
     }
     graph
 }
@@ -724,7 +619,7 @@ fn with_edges(n: u32, edges: u32, begin: u32, far: bool) -> Graph {
 fn cycle(n: u32) -> Graph {
     let mut graph = named(n);
     for i in 0..n {
-        let _ = graph.new_edge(i, (i + 1) % n, i64::from(1 + i));
+        let _ = graph.arena.new_edge(i, (i + 1) % n, i64::from(1 + i));
     }
     graph
 }
@@ -755,7 +650,7 @@ fn check_of(graph: &Graph) -> u64 {
             check = with(check, u64::from(number));
         }
     }
-    for arc in &graph.arcs {
+    for arc in &graph.arena.arcs {
         if arc.owner != NONE {
             check = with(with(with(check, u64::from(arc.owner)), u64::from(arc.tip)), arc.len.unsigned_abs());
         }

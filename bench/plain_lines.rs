@@ -10,10 +10,13 @@ use std::process::ExitCode;
 
 #[path = "plain/arena.rs"]
 mod arena;
+#[path = "plain/digits.rs"]
+mod digits;
 #[path = "plain/flip.rs"]
 mod flip;
 
 use arena::{Arena, Cut, MOST_VERTICES, Util};
+use digits::{LONGEST, put_digits};
 use flip::{Below, Flip};
 
 const MOST_SCRIPT: usize = 16_777_216;
@@ -50,19 +53,6 @@ struct Output {
     has_failed: bool,
 }
 
-const fn pairs() -> [[u8; 2]; 100] {
-    let mut pairs = [[b'0'; 2]; 100];
-    let mut i = 0;
-    while i < 100 {
-        pairs[i] = [b'0' + (i / 10) as u8, b'0' + (i % 10) as u8];
-        i += 1;
-    }
-    pairs
-}
-
-static PAIRS: [[u8; 2]; 100] = pairs();
-const DIGITS: usize = 24;
-
 impl Output {
     fn put(&mut self, bytes: &[u8]) {
         self.bytes.extend_from_slice(bytes);
@@ -70,23 +60,11 @@ impl Output {
 
     // As many bytes as the longest number has are copied at once, and those that are too many are dropped.
     fn put_number(&mut self, number: u64) {
-        let mut digits = [0; 2 * DIGITS];
-        let (mut at, mut rest) = (DIGITS, number);
-        while rest >= 100 {
-            at -= 2;
-            digits[at..at + 2].copy_from_slice(&PAIRS[(rest % 100) as usize]);
-            rest /= 100;
-        }
-        if rest >= 10 {
-            at -= 2;
-            digits[at..at + 2].copy_from_slice(&PAIRS[rest as usize]);
-        } else {
-            at -= 1;
-            digits[at] = b'0' + rest as u8;
-        }
+        let mut digits = [0; 2 * LONGEST];
+        let at = put_digits(&mut digits, LONGEST, number);
         let len = self.bytes.len();
-        self.bytes.extend_from_slice(&digits[at..at + DIGITS]);
-        self.bytes.truncate(len + DIGITS - at);
+        self.bytes.extend_from_slice(&digits[at..at + LONGEST]);
+        self.bytes.truncate(len + LONGEST - at);
     }
 
     fn put_with(&mut self, before: &[u8], number: u64) {

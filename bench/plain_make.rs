@@ -3,13 +3,17 @@ use std::collections::HashMap;
 use std::collections::hash_map::Entry;
 use std::hash::{BuildHasherDefault, Hasher};
 use std::hint::black_box;
-use std::mem::replace;
 use std::time::{Duration, Instant};
 
-const MOST_VERTICES: usize = 65_535;
-const MOST_ARCS: usize = 1_000_000;
+#[path = "plain/arena.rs"]
+mod arena;
+#[path = "plain/flip.rs"]
+mod flip;
+
+use arena::{Arena, MOST_ARCS, MOST_VERTICES, NONE};
+use flip::{Below, Flip};
+
 const MOST_ATTEMPTS: u32 = 10_000_000;
-const NONE: u32 = u32::MAX;
 const COUNT: u32 = 200_000_000;
 
 #[derive(Debug)]
@@ -19,82 +23,6 @@ enum Refusal {
     TooLarge,
     BadOperand,
     Stuck,
-}
-
-// The generator.
-
-struct Flip {
-    words: [u32; 55],
-    unread: usize,
-}
-
-fn less(a: u32, b: u32) -> u32 {
-    a.wrapping_sub(b) & 0x7fff_ffff
-}
-
-impl Flip {
-    fn new(seed: i64) -> Flip {
-        let mut flip = Flip { words: [0; 55], unread: 54 };
-        let mut bits = (seed & 0x7fff_ffff) as u32;
-        let (mut before, mut now) = (bits, 1);
-        flip.words[54] = before;
-        let mut i = 21;
-        while i != 0 {
-            flip.words[i - 1] = now;
-            now = less(before, now);
-            bits = (bits >> 1) | ((bits & 1) << 30);
-            now = less(now, bits);
-            before = flip.words[i - 1];
-            i = (i + 21) % 55;
-        }
-        for _ in 0..5 {
-            flip.cycle();
-        }
-        flip
-    }
-
-    #[inline(never)]
-    fn cycle(&mut self) {
-        for i in 0..24 {
-            self.words[i] = less(self.words[i], self.words[i + 31]);
-        }
-        for i in 24..55 {
-            self.words[i] = less(self.words[i], self.words[i - 24]);
-        }
-    }
-
-    #[inline]
-    fn next(&mut self) -> u32 {
-        if self.unread == 0 {
-            self.cycle();
-            self.unread = 55;
-        }
-        self.unread -= 1;
-        self.words[self.unread]
-    }
-
-    #[inline]
-    fn uniform(&mut self, below: Below) -> u32 {
-        loop {
-            let number = self.next();
-            if number < below.end {
-                return number % below.bound;
-            }
-        }
-    }
-}
-
-// The numbers below a bound, and the greatest multiple of it that draws stay below.
-#[derive(Clone, Copy)]
-struct Below {
-    bound: u32,
-    end: u32,
-}
-
-impl Below {
-    fn new(bound: u32) -> Below {
-        Below { bound, end: 0x8000_0000 - 0x8000_0000 % bound }
-    }
 }
 
 // Graphs.
@@ -110,24 +38,6 @@ enum Util {
 
 const ZEROS: [Util; 6] = [Util::Zero, Util::Zero, Util::Zero, Util::Zero, Util::Zero, Util::Zero];
 
-#[allow(dead_code)]
-struct Rare {
-    names: u32,
-    fields: [Util; 2],
-}
-
-// A tip is 0, 1, or 2 and the number of a vertex.
-#[allow(dead_code)]
-struct Arc {
-    len: i64,
-    rare: Option<Box<Rare>>,
-    owner: u32,
-    tip: u32,
-    next: u32,
-}
-
-const _: () = assert!(size_of::<Arc>() == 32);
-
 struct Vertex {
     name: Box<[u8]>,
     fields: [Util; 6],
@@ -139,19 +49,18 @@ struct Graph {
     types: [u8; 14],
     fields: [Util; 6],
     vertices: Vec<Vertex>,
-    firsts: Vec<u32>,
-    arcs: Vec<Arc>,
+    arena: Arena,
     directed: bool,
 }
 
 impl Graph {
     fn new(id: String, types: &[u8; 14], directed: bool) -> Graph {
-        Graph { id, types: *types, fields: ZEROS, vertices: Vec::new(), firsts: Vec::new(), arcs: Vec::new(), directed }
+        Graph { id, types: *types, fields: ZEROS, vertices: Vec::new(), arena: Arena::new(0), directed }
     }
 
     fn reserve_vertices(&mut self, count: usize) {
         self.vertices.reserve(count);
-        self.firsts.reserve(count);
+        self.arena.firsts.reserve(count);
     }
 
     fn push_vertex(&mut self, name: &[u8], fields: [Util; 6]) -> Result<(), Refusal> {
@@ -159,42 +68,17 @@ impl Graph {
             return Err(Refusal::TooLarge);
         }
         self.vertices.push(Vertex { name: name.into(), fields });
-        self.firsts.push(NONE);
+        self.arena.firsts.push(NONE);
         Ok(())
     }
 
     #[inline]
     fn insert(&mut self, from: u32, to: u32, len: i64) -> Result<(), Refusal> {
-        let n = self.firsts.len() as u32;
+        let n = self.arena.n();
         if from >= n || to >= n {
             return Err(Refusal::BadOperand);
         }
-        let count = if self.directed { 1 } else { 2 };
-        if self.arcs.len() + count > MOST_ARCS {
-            return Err(Refusal::TooLarge);
-        }
-        if self.arcs.len() + count > self.arcs.capacity() {
-            self.grow();
-        }
-        let number = self.arcs.len() as u32;
-        if self.directed {
-            let next = replace(&mut self.firsts[from as usize], number);
-            self.arcs.push(Arc { len, rare: None, owner: from, tip: to + 2, next });
-        } else {
-            let (low, high) = (from.min(to), from.max(to));
-            let second = replace(&mut self.firsts[high as usize], number + 1);
-            let first = replace(&mut self.firsts[low as usize], number);
-            self.arcs.push(Arc { len, rare: None, owner: low, tip: high + 2, next: first });
-            self.arcs.push(Arc { len, rare: None, owner: high, tip: low + 2, next: second });
-        }
-        Ok(())
-    }
-
-    // Room for as many arcs more as there are, but for no more than a graph may have.
-    #[cold]
-    fn grow(&mut self) {
-        let room = (2 * self.arcs.len()).clamp(64, MOST_ARCS);
-        self.arcs.reserve_exact(room - self.arcs.len());
+        self.arena.insert(from, to, len, self.directed).map(|_| ()).map_err(|_| Refusal::TooLarge)
     }
 
     // A number of all that the graph is: its id, its vertices, and its arcs in the order of their lists.
@@ -207,14 +91,11 @@ impl Graph {
                 check = with_number(check, number);
             }
         }
-        for first in &self.firsts {
-            let mut number = *first;
-            while number != NONE {
-                let arc = &self.arcs[number as usize];
+        for v in 0..self.arena.n() {
+            for (number, arc) in self.arena.walk(v) {
                 check = with_number(check, u64::from(number));
-                check = with_number(check, u64::from(arc.tip - 2));
+                check = with_number(check, u64::from(arc.tip));
                 check = with_number(check, arc.len.unsigned_abs());
-                number = arc.next;
             }
         }
         check
@@ -718,7 +599,7 @@ fn perms(numbers: [i64; 5], max_inv: i64, directed: bool) -> Result<Graph, Refus
     let index = Index::new(&rows, width);
     let count =
         rows.chunks_exact(width).map(|row| row.windows(2).filter(|pair| pair[1] < pair[0]).count()).sum::<usize>();
-    graph.arcs.reserve((if directed { count } else { 2 * count }).min(MOST_ARCS));
+    graph.arena.reserve(if directed { count } else { 2 * count });
     let mut moved = vec![0; index.width];
     for (v, row) in rows.chunks_exact(width).enumerate() {
         moved.copy_from_slice(index.row(v));
@@ -922,12 +803,12 @@ fn random_graph(spec: Random, seed: i64) -> Result<Graph, Refusal> {
         dotted(&mut name, &[v]);
         graph.push_vertex(&name, ZEROS)?;
     }
-    graph.arcs.reserve((m * numbers) as usize);
+    graph.arena.reserve((m * numbers) as usize);
     let mut flip = Flip::new(seed);
     let (ends, lengths) = (Below::new(n as u32), Below::new(max.abs_diff(min) as u32 + 1));
     let length = |flip: &mut Flip| match lengths.bound {
         1 => min,
-        _ => min + i64::from(flip.uniform(lengths)),
+        _ => min + i64::from(flip.uniform(lengths).0),
     };
     let pairs = if multi > 0 { 0 } else { m as usize };
     let mut pairs = Pairs::with_capacity_and_hasher(pairs, Default::default());
@@ -936,8 +817,8 @@ fn random_graph(spec: Random, seed: i64) -> Result<Graph, Refusal> {
         if made == m {
             return Ok(graph);
         }
-        let from = flip.uniform(ends);
-        let to = flip.uniform(ends);
+        let from = flip.uniform(ends).0;
+        let to = flip.uniform(ends).0;
         if from == to && !loops {
             continue;
         }
@@ -945,12 +826,12 @@ fn random_graph(spec: Random, seed: i64) -> Result<Graph, Refusal> {
             let (first, second) = if directed { (from, to) } else { (from.min(to), from.max(to)) };
             match pairs.entry(first << 16 | second) {
                 Entry::Vacant(entry) => {
-                    entry.insert(graph.arcs.len() as u32);
+                    entry.insert(graph.arena.arcs.len() as u32);
                 }
                 Entry::Occupied(entry) => {
                     if multi < 0 {
                         let len = length(&mut flip);
-                        for arc in &mut graph.arcs[*entry.get() as usize..][..numbers as usize] {
+                        for arc in &mut graph.arena.arcs[*entry.get() as usize..][..numbers as usize] {
                             arc.len = arc.len.min(len);
                         }
                         made += 1;

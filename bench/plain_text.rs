@@ -2,19 +2,18 @@
 // for a byte of the text.
 use std::time::Instant;
 
-// No arc, and the owner of a hole.
-const NONE: u32 = u32::MAX;
-// Tips that are no vertex.
-const ONE: u32 = u32::MAX - 1;
-const ZERO: u32 = u32::MAX;
-const MOST_VERTICES: u64 = 65_535;
-const MOST_ARCS: u64 = 1_000_000;
+#[path = "plain/arena.rs"]
+mod arena;
+#[path = "plain/digits.rs"]
+mod digits;
+
+use arena::{Arc, Arena, MOST_ARCS, MOST_VERTICES, NONE, ONE, Util, ZERO};
+use digits::{LONGEST, put_digits};
+
 const WIDTH: usize = 79;
 const PART: usize = 78;
 const PRIME: u64 = (1 << 30) - 83;
 const BLOCK: usize = 32;
-// The bytes of the longest mark, number and comma.
-const LONGEST: usize = 24;
 const ALPHABET: &[u8; 95] = b"0123456789ABCDEFGHIJKLMNOPQRSTUVWXYZabcdefghijklmnopqrstuvwxyz_^~&@,;.:?!%#$+-*/|\\<=>()[]{}`'\" ";
 
 #[derive(Debug)]
@@ -24,27 +23,9 @@ enum Refusal {
     CheckWrong,
 }
 
-enum Util {
-    Zero,
-    Int(i64),
-    Vertex(u32),
-    Arc(u32),
-    Text(Box<[u8]>),
-}
-
-struct Arc {
-    owner: u32,
-    tip: u32,
-    next: u32,
-    names: u32,
-    len: i64,
-    fields: Option<Box<[Util; 2]>>,
-}
-
 struct Vertex {
     label: Box<[u8]>,
     fields: Option<Box<[Util; 6]>>,
-    first: u32,
 }
 
 struct Graph {
@@ -52,8 +33,7 @@ struct Graph {
     types: [u8; 14],
     fields: [Util; 6],
     vertices: Vec<Vertex>,
-    arcs: Vec<Arc>,
-    live: u32,
+    arena: Arena,
 }
 
 const ZEROS: [Util; 6] = [Util::Zero, Util::Zero, Util::Zero, Util::Zero, Util::Zero, Util::Zero];
@@ -70,18 +50,6 @@ const fn codes() -> [u8; 256] {
 }
 
 static CODES: [u8; 256] = codes();
-
-const fn pairs() -> [[u8; 2]; 100] {
-    let mut pairs = [[b'0'; 2]; 100];
-    let mut i = 0;
-    while i < 100 {
-        pairs[i] = [b'0' + (i / 10) as u8, b'0' + (i % 10) as u8];
-        i += 1;
-    }
-    pairs
-}
-
-static PAIRS: [[u8; 2]; 100] = pairs();
 
 // The sum is reduced once for a block.
 fn check_number(body: &[u8]) -> u64 {
@@ -127,19 +95,7 @@ impl Page {
             at -= 1;
             bytes[at] = b',';
         }
-        let mut rest = number;
-        while rest >= 100 {
-            at -= 2;
-            bytes[at..at + 2].copy_from_slice(&PAIRS[(rest % 100) as usize]);
-            rest /= 100;
-        }
-        if rest >= 10 {
-            at -= 2;
-            bytes[at..at + 2].copy_from_slice(&PAIRS[rest as usize]);
-        } else {
-            at -= 1;
-            bytes[at] = b'0' + rest as u8;
-        }
+        at = put_digits(&mut bytes, at, number);
         if mark != 0 {
             at -= 1;
             bytes[at] = mark;
@@ -227,29 +183,29 @@ fn is_any_written(letters: &[u8]) -> bool {
 }
 
 fn save(graph: &Graph) -> (Vec<u8>, u64) {
-    let room = 64 + 5 * graph.vertices.len() + 6 * graph.arcs.len();
+    let room = 64 + 5 * graph.vertices.len() + 6 * graph.arena.arcs.len();
     let mut page = Page { text: Vec::with_capacity(room), column: 0 };
     page.text.extend_from_slice(b"* GraphBase graph (util_types ");
     page.text.extend_from_slice(&graph.types);
-    page.text.extend_from_slice(format!(",{}V,{}A)\n", graph.vertices.len(), graph.arcs.len()).as_bytes());
+    page.text.extend_from_slice(format!(",{}V,{}A)\n", graph.vertices.len(), graph.arena.arcs.len()).as_bytes());
     let start = page.text.len();
     let (vertex_letters, rest) = graph.types.split_at(6);
     let (arc_letters, graph_letters) = rest.split_at(2);
     page.quoted(&graph.id, true);
     page.number(0, graph.vertices.len() as u64, true);
-    page.number(0, u64::from(graph.live), is_any_written(graph_letters));
+    page.number(0, u64::from(graph.arena.live()), is_any_written(graph_letters));
     let mut cleaned = page.fields(graph_letters, &graph.fields);
     page.text.extend_from_slice(b"* Vertices\n");
     let more = is_any_written(vertex_letters);
-    for vertex in &graph.vertices {
+    for (vertex, first) in graph.vertices.iter().zip(&graph.arena.firsts) {
         page.quoted(&vertex.label, true);
-        page.link(vertex.first, more);
+        page.link(*first, more);
         let fields: &[Util; 6] = vertex.fields.as_deref().unwrap_or(&ZEROS);
         cleaned += page.fields(vertex_letters, fields);
     }
     page.text.extend_from_slice(b"* Arcs\n");
     let more = is_any_written(arc_letters);
-    for arc in &graph.arcs {
+    for arc in &graph.arena.arcs {
         if arc.owner == NONE {
             page.tip(ZERO, true);
             page.link(NONE, true);
@@ -440,7 +396,7 @@ fn restore(text: &[u8], compares: bool) -> Result<Graph, Refusal> {
     if !matches!(reader.rest.first(), None | Some(b'\n')) {
         return Err(Refusal::Syntax);
     }
-    if vertices > MOST_VERTICES || arcs > MOST_ARCS {
+    if vertices > MOST_VERTICES as u64 || arcs > MOST_ARCS as u64 {
         return Err(Refusal::TooLarge);
     }
     reader.word(b"\n")?;
@@ -467,7 +423,7 @@ fn read_records(reader: &mut Reader, types: [u8; 14], vertices: u64, arcs: u64) 
     let n = reader.count()?;
     reader.comma()?;
     reader.signed()?;
-    let mut graph = Graph { id, types, fields: ZEROS, vertices: Vec::new(), arcs: Vec::new(), live: 0 };
+    let mut graph = Graph { id, types, fields: ZEROS, vertices: Vec::new(), arena: Arena::new(0) };
     reader.fields(&types[8..], &mut graph.fields)?;
     if n > vertices {
         return Err(Refusal::Syntax);
@@ -480,11 +436,13 @@ fn read_records(reader: &mut Reader, types: [u8; 14], vertices: u64, arcs: u64) 
         reader.comma()?;
         let first = reader.link()?;
         let fields = reader.boxed(&types[..6], is_written)?;
-        graph.vertices.push(Vertex { label, fields, first });
+        graph.vertices.push(Vertex { label, fields });
+        graph.arena.firsts.push(first);
     }
     graph.vertices.truncate(n as usize);
+    graph.arena.firsts.truncate(n as usize);
     reader.word(b"* Arcs\n")?;
-    graph.arcs.reserve_exact((arcs as usize).min(reader.rest.len() / 6));
+    graph.arena.arcs.reserve_exact((arcs as usize).min(reader.rest.len() / 6));
     let is_written = is_any_written(&types[6..8]);
     for _ in 0..arcs {
         let tip = reader.tip()?;
@@ -493,27 +451,28 @@ fn read_records(reader: &mut Reader, types: [u8; 14], vertices: u64, arcs: u64) 
         reader.comma()?;
         let len = reader.signed()?;
         let fields = reader.boxed(&types[6..8], is_written)?;
-        graph.arcs.push(Arc { owner: NONE, tip, next, names: 0, len, fields });
+        graph.arena.arcs.push(Arc { owner: NONE, tip, next, names: 0, len, fields });
     }
+    graph.arena.holes = graph.arena.arcs.len() as u32;
     Ok(graph)
 }
 
 // Each arc of a chain has the chain's vertex as owner; chains do not meet or return.
 fn lay_chains(graph: &mut Graph) -> Read<()> {
-    let n = graph.vertices.len() as u32;
+    let n = graph.arena.n();
     for v in 0..n {
-        let mut link = graph.vertices[v as usize].first;
+        let mut link = graph.arena.firsts[v as usize];
         while link != NONE {
-            let arc = graph.arcs.get_mut(link as usize).ok_or(Refusal::Syntax)?;
+            let arc = graph.arena.arcs.get_mut(link as usize).ok_or(Refusal::Syntax)?;
             if arc.owner != NONE || (arc.tip >= n && arc.tip < ONE) {
                 return Err(Refusal::Syntax);
             }
             arc.owner = v;
             link = arc.next;
-            graph.live += 1;
+            graph.arena.holes -= 1;
         }
     }
-    for arc in &mut graph.arcs {
+    for arc in &mut graph.arena.arcs {
         if arc.owner == NONE {
             arc.fields = None;
         }
@@ -538,10 +497,10 @@ fn count_names(graph: &mut Graph) -> Read<()> {
         graph.vertices.iter().flat_map(|vertex| vertex.fields.iter()).flat_map(|fields| fields.iter()).try_for_each(&mut name)?;
     }
     if is_any_written(&graph.types[6..8]) {
-        graph.arcs.iter().flat_map(|arc| arc.fields.iter()).flat_map(|fields| fields.iter()).try_for_each(&mut name)?;
+        graph.arena.arcs.iter().flat_map(|arc| arc.fields.iter()).flat_map(|fields| fields.iter()).try_for_each(&mut name)?;
     }
     for k in named {
-        match graph.arcs.get_mut(k as usize) {
+        match graph.arena.arcs.get_mut(k as usize) {
             Some(arc) if arc.owner != NONE => arc.names += 1,
             _ => return Err(Refusal::Syntax),
         }
@@ -558,20 +517,13 @@ fn mixed(number: u32) -> u32 {
 
 fn with_edges(n: u32, edges: u32) -> Graph {
     let id = format!("gb_new_graph({n})").into_bytes().into();
-    let mut graph = Graph { id, types: [b'Z'; 14], fields: ZEROS, vertices: Vec::new(), arcs: Vec::new(), live: 0 };
+    let mut graph = Graph { id, types: [b'Z'; 14], fields: ZEROS, vertices: Vec::new(), arena: Arena::new(n) };
     for v in 0..n {
-        graph.vertices.push(Vertex { label: v.to_string().into_bytes().into(), fields: None, first: NONE });
+        graph.vertices.push(Vertex { label: v.to_string().into_bytes().into(), fields: None });
     }
     for i in 0..edges {
         let (from, to) = (mixed(2 * i) % n, mixed(2 * i + 1) % n);
-        let (low, high) = (from.min(to), from.max(to));
-        let number = graph.arcs.len() as u32;
-        let second = std::mem::replace(&mut graph.vertices[high as usize].first, number + 1);
-        let first = std::mem::replace(&mut graph.vertices[low as usize].first, number);
-        let len = i64::from(1 + i % 1000);
-        graph.arcs.push(Arc { owner: low, tip: high, next: first, names: 0, len, fields: None });
-        graph.arcs.push(Arc { owner: high, tip: low, next: second, names: 0, len, fields: None });
-        graph.live += 2;
+        let _ = graph.arena.new_edge(from, to, i64::from(1 + i % 1000));
     }
     graph
 }
@@ -584,7 +536,7 @@ fn with_texts() -> Graph {
     for (v, vertex) in graph.vertices.iter_mut().enumerate() {
         vertex.fields = Some(Box::new([(); 6].map(|_| text(format!("a text of some forty bytes of vertex {v}")))));
     }
-    for (k, arc) in graph.arcs.iter_mut().enumerate() {
+    for (k, arc) in graph.arena.arcs.iter_mut().enumerate() {
         let long = format!("a text of more than one line and of less than two, since such texts may be met, in the field b of arc {k}");
         arc.fields = Some(Box::new([text(format!("a short text, {k}")), text(long)]));
     }

@@ -69,6 +69,23 @@ impl Arena {
         self.arcs.len() + count <= MOST_ARCS
     }
 
+    // Room for arcs more, or the refusal: there is never room for more than a graph may have.
+    #[inline]
+    fn make_room(&mut self, count: usize) -> Result<(), TooLarge> {
+        if self.arcs.capacity() - self.arcs.len() >= count { Ok(()) } else { self.grow(count) }
+    }
+
+    // Room for as many arcs more as there are.
+    #[cold]
+    fn grow(&mut self, count: usize) -> Result<(), TooLarge> {
+        if !self.has_room(count) {
+            return Err(TooLarge);
+        }
+        let room = (2 * self.arcs.len()).clamp(64, MOST_ARCS);
+        self.arcs.reserve_exact(room - self.arcs.len());
+        Ok(())
+    }
+
     #[inline]
     fn link(&mut self, owner: u32, number: u32) -> u32 {
         replace(&mut self.firsts[owner as usize], number)
@@ -76,9 +93,7 @@ impl Arena {
 
     #[inline]
     pub fn new_arc(&mut self, from: u32, to: u32, len: i64) -> Result<u32, TooLarge> {
-        if !self.has_room(1) {
-            return Err(TooLarge);
-        }
+        self.make_room(1)?;
         let number = self.arcs.len() as u32;
         let next = self.link(from, number);
         self.arcs.push(Arc { owner: from, tip: to, next, names: 0, len, fields: None });
@@ -88,9 +103,7 @@ impl Arena {
     // The arc from the larger end is linked first, so that of a loop the first arc stands before the second.
     #[inline]
     pub fn new_edge(&mut self, from: u32, to: u32, len: i64) -> Result<u32, TooLarge> {
-        if !self.has_room(2) {
-            return Err(TooLarge);
-        }
+        self.make_room(2)?;
         let number = self.arcs.len() as u32;
         let (low, high) = (from.min(to), from.max(to));
         let second = self.link(high, number + 1);
