@@ -45,6 +45,10 @@ const JOURNAL_IS_FULL: Refusal = Refusal("105 journal is full");
 
 type Answer<T> = Result<T, Refusal>;
 
+fn ensure(is_so: bool, refusal: Refusal) -> Answer<()> {
+    if is_so { Ok(()) } else { Err(refusal) }
+}
+
 // The transcript, written in blocks.
 
 struct Output {
@@ -98,51 +102,36 @@ impl Output {
     }
 }
 
-// Words.
-
-enum Word<'a> {
-    Plain(&'a [u8]),
-    Text(&'a [u8]),
-}
+// Words; of a text its first quote shows that it is one.
 
 struct Words<'a> {
     rest: &'a [u8],
 }
 
 impl<'a> Words<'a> {
-    fn next(&mut self) -> Answer<Word<'a>> {
+    fn next(&mut self) -> Answer<&'a [u8]> {
         let spaces = self.rest.iter().take_while(|byte| **byte == b' ').count();
-        self.rest = &self.rest[spaces..];
-        if let [b'"', text @ ..] = self.rest {
+        let line = &self.rest[spaces..];
+        if let [b'"', text @ ..] = line {
             let end = text.iter().position(|byte| *byte == b'"').ok_or(BAD_COMMAND)?;
-            let (text, rest) = (&text[..end], &text[end + 1..]);
-            if text.len() > MOST_TEXT || text.contains(&b'\\') || !matches!(rest, [] | [b' ', ..]) {
-                return Err(BAD_COMMAND);
-            }
-            self.rest = rest;
-            return Ok(Word::Text(text));
+            self.rest = &text[end + 1..];
+            ensure(end <= MOST_TEXT && !text[..end].contains(&b'\\'), BAD_COMMAND)?;
+            ensure(matches!(self.rest, [] | [b' ', ..]), BAD_COMMAND)?;
+            return Ok(&line[..end + 1]);
         }
-        let end = self.rest.iter().position(|byte| *byte == b' ').unwrap_or(self.rest.len());
-        if end == 0 {
-            return Err(BAD_COMMAND);
-        }
-        let (word, rest) = self.rest.split_at(end);
+        let end = line.iter().position(|byte| *byte == b' ').unwrap_or(line.len());
+        let (word, rest) = line.split_at(end);
         self.rest = rest;
-        Ok(Word::Plain(word))
+        if word.is_empty() { Err(BAD_COMMAND) } else { Ok(word) }
     }
 
     fn plain(&mut self) -> Answer<&'a [u8]> {
-        match self.next()? {
-            Word::Plain(word) => Ok(word),
-            Word::Text(_) => Err(BAD_COMMAND),
-        }
+        let word = self.next()?;
+        if word[0] == b'"' { Err(BAD_COMMAND) } else { Ok(word) }
     }
 
     fn text(&mut self) -> Answer<&'a [u8]> {
-        match self.next()? {
-            Word::Plain(_) => Err(BAD_COMMAND),
-            Word::Text(text) => Ok(text),
-        }
+        self.next()?.strip_prefix(b"\"").ok_or(BAD_COMMAND)
     }
 
     fn number(&mut self) -> Answer<i64> {
@@ -152,16 +141,14 @@ impl<'a> Words<'a> {
     fn name(&mut self) -> Answer<&'a [u8]> {
         let name = self.plain()?;
         let is_letter = |byte: &u8| byte.is_ascii_alphanumeric() || *byte == b'_';
-        if name.len() <= MOST_NAME && name[0].is_ascii_alphabetic() && name.iter().all(is_letter) {
-            Ok(name)
-        } else {
-            Err(BAD_COMMAND)
-        }
+        ensure(name.len() <= MOST_NAME && name[0].is_ascii_alphabetic() && name.iter().all(is_letter), BAD_COMMAND)?;
+        Ok(name)
     }
 
     fn letters(&mut self) -> Answer<[u8; 14]> {
         let letters: [u8; 14] = self.plain()?.try_into().map_err(|_| BAD_COMMAND)?;
-        if letters.iter().all(|letter| b"ZIVSA".contains(letter)) { Ok(letters) } else { Err(BAD_COMMAND) }
+        ensure(letters.iter().all(|letter| b"ZIVSA".contains(letter)), BAD_COMMAND)?;
+        Ok(letters)
     }
 
     fn place(&mut self) -> Answer<Place> {
@@ -175,11 +162,11 @@ impl<'a> Words<'a> {
 
     fn value(&mut self) -> Answer<Util> {
         Ok(match self.next()? {
-            Word::Text(b"") => Util::Zero,
-            Word::Text(text) => Util::Text(text.into()),
-            Word::Plain([b'V', digits @ ..]) => Util::Vertex(index_of(digits)?),
-            Word::Plain([b'A', digits @ ..]) => Util::Arc(index_of(digits)?),
-            Word::Plain(word) => match number_of(word)? {
+            b"\"" => Util::Zero,
+            [b'"', text @ ..] => Util::Text(text.into()),
+            [b'V', digits @ ..] => Util::Vertex(index_of(digits)?),
+            [b'A', digits @ ..] => Util::Arc(index_of(digits)?),
+            word => match number_of(word)? {
                 0 => Util::Zero,
                 number => Util::Int(number),
             },
@@ -187,7 +174,7 @@ impl<'a> Words<'a> {
     }
 
     fn end(&self) -> Answer<()> {
-        if self.rest.iter().all(|byte| *byte == b' ') { Ok(()) } else { Err(BAD_COMMAND) }
+        ensure(self.rest.iter().all(|byte| *byte == b' '), BAD_COMMAND)
     }
 }
 
@@ -195,7 +182,8 @@ fn number_of(word: &[u8]) -> Answer<i64> {
     let magnitude = |digits| magnitude_of(digits).ok_or(BAD_COMMAND);
     if let [b'-', digits @ ..] = word {
         let number = magnitude(digits)?;
-        return if number <= 1 << 63 { Ok((number as i64).wrapping_neg()) } else { Err(BAD_COMMAND) };
+        ensure(number <= 1 << 63, BAD_COMMAND)?;
+        return Ok((number as i64).wrapping_neg());
     }
     i64::try_from(magnitude(word)?).map_err(|_| BAD_COMMAND)
 }
@@ -209,7 +197,11 @@ fn magnitude_of(digits: &[u8]) -> Option<u64> {
         if digit > 9 {
             return None;
         }
-        value = if is_short { value * 10 + u64::from(digit) } else { value.checked_mul(10)?.checked_add(u64::from(digit))? };
+        value = if is_short {
+            value * 10 + u64::from(digit)
+        } else {
+            value.checked_mul(10)?.checked_add(u64::from(digit))?
+        };
     }
     if digits.is_empty() { None } else { Some(value) }
 }
@@ -272,7 +264,8 @@ impl Graph {
     }
 
     fn vertex(&self, v: i64) -> Answer<u32> {
-        if v >= 0 && (v as u64) < self.vertices.len() as u64 { Ok(v as u32) } else { Err(BAD_OPERAND) }
+        ensure(v >= 0 && v < self.vertices.len() as i64, BAD_OPERAND)?;
+        Ok(v as u32)
     }
 
     fn arc(&self, k: i64) -> Answer<u32> {
@@ -291,7 +284,7 @@ impl Graph {
             Util::Arc(k) => self.arena.is_live(*k),
             _ => true,
         };
-        if has_place && names_one { Ok(()) } else { Err(BAD_OPERAND) }
+        ensure(has_place && names_one, BAD_OPERAND)
     }
 
     // The field gets the value, and the value is what the field had.
@@ -434,8 +427,8 @@ impl Session {
                 return out.put(b"\n");
             }
             Step::Make(graph) => {
-                self.table.extend(graph.take());
-                return self.table.last().into_iter().for_each(|graph| graph.tell_counts(out));
+                graph.iter().for_each(|graph| graph.tell_counts(out));
+                return self.table.extend(graph.take());
             }
             Step::Insert { at, directed, from, to, len } => {
                 let arena = &mut self.table[*at as usize].arena;
@@ -477,7 +470,9 @@ impl Session {
                 graph.count_names(*number, true);
                 cut.take().into_iter().for_each(|cut| graph.arena.revert(*number, &cut));
             }
-            Step::Drop { at, graph } => graph.take().into_iter().for_each(|graph| self.table.insert(*at as usize, graph)),
+            Step::Drop { at, graph } => {
+                graph.take().into_iter().for_each(|graph| self.table.insert(*at as usize, graph))
+            }
             exchange => self.swap(exchange),
         }
     }
@@ -489,7 +484,9 @@ impl Session {
             Step::Len { at, number, len } => swap(&mut self.table[*at as usize].arena.arcs[*number as usize].len, len),
             Step::Set { at, field, place, value } => self.table[*at as usize].swap_field(*place, *field, value),
             Step::Types { at, letters } => swap(&mut self.table[*at as usize].types, letters),
-            Step::Label { at, vertex, text } => swap(&mut self.table[*at as usize].vertices[*vertex as usize].label, text),
+            Step::Label { at, vertex, text } => {
+                swap(&mut self.table[*at as usize].vertices[*vertex as usize].label, text)
+            }
             Step::Id { at, text } => swap(&mut self.table[*at as usize].id, text),
             _ => {}
         }
@@ -528,9 +525,7 @@ impl Shell {
     }
 
     fn answer(&mut self, line: &[u8], is_clean: bool) -> Answer<()> {
-        if !is_clean || line.len() > MOST_LINE {
-            return Err(BAD_COMMAND);
-        }
+        ensure(is_clean && line.len() <= MOST_LINE, BAD_COMMAND)?;
         if line.first() == Some(&b'#') || line.iter().all(|byte| *byte == b' ') {
             return Ok(());
         }
@@ -608,17 +603,17 @@ impl Shell {
             b"seed" => {
                 let seed = words.number()?;
                 words.end()?;
-                        Ok(Step::Seed(Box::new(Source::new(seed))))
+                Ok(Step::Seed(Box::new(Source::new(seed))))
             }
             b"next" => {
                 words.end()?;
-                        Ok(Step::Next)
+                Ok(Step::Next)
             }
             b"unif" => {
                 let bound = words.number()?;
                 words.end()?;
-                        let is_good = (1..=1 << 31).contains(&bound);
-                if is_good { Ok(Step::Unif { bound: bound as u32, draws: 0 }) } else { Err(BAD_SPECIFICATION) }
+                ensure((1..=1 << 31).contains(&bound), BAD_SPECIFICATION)?;
+                Ok(Step::Unif { bound: bound as u32, draws: 0 })
             }
             b"graph" => {
                 let (name, n) = (words.name()?, words.number()?);
@@ -631,11 +626,8 @@ impl Shell {
                 let (at, graph) = self.changed(name)?;
                 let (from, to) = (graph.vertex(u)?, graph.vertex(v)?);
                 let directed = command == b"arc";
-                if graph.arena.has_room(if directed { 1 } else { 2 }) {
-                    Ok(Step::Insert { at, directed, from, to, len })
-                } else {
-                    Err(TOO_LARGE)
-                }
+                ensure(graph.arena.has_room(if directed { 1 } else { 2 }), TOO_LARGE)?;
+                Ok(Step::Insert { at, directed, from, to, len })
             }
             b"drop" => {
                 let name = words.name()?;
@@ -648,17 +640,11 @@ impl Shell {
     }
 
     fn read_graph(&self, name: &[u8], n: i64) -> Answer<Step> {
-        if self.find(name).is_some() {
-            return Err(NAME_IS_TAKEN);
-        }
-        if self.session.table.len() == MOST_GRAPHS {
-            return Err(TABLE_IS_FULL);
-        }
-        match n {
-            ..0 => Err(BAD_SPECIFICATION),
-            _ if n > MOST_VERTICES as i64 => Err(TOO_LARGE),
-            _ => Ok(Step::Make(Some(Box::new(Graph::new(name, n as u32))))),
-        }
+        ensure(self.find(name).is_none(), NAME_IS_TAKEN)?;
+        ensure(self.session.table.len() < MOST_GRAPHS, TABLE_IS_FULL)?;
+        ensure(n >= 0, BAD_SPECIFICATION)?;
+        ensure(n <= MOST_VERTICES as i64, TOO_LARGE)?;
+        Ok(Step::Make(Some(Box::new(Graph::new(name, n as u32)))))
     }
 
     fn read_edit(&self, command: &[u8], mut words: Words) -> Answer<Step> {
@@ -668,9 +654,7 @@ impl Shell {
                 words.end()?;
                 let (at, graph) = self.changed(name)?;
                 let number = graph.arc(k)?;
-                if graph.arena.arcs[number as usize].names > 0 {
-                    return Err(BAD_OPERAND);
-                }
+                ensure(graph.arena.arcs[number as usize].names == 0, BAD_OPERAND)?;
                 Ok(Step::Cut { at, number, cut: None })
             }
             b"len" => {
@@ -704,7 +688,8 @@ impl Shell {
                 let (name, text) = (words.name()?, words.text()?);
                 words.end()?;
                 let (at, _) = self.changed(name)?;
-                if text.len() > MOST_ID { Err(BAD_OPERAND) } else { Ok(Step::Id { at, text: text.into() }) }
+                ensure(text.len() <= MOST_ID, BAD_OPERAND)?;
+                Ok(Step::Id { at, text: text.into() })
             }
             _ => Err(BAD_COMMAND),
         }

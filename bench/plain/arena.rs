@@ -131,33 +131,32 @@ impl Arena {
         self.arcs.get(number as usize).is_some_and(|arc| arc.owner != NONE)
     }
 
-    // What leads to the arc at a place of a list.
-    fn link_at(&mut self, owner: u32, place: u32) -> &mut u32 {
-        let mut before = NONE;
-        for _ in 0..place {
-            before = if before == NONE { self.firsts[owner as usize] } else { self.arcs[before as usize].next };
-        }
+    // The link behind an arc of a list, or in front of the whole list.
+    fn link_behind(&mut self, owner: u32, before: u32) -> &mut u32 {
         if before == NONE { &mut self.firsts[owner as usize] } else { &mut self.arcs[before as usize].next }
     }
 
     // Of a live arc.
     pub fn cut(&mut self, number: u32) -> Cut {
-        let owner = replace(&mut self.arcs[number as usize].owner, NONE);
+        let Arc { owner, next, .. } = self.arcs[number as usize];
         let (mut before, mut link, mut place) = (NONE, self.firsts[owner as usize], 0);
         while link != number {
             before = link;
             link = self.arcs[link as usize].next;
             place += 1;
         }
-        let next = self.arcs[number as usize].next;
-        let to_it = if before == NONE { &mut self.firsts[owner as usize] } else { &mut self.arcs[before as usize].next };
-        *to_it = next;
+        *self.link_behind(owner, before) = next;
+        self.arcs[number as usize].owner = NONE;
         self.holes += 1;
         Cut { owner, place }
     }
 
     pub fn revert(&mut self, number: u32, cut: &Cut) {
-        *self.link_at(cut.owner, cut.place) = number;
+        let mut before = NONE;
+        for _ in 0..cut.place {
+            before = *self.link_behind(cut.owner, before);
+        }
+        *self.link_behind(cut.owner, before) = number;
         self.arcs[number as usize].owner = cut.owner;
         self.holes -= 1;
     }
