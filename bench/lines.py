@@ -61,7 +61,7 @@ def rows(scale):
     bounds = (6, 1000, 2 ** 30 + 1)
 
     def row(name, lines, front=()):
-        return name, list(front), list(lines), len(lines)
+        return name, list(front), lines, len(lines)
 
     yield row('gen', ['gen'] * million)
     yield row('draws, undos, redos', blocks(million, lambda k: 'next', 'undo', 'redo', 'undo'))
@@ -70,12 +70,11 @@ def rows(scale):
     yield row('arcs and undos', blocks(million // 2, lambda k: 'arc g %d %d %d' % (k % 1000, k * 7 % 1000, k), 'undo'),
               ['graph g 1000'])
     made = edits(count)
-    yield row('%d mixed edits' % count, made)
+    yield row('{:,} mixed edits'.format(count), made)
     yield row('their undo', ['undo'] * count, made)
     yield row('their redo', ['redo'] * count, made + ['undo'] * count)
     graph = scattered(count)
-    name, front, lines, _ = row('show of %d arcs, an arc' % count, ['show g'] * SHOWS, graph)
-    yield name, front, lines, SHOWS * count
+    yield 'show of {:,} arcs, an arc'.format(count), graph, ['show g'] * SHOWS, SHOWS * count
 
 
 def processor_time(program, script):
@@ -153,7 +152,9 @@ def main():
         for name, front, lines, count in rows(scale):
             less = scripts.costs(front)
             ours, plain = [(all_of - front_of) / count for all_of, front_of in zip(scripts.costs(front + lines), less)]
-            print('%-32s %14.1f %14.1f %7.2f' % (name, ours, plain, ours / plain), flush=True)
+            # A difference of two times may come out below 0 on a loaded machine.
+            ratio = ours / plain if plain > 0 else float('nan')
+            print('%-32s %14.1f %14.1f %7.2f' % (name, ours, plain, ratio), flush=True)
 
 
 if __name__ == '__main__':
