@@ -20,7 +20,6 @@ import tempfile
 
 ROUNDS = 7
 EDITS = 60_000
-SHOWS = 20
 # No more commands than this stand at once in the rows with undos.
 BLOCK = 1000
 
@@ -55,9 +54,8 @@ def scattered(count):
     return ['graph g 1000'] + ['arc g %d %d %d' % (u, v, k % 1000) for k, (u, v) in enumerate(pairs)]
 
 
-def rows(scale):
-    """Of each row its name, its lines, those in front of them, and by how many it is divided."""
-    million, count = 1_000_000 // scale, EDITS // scale
+def rows(million, shows):
+    """Of each row its name, the lines in front, its lines, and by how many it is divided."""
     bounds = (6, 1000, 2 ** 30 + 1)
 
     def row(name, lines, front=()):
@@ -69,12 +67,11 @@ def rows(scale):
     yield row('uniform draws and undos', blocks(million // 2, lambda k: 'unif %d' % bounds[k % 3], 'undo'))
     yield row('arcs and undos', blocks(million // 2, lambda k: 'arc g %d %d %d' % (k % 1000, k * 7 % 1000, k), 'undo'),
               ['graph g 1000'])
-    made = edits(count)
-    yield row('{:,} mixed edits'.format(count), made)
-    yield row('their undo', ['undo'] * count, made)
-    yield row('their redo', ['redo'] * count, made + ['undo'] * count)
-    graph = scattered(count)
-    yield 'show of {:,} arcs, an arc'.format(count), graph, ['show g'] * SHOWS, SHOWS * count
+    made = edits(EDITS)
+    yield row('60,000 mixed edits', made)
+    yield row('their undo', ['undo'] * EDITS, made)
+    yield row('their redo', ['redo'] * EDITS, made + ['undo'] * EDITS)
+    yield 'show of 60,000 arcs, an arc', scattered(EDITS), ['show g'] * shows, shows * EDITS
 
 
 def processor_time(program, script):
@@ -143,13 +140,13 @@ class Scripts:
 def main():
     counts = sys.argv[1:2] == ['--instructions']
     programs = sys.argv[-2:]
-    cost, rounds, scale, unit = processor_time, ROUNDS, 1, 'ns'
+    cost, rounds, million, shows, unit = processor_time, ROUNDS, 1_000_000, 20, 'ns'
     if counts:
-        cost, rounds, scale, unit = counter(programs), 1, 20, 'instr.'
+        cost, rounds, million, shows, unit = counter(programs), 1, 50_000, 1, 'instr.'
     print('%-32s %14s %14s %7s' % ('a line', 'ours, ' + unit, 'plain, ' + unit, 'ratio'))
     with tempfile.TemporaryDirectory() as place:
         scripts = Scripts(programs, place, cost, rounds)
-        for name, front, lines, count in rows(scale):
+        for name, front, lines, count in rows(million, shows):
             less = scripts.costs(front)
             ours, plain = [(all_of - front_of) / count for all_of, front_of in zip(scripts.costs(front + lines), less)]
             # A difference of two times may come out below 0 on a loaded machine.
