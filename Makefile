@@ -3,6 +3,8 @@
 # What the prover says goes to bin/prove.log, bin/quick.log and bin/test.log.
 
 PREFIX ?= /usr/local
+# Stands before all that is installed, for who makes a package.
+DESTDIR ?=
 CC ?= cc
 # Where the benchmarks are built: outside this repository, so that `rt` here does not meet their copies.
 BENCH ?= /tmp/sgb_bench
@@ -98,9 +100,32 @@ $(PLAIN:%=$(BENCH)/%): $(BENCH)/%: bench/%.rs $(wildcard bench/plain/*.rs)
 	mkdir -p $(BENCH)
 	rustc -O --edition 2021 -C target-cpu=x86-64-v2 -o $@ $<
 
+.PHONY: manual uninstall
+
+# Writes the manual page from the description of the language.
+manual:
+	python3 docs/manual.py > sgb.1.new
+	mv sgb.1.new sgb.1
+
+BIN_FOLDER = $(DESTDIR)$(PREFIX)/bin
+MAN_FOLDER = $(DESTDIR)$(PREFIX)/share/man/man1
+DOC_FOLDER = $(DESTDIR)$(PREFIX)/share/doc/nuperako
+DOCUMENTS = $(wildcard docs/*.md)
+EXAMPLES = $(wildcard examples/*.sgb examples/*.out)
+
+# The program, its manual page, the descriptions and the examples.
 install: bin/sgb
-	mkdir -p $(PREFIX)/bin
-	cp bin/sgb $(PREFIX)/bin/sgb
+	install -d "$(BIN_FOLDER)" "$(MAN_FOLDER)" "$(DOC_FOLDER)/examples"
+	install -m 755 bin/sgb "$(BIN_FOLDER)"
+	install -m 644 sgb.1 "$(MAN_FOLDER)"
+	install -m 644 $(DOCUMENTS) "$(DOC_FOLDER)"
+	install -m 644 $(EXAMPLES) "$(DOC_FOLDER)/examples"
+
+# Takes away the files that `make install` puts there, and its own folders where nothing else lies in them.
+uninstall:
+	rm -f "$(BIN_FOLDER)/sgb" "$(MAN_FOLDER)/sgb.1"
+	cd "$(DOC_FOLDER)" && rm -f $(notdir $(DOCUMENTS)) $(EXAMPLES)
+	rmdir --ignore-fail-on-non-empty "$(DOC_FOLDER)/examples" "$(DOC_FOLDER)"
 
 clean:
 	rm -rf bin tests/out

@@ -226,6 +226,7 @@ class Gate:
         self.log.call(['make', REFUSING])
         yield 'examples', ['sh', 'tests/examples.sh', PROGRAM]
         yield 'documents', [sys.executable, 'tests/documents.py', PROGRAM, 'docs/language.md', 'docs/combinations.md']
+        yield 'manual', [sys.executable, 'docs/manual.py', '--check', 'sgb.1']
         yield 'growths', [sys.executable, 'tests/growths.py', PROGRAM, REFUSING]
         if os.path.isfile('tests/program.py'):
             yield 'program', [sys.executable, 'tests/program.py', PROGRAM]
