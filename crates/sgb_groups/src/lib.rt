@@ -1,0 +1,8 @@
+//! The session with groups: several commands count as one, and are undone as one.
+#![tactic(auto)]
+
+mod grouped;
+mod session;
+
+pub use grouped::{GroupedCommand, GroupedDelta, GroupedReply, MOST_MEMBERS};
+pub use session::GroupedSession;

@@ -1,0 +1,112 @@
+//! The session whose commands may be groups.
+ghost use Rattle.std.specs.Prelude.{◌≡◌, ◌⊎◌, true, IfOk, IfErr, OnErr};
+ghost use Rattle.sgb_undo.specs.Outcome.{Accepted, Refused};
+
+use crate::grouped::{GroupedCommand, GroupedDelta, GroupedReply};
+use sgb_script::ShellRefusal;
+use sgb_session::Session;
+use sgb_undo::{GroupRefusal, Reversible, apply_all, revert_all};
+use std::alloc::Global;
+use std::marker::Model;
+
+/// A session whose commands come one by one or in groups. It is seen as its session, and keeps the laws of
+/// [`Reversible`].
+#[derive(Drop)]
+pub struct GroupedSession {
+    alloc: Global,
+    session: Session,
+}
+
+impl Model for GroupedSession {
+    ghost use Rattle.sgb_session.specs.State.{State};
+
+    ghost Value = { State };
+
+    ghost view = { λ s. s.session };
+}
+
+impl GroupedSession {
+    ghost use Rattle.sgb_session.specs.State.{empty};
+
+    /// The empty session. It takes no memory.
+    pub fn new(alloc: Global) -> GroupedSession
+        ensures value { result ≡ empty }
+    {
+        GroupedSession {
+            alloc,
+            session: Session::new(alloc),
+        }
+    }
+
+    /// The generator and the graphs.
+    pub fn session(&self) -> &Session
+        ensures value { result.now ≡ self.now }
+    {
+        &self.session
+    }
+}
+
+impl Reversible for GroupedSession {
+    ghost use Rattle.sgb_groups.specs.Grouped.{step, before, can_revert, may_want};
+    ghost use Rattle.sgb_script.specs.Refusal.{is_no_room};
+
+    type Command = GroupedCommand;
+
+    type Delta = GroupedDelta;
+
+    type Reply = GroupedReply;
+
+    type Refusal = ShellRefusal;
+
+    ghost step = { step };
+
+    ghost before = { before };
+
+    ghost can_revert = { can_revert };
+
+    ghost is_want_of_memory = { is_no_room };
+
+    ghost may_want = { may_want };
+
+    /// Performs a command, or a group of them: all of it, or nothing where a member is refused. A group takes memory for
+    /// its members' deltas and replies before the first of them is performed, and one without members takes none.
+    fn apply(
+        &mut self,
+        command: &GroupedCommand,
+    ) -> Result<(GroupedDelta, GroupedReply), ShellRefusal>
+        ensures accepted { IfOk result (λ a. step self.old command.now ≡ Accepted self.new a.0 a.1) }
+        ensures can_revert { IfOk result (λ a. can_revert self.new a.0) }
+        ensures before { IfOk result (λ a. before self.new a.0 ≡ self.old) }
+        ensures refused { IfErr result (λ r.
+            ((is_no_room r ≡ true) × (may_want self.old command.now ≡ true)) ⊎ (step self.old command.now ≡ Refused r)) }
+        ensures err { OnErr result (self.new ≡ self.old) }
+    {
+        match command {
+            GroupedCommand::One(one) => {
+                let (delta, reply) = self.session.apply(one)?;
+                Ok((GroupedDelta::One(delta), GroupedReply::One(reply)))
+            }
+            GroupedCommand::Group(members) => {
+                match apply_all(self.alloc, &mut self.session, members.as_slice()) {
+                    Ok((deltas, replies)) => {
+                        Ok((GroupedDelta::Group(deltas), GroupedReply::Group(replies)))
+                    }
+                    Err(GroupRefusal::NoRoom) => Err(ShellRefusal::NoRoom),
+                    Err(GroupRefusal::Machine(refusal)) => Err(refusal),
+                }
+            }
+        }
+    }
+
+    /// Takes back a command, or each member of a group, the last first. It takes no memory.
+    fn revert(&mut self, delta: GroupedDelta) {
+        match delta {
+            GroupedDelta::One(one) => self.session.revert(one),
+            GroupedDelta::Group(members) => revert_all(&mut self.session, members),
+        }
+    }
+
+    fn is_memory(refusal: &ShellRefusal) -> bool {
+        Session::is_memory(refusal)
+    }
+}
