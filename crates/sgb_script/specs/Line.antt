@@ -17,7 +17,7 @@ use Rattle.sgb_script.specs.declared.command.Edit.TheVariants.{Arc, Edge, Cut, L
 use Rattle.sgb_script.specs.declared.command.Maker.TheVariants as makers
 use Rattle.sgb_script.specs.declared.command.Query.TheVariants as queries
 use Rattle.sgb_script.specs.declared.command.Line.{Line}
-use Rattle.sgb_script.specs.declared.command.Line.TheVariants.{Nothing, Change, Undo, Redo, Ask, Load}
+use Rattle.sgb_script.specs.declared.command.Line.TheVariants.{Nothing, Change, Undo, Redo, Ask, Load, Group, End}
 
 -- numbers, edits and questions
 abbrev pub step_of : List ℕ → Option Keyword
@@ -36,10 +36,12 @@ step_of w =
     else (if bytes_eq w (codes "drop") then Some keywords.Drop
     else (if bytes_eq w (codes "undo") then Some keywords.Undo
     else (if bytes_eq w (codes "redo") then Some keywords.Redo
+    else (if bytes_eq w (codes "group") then Some keywords.Group
+    else (if bytes_eq w (codes "end") then Some keywords.End
     else (if bytes_eq w (codes "gen") then Some keywords.Gen
     else (if bytes_eq w (codes "list") then Some keywords.List
     else (if bytes_eq w (codes "show") then Some keywords.Show
-    else None))))))))))))))))
+    else None))))))))))))))))))
 
 -- whole graphs
 abbrev pub whole_of : List ℕ → Option Keyword
@@ -96,6 +98,8 @@ line_after ws keywords.Lengths = drawing ws
 line_after ws keywords.Drop = one the_name (λ g. Change (Drop g)) ws
 line_after ws keywords.Undo = none Undo ws
 line_after ws keywords.Redo = none Redo ws
+line_after ws keywords.Group = none Group ws
+line_after ws keywords.End = none End ws
 line_after ws keywords.Gen = none (Ask queries.Gen) ws
 line_after ws keywords.List = none (Ask queries.List) ws
 line_after ws keywords.Show = one the_name (λ g. Ask (queries.Show g)) ws

@@ -108,4 +108,8 @@ pub enum Line {
     Ask(Query),
     /// `load NAME check` or `load NAME any`: a graph is made of the text in the lines that follow, up to the line `.`.
     Load(Name, CheckRule),
+    /// `group`: a group of commands begins, whose members are the lines up to `End`.
+    Group,
+    /// `end`: the group of commands ends.
+    End,
 }

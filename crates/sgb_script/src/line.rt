@@ -50,6 +50,8 @@ enum Keyword {
     Show,
     Save,
     Load,
+    Group,
+    End,
 }
 
 /// Reads one line of a script, without its newline. Refused 100 where it is no line of the language. Memory is taken
@@ -113,6 +115,8 @@ fn recognize_step(word: &[u8]) -> Option<Keyword>
         b"drop" => Some(Keyword::Drop),
         b"undo" => Some(Keyword::Undo),
         b"redo" => Some(Keyword::Redo),
+        b"group" => Some(Keyword::Group),
+        b"end" => Some(Keyword::End),
         b"gen" => Some(Keyword::Gen),
         b"list" => Some(Keyword::List),
         b"show" => Some(Keyword::Show),
@@ -189,6 +193,8 @@ fn asked_after(alloc: Global, keyword: Keyword, rest: &[u8]) -> Result<Line, She
         Keyword::Drop => drop_graph(rest).ok_or(refused),
         Keyword::Undo => alone(rest, Line::Undo).ok_or(refused),
         Keyword::Redo => alone(rest, Line::Redo).ok_or(refused),
+        Keyword::Group => alone(rest, Line::Group).ok_or(refused),
+        Keyword::End => alone(rest, Line::End).ok_or(refused),
         Keyword::Gen => alone(rest, Line::Ask(Query::Gen)).ok_or(refused),
         Keyword::List => alone(rest, Line::Ask(Query::List)).ok_or(refused),
         Keyword::Show => show(rest).ok_or(refused),

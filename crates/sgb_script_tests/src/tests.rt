@@ -40,6 +40,14 @@ fn is_redo(alloc: Global, line: &[u8]) -> bool {
     matches!(read(alloc, line), Ok(Line::Redo))
 }
 
+fn is_group(alloc: Global, line: &[u8]) -> bool {
+    matches!(read(alloc, line), Ok(Line::Group))
+}
+
+fn is_end(alloc: Global, line: &[u8]) -> bool {
+    matches!(read(alloc, line), Ok(Line::End))
+}
+
 fn is_gen(alloc: Global, line: &[u8]) -> bool {
     matches!(read(alloc, line), Ok(Line::Ask(Query::Gen)))
 }
@@ -593,6 +601,19 @@ fn plain_lines(rt: HostRuntime) {
     assert!(rt; is_gen(alloc, b"gen"));
     assert!(rt; is_list(alloc, b"list"));
     assert!(rt; shown(alloc, b"show g").is_some());
+}
+
+#[test]
+fn groups(rt: HostRuntime) {
+    let alloc = rt.alloc();
+    assert!(rt; is_group(alloc, b"group"));
+    assert!(rt; is_group(alloc, b"  group "));
+    assert!(rt; is_end(alloc, b"end"));
+    assert!(rt; is_end(alloc, b" end  "));
+    assert!(rt; is_refused(alloc, b"group 1"));
+    assert!(rt; is_refused(alloc, b"end next"));
+    assert!(rt; is_refused(alloc, b"\"group\""));
+    assert!(rt; is_refused(alloc, b"\"end\""));
 }
 
 #[test]
