@@ -1,5 +1,5 @@
 -- How a run goes on by a byte.
-use Rattle.std.proofs.Common.{append_assoc, append-nil, get_or, drop, take-append-drop, ◌^◌, inl, inr, ◌≡◌, ℕ, ◌+◌, ◌<◌, ◌≤◌, Bool, true, false, ◌==◌, List, [], ◌∷◌, ◌++◌, length, take, Option, Result, Ok, Err, refl, sym, ap, ◌∙◌, subst, arith, length-append, length-take, min}
+use Rattle.std.proofs.Common.{append_assoc, append-nil, get_or, drop, take-append-drop, ◌^◌, inl, inr, ◌≡◌, ℕ, ◌+◌, ◌<◌, Bool, true, false, ◌==◌, List, [], ◌∷◌, ◌++◌, length, take, Option, Result, Ok, Err, refl, sym, ap, ◌∙◌, subst, arith, length-append, length-take}
 use Rattle.std.proofs.lemmas.Bool.{cases_Bool, eqb-true, ne_eqb}
 use Rattle.std.proofs.lemmas.List.{take_more}
 use Rattle.sgb_shell.specs.declared.pending.Pending.{Pending}

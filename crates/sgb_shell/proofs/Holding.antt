@@ -1,24 +1,22 @@
 -- What is kept of a line, byte by byte.
-use Rattle.std.proofs.Common.{◌≡◌, ℕ, suc, ◌+◌, ◌<◌, ◌≤◌, Bool, true, false, ◌==◌, not, cond, List, [], ◌∷◌, ◌++◌, length, take, drop, Option, None, min, inl, inr, refl, sym, ap, ◌∙◌, subst, arith, length-append, length-take}
+use Rattle.std.proofs.Common.{◌≡◌, ℕ, zero, suc, ◌+◌, ◌<◌, ◌≤◌, Bool, true, false, ◌==◌, not, cond, List, [], ◌∷◌, ◌++◌, length, take, drop, None, min, inl, inr, refl, sym, ap, ◌∙◌, arith, length-append, length-take}
 use Rattle.std.proofs.Math.Numerals.{one-add}
 use Rattle.std.proofs.lemmas.Bool.{cases_Bool, and_right, or_left, ne_eqb, eqb-true, lt-ltb, le-ltb, ltb-true, ltb-false}
-use Rattle.std.proofs.lemmas.List.{take_all, take-append-le}
+use Rattle.std.proofs.Math.Bool.{and_assoc, and-true}
+use Rattle.std.proofs.lemmas.List.{take_all, drop_all, take-append-le, drop-append-le}
+use Rattle.std.proofs.lemmas.List.Folds.{list_all-append}
 use Rattle.std.proofs.lemmas.List.Sums.{take_while-cons}
 use Rattle.std.specs.Prelude.{◌&&◌, ◌||◌, codes, nat_lt}
 use Rattle.std.specs.List.{prefix_len, take_while, list_all}
 use Rattle.std.specs.Str.{bytes_eq}
 use Rattle.sgb_script.specs.Line.{line_of, is_printable_byte}
-use Rattle.sgb_shell.specs.Unit.{takes_text, is_dot}
-use Rattle.sgb_shell.specs.Private.Holding.{HeldLine, first_bytes, held_line, is_above}
+use Rattle.sgb_shell.specs.Unit.{unindented, takes_text, takes_members, is_dot, is_end}
+use Rattle.sgb_shell.specs.Private.Holding.{LineFront, HeldLine, front_of, held_line, is_above}
 
 -- ---- how it begins
 
 abbrev is_space : ℕ → Bool
 is_space b = b == 32
-
--- a line from its first byte that is no space
-abbrev trimmed : List ℕ → List ℕ
-trimmed line = drop (prefix_len is_space line) line
 
 abbrev is_leading : List ℕ → ℕ → Bool
 is_leading bytes byte = length bytes == 0 && byte == 32
@@ -33,48 +31,67 @@ none-kept n (x ∷ line) = ne_eqb _ 0 (λ e. absurd (omega arith)) ∙ sym (ne_e
 longer-cons : (x : ℕ) (xs : List ℕ) (byte : ℕ) → longer (x ∷ xs) byte ≡ x ∷ (xs ++ byte ∷ [])
 longer-cons x xs byte = rw (ne_eqb (length (x ∷ xs)) 0 (λ e. absurd (omega arith))) refl
 
-trimmed-space : (x : ℕ) (xs : List ℕ) → (x == 32) ≡ true → trimmed (x ∷ xs) ≡ trimmed xs
-trimmed-space x xs space = rw space (ap (λ k. drop k (x ∷ xs)) (one-add (prefix_len is_space xs)))
+unindented-space : (x : ℕ) (xs : List ℕ) → (x == 32) ≡ true → unindented (x ∷ xs) ≡ unindented xs
+unindented-space x xs space = rw space (ap (λ k. drop k (x ∷ xs)) (one-add (prefix_len is_space xs)))
 
-trimmed-other : (x : ℕ) (xs : List ℕ) → (x == 32) ≡ false → trimmed (x ∷ xs) ≡ x ∷ xs
-trimmed-other x xs other = rw other refl
+unindented-other : (x : ℕ) (xs : List ℕ) → (x == 32) ≡ false → unindented (x ∷ xs) ≡ x ∷ xs
+unindented-other x xs other = rw other refl
 
-trimmed-push : (line : List ℕ) (byte : ℕ) → trimmed (line ++ byte ∷ []) ≡ longer (trimmed line) byte
-trimmed-push [] byte = elim (cases_Bool (byte == 32)) [
+unindented-push : (line : List ℕ) (byte : ℕ) → unindented (line ++ byte ∷ []) ≡ longer (unindented line) byte
+unindented-push [] byte = elim (cases_Bool (byte == 32)) [
   | inl space ↦ rw space refl
   | inr other ↦ rw other refl
 ]
-trimmed-push (x ∷ xs) byte = elim (cases_Bool (x == 32)) [
-  | inl space ↦ trimmed-space x (xs ++ byte ∷ []) space ∙ trimmed-push xs byte ∙ ap (λ t. longer t byte) (sym (trimmed-space x xs space))
-  | inr other ↦ trimmed-other x (xs ++ byte ∷ []) other ∙ sym (longer-cons x xs byte) ∙ ap (λ t. longer t byte) (sym (trimmed-other x xs other))
+unindented-push (x ∷ xs) byte = elim (cases_Bool (x == 32)) [
+  | inl space ↦ unindented-space x (xs ++ byte ∷ []) space ∙ unindented-push xs byte ∙ ap (λ t. longer t byte) (sym (unindented-space x xs space))
+  | inr other ↦ unindented-other x (xs ++ byte ∷ []) other ∙ sym (longer-cons x xs byte) ∙ ap (λ t. longer t byte) (sym (unindented-other x xs other))
 ]
 
-leading-kept : (t : List ℕ) (byte : ℕ) → is_leading (take 5 t) byte ≡ is_leading t byte
+-- what is kept of a line that begins so
+abbrev kept_of : List ℕ → LineFront
+kept_of t = record { bytes = take 6 t; ends = list_all is_space (drop 6 t) }
+
+leading-kept : (t : List ℕ) (byte : ℕ) → is_leading (take 6 t) byte ≡ is_leading t byte
 leading-kept [] byte = refl
-leading-kept (x ∷ t) byte = ap (λ b. b && byte == 32) (none-kept 4 (x ∷ t))
+leading-kept (x ∷ t) byte = ap (λ b. b && byte == 32) (none-kept 5 (x ∷ t))
 
-take-longer : (t : List ℕ) (byte : ℕ) (leads : Bool) → is_leading (take 5 t) byte ≡ leads → take 5 (longer t byte) ≡ take 5 (cond leads t (t ++ byte ∷ []))
-take-longer t byte leads e = ap (λ b. take 5 (cond b t (t ++ byte ∷ []))) (sym (leading-kept t byte) ∙ e)
+front-longer : (line : List ℕ) (kept : LineFront) (byte : ℕ) (leads : Bool) → kept ≡ front_of line → is_leading kept.bytes byte ≡ leads
+    → front_of (line ++ byte ∷ []) ≡ kept_of (cond leads (unindented line) (unindented line ++ byte ∷ []))
+front-longer line kept byte leads same e =
+    let t = unindented line in
+    ap kept_of (unindented-push line byte)
+    ∙ ap (λ b. kept_of (cond b t (t ++ byte ∷ []))) (sym (leading-kept t byte) ∙ ap (λ k. is_leading k.bytes byte) (sym same) ∙ e)
 
-first-longer : (line kept : List ℕ) (byte : ℕ) (leads : Bool) → kept ≡ first_bytes line → is_leading kept byte ≡ leads
-    → first_bytes (line ++ byte ∷ []) ≡ take 5 (cond leads (trimmed line) (trimmed line ++ byte ∷ []))
-first-longer line kept byte leads same e =
-    ap (take 5) (trimmed-push line byte) ∙ take-longer (trimmed line) byte leads (ap (λ k. is_leading k byte) (sym same) ∙ e)
+pub first_leading : (line : List ℕ) (kept : LineFront) (byte : ℕ) → kept ≡ front_of line → is_leading kept.bytes byte ≡ true → kept ≡ front_of (line ++ byte ∷ [])
+first_leading line kept byte same leads = same ∙ sym (front-longer line kept byte true same leads)
 
-pub first_leading : (line kept : List ℕ) (byte : ℕ) → kept ≡ first_bytes line → is_leading kept byte ≡ true → kept ≡ first_bytes (line ++ byte ∷ [])
-first_leading line kept byte same leads = same ∙ sym (first-longer line kept byte true same leads)
+abbrev pub viewed : List ℕ → Bool → LineFront
+viewed bytes ends = record { bytes = bytes; ends = ends }
 
-pub first_full : (line kept : List ℕ) (byte : ℕ) → kept ≡ first_bytes line → is_leading kept byte ≡ false → 5 ≤ length kept → kept ≡ first_bytes (line ++ byte ∷ [])
-first_full line kept byte same leads full =
-    let long : 5 ≤ length (trimmed line) = omega (arith, ap length same, length-take 5 (trimmed line)) in
-    same ∙ sym (take-append-le 5 (trimmed line) (byte ∷ []) long) ∙ sym (first-longer line kept byte false same leads)
+same_front : (bytes bytes' : List ℕ) (ends ends' : Bool) → bytes ≡ bytes' → ends ≡ ends' → ◌≡◌ {A = LineFront} (record { bytes = bytes; ends = ends }) (record { bytes = bytes'; ends = ends' })
+same_front bytes bytes' ends ends' p q = rw (p, q) refl
 
-pub first_pushed : (line kept : List ℕ) (byte : ℕ) → kept ≡ first_bytes line → is_leading kept byte ≡ false → length kept < 5 → kept ++ byte ∷ [] ≡ first_bytes (line ++ byte ∷ [])
-first_pushed line kept byte same leads few =
-    let t = trimmed line in
-    let short : length t < 5 = omega (arith, ap length same, length-take 5 t) in
+pub first_full : (line bytes : List ℕ) (ends : Bool) (byte : ℕ) → ◌≡◌ {A = LineFront} (record { bytes = bytes; ends = ends }) (front_of line) → is_leading bytes byte ≡ false → 6 ≤ length bytes
+    → ◌≡◌ {A = LineFront} (record { bytes = bytes; ends = ends && byte == 32 }) (front_of (line ++ byte ∷ []))
+first_full line bytes ends byte same leads full =
+    let t = unindented line in
+    let kept : bytes ≡ take 6 t = ap (λ k. k.bytes) same in
+    let long : 6 ≤ length t = omega (arith, ap length kept, length-take 6 t) in
+    same_front _ _ _ _ (kept ∙ sym (take-append-le 6 t (byte ∷ []) long))
+    (ap (λ k. k.ends && byte == 32) same ∙ ap (λ b. list_all is_space (drop 6 t) && b) (sym (and-true (byte == 32)))
+    ∙ sym (list_all-append is_space (drop 6 t) (byte ∷ [])) ∙ ap (list_all is_space) (sym (drop-append-le 6 t (byte ∷ []) long)))
+    ∙ sym (front-longer line (record { bytes = bytes; ends = ends }) byte false same leads)
+
+pub first_pushed : (line bytes : List ℕ) (ends : Bool) (byte : ℕ) → ◌≡◌ {A = LineFront} (record { bytes = bytes; ends = ends }) (front_of line) → is_leading bytes byte ≡ false → length bytes < 6
+    → ◌≡◌ {A = LineFront} (record { bytes = bytes ++ byte ∷ []; ends = ends }) (front_of (line ++ byte ∷ []))
+first_pushed line bytes ends byte same leads few =
+    let t = unindented line in
+    let kept : bytes ≡ take 6 t = ap (λ k. k.bytes) same in
+    let short : length t < 6 = omega (arith, ap length kept, length-take 6 t) in
     let more : length (t ++ byte ∷ []) ≡ length t + 1 = length-append t (byte ∷ []) in
-    ap (λ k. k ++ byte ∷ []) (same ∙ take_all 5 t (omega arith)) ∙ sym (take_all 5 (t ++ byte ∷ []) (omega arith)) ∙ sym (first-longer line kept byte false same leads)
+    same_front _ _ _ _ (ap (λ k. k ++ byte ∷ []) (kept ∙ take_all 6 t (omega arith)) ∙ sym (take_all 6 (t ++ byte ∷ []) (omega arith)))
+    (ap (λ k. k.ends) same ∙ ap (list_all is_space) (drop_all 6 t (omega arith) ∙ sym (drop_all 6 (t ++ byte ∷ []) (omega arith))))
+    ∙ sym (front-longer line (record { bytes = bytes; ends = ends }) byte false same leads)
 
 not_true : (b : Bool) → not b ≡ true → b ≡ false
 not_true true e = cc
@@ -107,9 +124,52 @@ word_first (y ∷ w) (x ∷ t) plain = elim (cases_Bool (x == y)) [
   ]
 ]
 
-pub text_taken : (line kept : List ℕ) → kept ≡ first_bytes line → (bytes_eq kept (codes "load") || bytes_eq kept (codes "load ")) ≡ takes_text line
+-- fewer of the first bytes
+fewer_kept : (n : ℕ) (t : List ℕ) → take n (take (suc n) t) ≡ take n t
+fewer_kept zero t = refl
+fewer_kept (suc n) [] = refl
+fewer_kept (suc n) (x ∷ t) = ap (λ l. x ∷ l) (fewer_kept n t)
+
+pub text_taken : (line : List ℕ) (kept : LineFront) → kept ≡ front_of line → (bytes_eq (take 5 kept.bytes) (codes "load") || bytes_eq (take 5 kept.bytes) (codes "load ")) ≡ takes_text line
 unfolding takes_text
-text_taken line kept same = ap (λ k. bytes_eq k (codes "load") || bytes_eq k (codes "load ")) same ∙ word_first (codes "load") (trimmed line) refl
+text_taken line kept same =
+    ap (λ k. bytes_eq (take 5 k.bytes) (codes "load") || bytes_eq (take 5 k.bytes) (codes "load ")) same
+    ∙ ap (λ k. bytes_eq k (codes "load") || bytes_eq k (codes "load ")) (fewer_kept 5 (unindented line))
+    ∙ word_first (codes "load") (unindented line) refl
+
+pub members_taken : (line : List ℕ) (kept : LineFront) → kept ≡ front_of line → (bytes_eq kept.bytes (codes "group") || bytes_eq kept.bytes (codes "group ")) ≡ takes_members line
+unfolding takes_members
+members_taken line kept same =
+    ap (λ k. bytes_eq k.bytes (codes "group") || bytes_eq k.bytes (codes "group ")) same ∙ word_first (codes "group") (unindented line) refl
+
+end_word : (t : List ℕ) → take 3 (take 6 t) ≡ take 3 t
+end_word [] = refl
+end_word (a ∷ []) = refl
+end_word (a ∷ b ∷ []) = refl
+end_word (a ∷ b ∷ c ∷ t) = refl
+
+blank_split : (n : ℕ) (t : List ℕ) → (list_all is_space (take n t) && list_all is_space (drop n t)) ≡ list_all is_space t
+blank_split zero t = refl
+blank_split (suc n) [] = refl
+blank_split (suc n) (x ∷ t) = and_assoc (is_space x) (list_all is_space (take n t)) (list_all is_space (drop n t)) ∙ ap (λ b. is_space x && b) (blank_split n t)
+
+blank_behind : (t : List ℕ) → (list_all is_space (drop 3 (take 6 t)) && list_all is_space (drop 6 t)) ≡ list_all is_space (drop 3 t)
+blank_behind [] = refl
+blank_behind (a ∷ []) = refl
+blank_behind (a ∷ b ∷ []) = refl
+blank_behind (a ∷ b ∷ c ∷ t) = blank_split 3 t
+
+abbrev pub ends_as : LineFront → Bool
+ends_as k = (bytes_eq (take 3 k.bytes) (codes "end") && list_all (λ b. b == 32) (drop 3 k.bytes)) && k.ends
+
+pub end_taken : (line : List ℕ) (kept : LineFront) → kept ≡ front_of line → ends_as kept ≡ is_end line
+unfolding is_end
+end_taken line kept same =
+    let t = unindented line in
+    ap ends_as same
+    ∙ and_assoc (bytes_eq (take 3 (take 6 t)) (codes "end")) (list_all is_space (drop 3 (take 6 t))) (list_all is_space (drop 6 t))
+    ∙ ap (λ w. bytes_eq w (codes "end") && (list_all is_space (drop 3 (take 6 t)) && list_all is_space (drop 6 t))) (end_word t)
+    ∙ ap (λ b. bytes_eq (take 3 t) (codes "end") && b) (blank_behind t)
 
 -- ---- its first bytes
 
@@ -117,13 +177,13 @@ text_taken line kept same = ap (λ k. bytes_eq k (codes "load") || bytes_eq k (c
 length-kept : (kept line : List ℕ) → kept ≡ take 8192 line → length kept ≡ min 8192 (length line)
 length-kept kept line same = ap length same ∙ length-take 8192 line
 
-same_held : (bytes bytes' : List ℕ) (long long' : Bool) (first first' : List ℕ) → bytes ≡ bytes' → long ≡ long' → first ≡ first'
+same_held : (bytes bytes' : List ℕ) (long long' : Bool) (first first' : LineFront) → bytes ≡ bytes' → long ≡ long' → first ≡ first'
     → ◌≡◌ {A = HeldLine} (record { bytes = bytes; is_long = long; first = first }) (record { bytes = bytes'; is_long = long'; first = first' })
 same_held bytes bytes' long long' first first' p q r = rw (p, q, r) refl
 
-module _ (line kept : List ℕ) (is_long : Bool) (first : List ℕ) (byte : ℕ) where
-  pub held_kept : (kept' first' : List ℕ) → ◌≡◌ {A = HeldLine} (record { bytes = kept; is_long = is_long; first = first }) (held_line line) → length kept < 8192
-      → kept' ≡ kept ++ byte ∷ [] → first' ≡ first_bytes (line ++ byte ∷ [])
+module _ (line kept : List ℕ) (is_long : Bool) (first : LineFront) (byte : ℕ) where
+  pub held_kept : (kept' : List ℕ) (first' : LineFront) → ◌≡◌ {A = HeldLine} (record { bytes = kept; is_long = is_long; first = first }) (held_line line) → length kept < 8192
+      → kept' ≡ kept ++ byte ∷ [] → first' ≡ front_of (line ++ byte ∷ [])
       → ◌≡◌ {A = HeldLine} (record { bytes = kept'; is_long = is_long; first = first' }) (held_line (line ++ byte ∷ []))
   unfolding held_line
   held_kept kept' first' held room more begins =
@@ -136,8 +196,8 @@ module _ (line kept : List ℕ) (is_long : Bool) (first : List ℕ) (byte : ℕ)
       (long ∙ le-ltb 8192 (length line) (omega arith) ∙ sym (le-ltb 8192 (length (line ++ byte ∷ [])) (omega arith)))
       begins
 
-  pub held_full : (first' : List ℕ) → ◌≡◌ {A = HeldLine} (record { bytes = kept; is_long = is_long; first = first }) (held_line line) → 8192 ≤ length kept
-      → first' ≡ first_bytes (line ++ byte ∷ [])
+  pub held_full : (first' : LineFront) → ◌≡◌ {A = HeldLine} (record { bytes = kept; is_long = is_long; first = first }) (held_line line) → 8192 ≤ length kept
+      → first' ≡ front_of (line ++ byte ∷ [])
       → ◌≡◌ {A = HeldLine} (record { bytes = kept; is_long = true; first = first' }) (held_line (line ++ byte ∷ []))
   unfolding held_line
   held_full first' held full begins =
@@ -149,7 +209,7 @@ module _ (line kept : List ℕ) (is_long : Bool) (first : List ℕ) (byte : ℕ)
       (sym (lt-ltb 8192 (length (line ++ byte ∷ [])) (omega arith)))
       begins
 
-pub held_none : (bytes first : List ℕ) → bytes ≡ [] → first ≡ [] → ◌≡◌ {A = HeldLine} (record { bytes = bytes; is_long = false; first = first }) (held_line [])
+pub held_none : (bytes : List ℕ) (first : LineFront) → bytes ≡ [] → first ≡ front_of [] → ◌≡◌ {A = HeldLine} (record { bytes = bytes; is_long = false; first = first }) (held_line [])
 unfolding held_line
 held_none bytes first p q = rw (p, q) refl
 
@@ -170,8 +230,8 @@ dot-kept line = elim (cases_Bool (is_above line)) [
       ap (λ k. bytes_eq k (codes ".")) (take_all 8192 line fits)
 ]
 
-module _ (line kept : List ℕ) (is_long : Bool) (first : List ℕ) (held : ◌≡◌ {A = HeldLine} (record { bytes = kept; is_long = is_long; first = first }) (held_line line)) where
-  pub held_first : first ≡ first_bytes line
+module _ (line kept : List ℕ) (is_long : Bool) (first : LineFront) (held : ◌≡◌ {A = HeldLine} (record { bytes = kept; is_long = is_long; first = first }) (held_line line)) where
+  pub held_first : first ≡ front_of line
   unfolding held_line
   held_first = ap (λ h. h.first) held
 

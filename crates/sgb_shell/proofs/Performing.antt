@@ -9,21 +9,24 @@ use Rattle.sgb_undo.specs.declared.refusal.JournalRefusal.{JournalRefusal}
 use Rattle.sgb_undo.specs.declared.refusal.JournalRefusal.TheVariants as journals
 use Rattle.sgb_shell.specs.declared.answer.Answer.{Answer}
 use Rattle.sgb_shell.specs.declared.answer.Answer.TheVariants as answers
+use Rattle.sgb_groups.specs.declared.grouped.GroupedCommand.{GroupedCommand}
+use Rattle.sgb_groups.specs.declared.grouped.GroupedCommand.TheVariants.{One}
+use Rattle.sgb_groups.specs.declared.grouped.GroupedReply.{GroupedReply}
+use Rattle.sgb_groups.specs.Grouped.{step, before, may_want}
 use Rattle.sgb_script.specs.declared.command.Command.{Command}
 use Rattle.sgb_script.specs.declared.command.Line.{Line}
-use Rattle.sgb_script.specs.declared.command.Line.TheVariants.{Nothing, Change, Undo, Redo, Ask, Load}
+use Rattle.sgb_script.specs.declared.command.Line.TheVariants.{Nothing, Change, Undo, Redo, Ask, Load, Group, End}
 use Rattle.sgb_script.specs.declared.command.Query.{Query}
-use Rattle.sgb_script.specs.Line.{line_of, has_text, takes_memory}
-use Rattle.sgb_session.specs.declared.reply.Reply.{Reply}
+use Rattle.sgb_script.specs.Line.{line_of, takes_memory}
 use Rattle.sgb_script.specs.declared.refusal.ShellRefusal.{ShellRefusal}
 use Rattle.sgb_script.specs.declared.refusal.ShellRefusal.TheVariants.{NoRoom, CheckWrong, Syntax, BadSpecs, LengthRange, TooLarge, NoGraph, BadOperand, ScriptSyntax, TableFull, NameTaken, NothingToUndo, NothingToRedo, JournalFull, Stuck}
 use Rattle.sgb_shell.specs.Lines.{all_but_last}
 use Rattle.sgb_shell.specs.Private.Performing.{Kept, IsBegun, Does, Answers, by_command, by_line, by_unit, lists_of, answer_from}
 use Rattle.sgb_shell.specs.Private.Gathering.{IsRefused}
 use Rattle.sgb_script.specs.Refusal.{is_no_room}
-use Rattle.sgb_session.specs.State.{empty, step, before, may_want}
-use Rattle.sgb_shell.specs.Transcript.{Lists, Told, asked_of, state_of, answered, with_command, are_none, grows, changing, last_command, undoing, redoing, line_told, unit_told}
-use Rattle.sgb_shell.specs.Unit.{ScriptUnit, takes_text}
+use Rattle.sgb_session.specs.State.{empty}
+use Rattle.sgb_shell.specs.Transcript.{Lists, Told, asked_of, state_of, answered, with_command, are_none, grows, changing, last_command, undoing, redoing, line_told, unit_told, has_its_text}
+use Rattle.sgb_shell.specs.Unit.{ScriptUnit, takes_text, takes_members}
 use Rattle.sgb_text.specs.declared.restoring.CheckRule.{CheckRule}
 
 pub all_but_last-push : {X : Type 0} (xs : List X) (x : X) → all_but_last (xs ++ x ∷ []) ≡ xs
@@ -31,7 +34,7 @@ all_but_last-push [] x = refl
 all_but_last-push (y ∷ []) x = refl
 all_but_last-push (y ∷ z ∷ zs) x = ap (λ l. y ∷ l) (all_but_last-push (z ∷ zs) x)
 
-last_command-push : (cs : List Command) (c : Command) → last_command (cs ++ c ∷ []) ≡ Some c
+last_command-push : (cs : List GroupedCommand) (c : GroupedCommand) → last_command (cs ++ c ∷ []) ≡ Some c
 last_command-push [] c = refl
 last_command-push (d ∷ []) c = refl
 last_command-push (d ∷ e ∷ es) c = last_command-push (e ∷ es) c
@@ -40,10 +43,10 @@ last_command-push (d ∷ e ∷ es) c = last_command-push (e ∷ es) c
 pub machine_is : (j : Kept) → IsBegun j → state_of j.standing ≡ j.machine
 machine_is j b = ap (λ s. unwrap_or (fold step s j.standing) empty) (sym b.start) ∙ ap (λ o. unwrap_or o empty) b.sound.value
 
-abbrev listed : List Command → List Command → Lists
+abbrev listed : List GroupedCommand → List GroupedCommand → Lists
 listed s u = record { standing = s; undone = u }
 
-same_lists : (s s' u u' : List Command) → s ≡ s' → u ≡ u' → listed s u ≡ listed s' u'
+same_lists : (s s' u u' : List GroupedCommand) → s ≡ s' → u ≡ u' → listed s u ≡ listed s' u'
 same_lists s s' u u' p q = rw (p, q) refl
 
 -- a journal that stays as it was, and the answer to that
@@ -83,11 +86,11 @@ grown : (l : Lists) → (l.undone ≡ []) × IsTrue (grows_at (length l.standing
 grown l g = ap (λ u. are_none u && grows_at (length l.standing)) g.0 ∙ g.1
 
 -- a change that finds no room, where it may want for some
-wanting : (l : Lists) (c : Command) → (length l.standing == 65535) ≡ false → (grows l || may_want (state_of l.standing) c) ≡ true → changing true l c ≡ tells l (answers.Refused NoRoom)
-wanting l c not_full wants = rw (not_full, wants) (either_way (has_text (Change c)) (tells l (answers.Refused NoRoom)))
+wanting : (l : Lists) (c : GroupedCommand) → (length l.standing == 65535) ≡ false → (grows l || may_want (state_of l.standing) c) ≡ true → changing true l c ≡ tells l (answers.Refused NoRoom)
+wanting l c not_full wants = rw (not_full, wants) (either_way (has_its_text c) (tells l (answers.Refused NoRoom)))
 
 -- a change that the journal answered
-pub changed : (old new : Kept) (c : Command) (r : Result Reply (JournalRefusal ShellRefusal)) → IsBegun old
+pub changed : (old new : Kept) (c : GroupedCommand) (r : Result GroupedReply (JournalRefusal ShellRefusal)) → IsBegun old
     → IfOk r (λ reply. Applies step before old c reply new)
     → (IsErrOf r journals.NoRoom → (old.undone ≡ []) × IsTrue (grows_at (length old.standing)))
     → (IsErrOf r journals.Full ↔ (length old.standing ≡ 65535))
@@ -137,11 +140,11 @@ undid old new b u sound = record {
   begun = record { start = u.start ∙ b.start; sound = sound };
 }
 
-refused_redo : (standing undone : List Command) → FirstMayWant may_want (state_of standing) undone → redoing true standing undone ≡ tells (listed standing undone) (answers.Refused NoRoom)
+refused_redo : (standing undone : List GroupedCommand) → FirstMayWant may_want (state_of standing) undone → redoing true standing undone ≡ tells (listed standing undone) (answers.Refused NoRoom)
 refused_redo standing [] wants = absurd wants
 refused_redo standing (c ∷ cs) wants = rw wants refl
 
-pub redid : (old new : Kept) (r : Result Reply (JournalRefusal ShellRefusal)) → IsBegun old
+pub redid : (old new : Kept) (r : Result GroupedReply (JournalRefusal ShellRefusal)) → IsBegun old
     → IfOk r (λ reply. Redoes step before old reply new)
     → (IsErrOf r journals.NothingToRedo ↔ (old.undone ≡ []))
     → (IsErrOf r journals.NoRoom → ⊥)
@@ -176,7 +179,7 @@ redid old new (Err (journals.Machine f)) b d nothing no_room full refused same s
 pub read_does : (old new : Kept) (o : Option Line) (l l' : Line) (answer : Answer) → o ≡ Some l → l ≡ l' → Does (by_line (Some l')) old new answer → Does (by_line o) old new answer
 read_does old new o l l' answer e same d = subst (λ p. Does (by_line p) old new answer) (sym (e ∙ ap Some same)) d
 
-pub changed_does : (old new : Kept) (c : Command) (answer : Answer) → Does (by_command c) old new answer → Does (by_line (Some (Change c))) old new answer
+pub changed_does : (old new : Kept) (c : Command) (answer : Answer) → Does (by_command (One c)) old new answer → Does (by_line (Some (Change c))) old new answer
 changed_does old new c answer d = record { no_room = d.no_room; told = d.told; begun = d.begun }
 
 pub asked_does : (j : Kept) (q : Query) (answer : Answer) → IsBegun j → Answers j.machine q answer → Does (by_line (Some (Ask q))) j j answer
@@ -194,6 +197,19 @@ load_does j o l name rule e same b = record {
   begun = b;
 }
 
+-- neither does a line that begins or ends a group
+pub other_does : (j : Kept) (o : Option Line) (l : Line) → o ≡ Some l → (l ≡ Group) ⊎ (l ≡ End) → IsBegun j → Does (by_line o) j j (answers.Refused ScriptSyntax)
+other_does j o l e (inl same) b = record {
+  no_room = false;
+  told = ap (λ p. line_told false (lists_of j) p) (e ∙ ap Some same);
+  begun = b;
+}
+other_does j o l e (inr same) b = record {
+  no_room = false;
+  told = ap (λ p. line_told false (lists_of j) p) (e ∙ ap Some same);
+  begun = b;
+}
+
 -- a text that found no room
 wanted : (j : Kept) (o : Option Line) → IsBegun j → takes_memory o ≡ true → Does (by_line o) j j (answers.Refused NoRoom)
 wanted j None b e = absurd cc
@@ -202,6 +218,8 @@ wanted j (Some Undo) b e = absurd cc
 wanted j (Some Redo) b e = absurd cc
 wanted j (Some (Ask q)) b e = absurd cc
 wanted j (Some (Load name rule)) b e = absurd cc
+wanted j (Some Group) b e = absurd cc
+wanted j (Some End) b e = absurd cc
 wanted j (Some (Change c)) b e = record { no_room = true; told = rw e refl; begun = b }
 
 pub refused_does : (j : Kept) (o : Option Line) (r : ShellRefusal) → IsBegun j → ((r ≡ ScriptSyntax) × (o ≡ None)) ⊎ ((r ≡ NoRoom) × IsTrue (takes_memory o)) → Does (by_line o) j j (answers.Refused r)
@@ -211,12 +229,12 @@ refused_does j o r b (inr room) = subst (λ f. Does (by_line o) j j (answers.Ref
 
 -- ---- the unit that ends
 
-pub line_does : (old new : Kept) (u : ScriptUnit) (answer : Answer) → takes_text u.first ≡ false → Does (by_line (line_of u.first)) old new answer → Does (by_unit u) old new answer
-line_does old new u answer other d = record { no_room = d.no_room; told = rw other d.told; begun = d.begun }
+pub line_does : (old new : Kept) (u : ScriptUnit) (answer : Answer) → takes_text u.first ≡ false → takes_members u.first ≡ false → Does (by_line (line_of u.first)) old new answer → Does (by_unit u) old new answer
+line_does old new u answer text group d = record { no_room = d.no_room; told = rw (text, group) d.told; begun = d.begun }
 
-pub closed_does : (old new : Kept) (u : ScriptUnit) (c : Command) (answer : Answer) → ((no_room : Bool) (l : Lists) → unit_told no_room l u ≡ changing no_room l c)
+pub closed_does : (old new : Kept) (u : ScriptUnit) (c : GroupedCommand) (answer : Answer) → ((no_room : Bool) (l : Lists) → (wants : Bool) × (unit_told wants l u ≡ changing no_room l c))
     → Does (by_command c) old new answer → Does (by_unit u) old new answer
-closed_does old new u c answer same d = record { no_room = d.no_room; told = same d.no_room (lists_of old) ∙ d.told; begun = d.begun }
+closed_does old new u c answer same d = let as_told = same d.no_room (lists_of old) in record { no_room = as_told.0; told = as_told.1 ∙ d.told; begun = d.begun }
 
 pub refusal_does : (j : Kept) (u : ScriptUnit) (r : ShellRefusal) → IsBegun j → IsRefused u r → Does (by_unit u) j j (answers.Refused r)
 refusal_does j u r b refused = record { no_room = refused.no_room; told = refused.told (lists_of j); begun = b }

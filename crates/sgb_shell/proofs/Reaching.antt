@@ -1,6 +1,5 @@
 -- How far a run has come, by a line, and by the end of the script.
-use Rattle.std.proofs.Common.{◌≡◌, ℕ, ◌+◌, ◌<◌, ◌≤◌, ◌^◌, Bool, true, false, ◌==◌, List, [], ◌∷◌, ◌++◌, length, Option, None, Some, Result, Ok, Err, min, ◌-◌, refl, sym, ap, ◌∙◌, subst, arith, length-append, append_assoc, append-nil}
-use Rattle.std.specs.List.{list_any}
+use Rattle.std.proofs.Common.{◌≡◌, ℕ, ◌+◌, ◌<◌, ◌≤◌, ◌^◌, Bool, false, cond, List, [], ◌∷◌, ◌++◌, length, Option, None, Some, Result, Ok, Err, min, ◌-◌, refl, sym, ap, ◌∙◌, subst, arith, length-append, append_assoc, append-nil}
 use Rattle.std.specs.Io.KnownBytes.{Appends}
 use Rattle.std.proofs.KnownBytes.{Appends-nil, Appends-trans}
 use Rattle.sgb_print.specs.Print.{AppendsFront, Prints}
@@ -13,8 +12,9 @@ use Rattle.sgb_shell.specs.Private.Performing.{Kept, IsBegun, Does, by_unit, lis
 use Rattle.sgb_shell.specs.Private.Reaching.{Taken, GoesOn, Ends, Waits, Settles, unit_by, number_at, unanswered, Reached, Stopped, Finishes, Ended, StoppedAtEnd, Concludes}
 use Rattle.sgb_shell.specs.Run.{AppendsPast}
 use Rattle.sgb_shell.specs.Answer.{answer_text}
-use Rattle.sgb_shell.specs.Transcript.{Course, course, whole_course, ended, answered_unit, goes_on, refusals, state_of}
-use Rattle.sgb_shell.specs.Unit.{ScriptUnit}
+use Rattle.sgb_shell.specs.Transcript.{Course, course, whole_course, ended, answered_unit, goes_on, refusals}
+use Rattle.sgb_shell.specs.Group.{closes}
+use Rattle.sgb_shell.specs.Unit.{ScriptUnit, with_line, as_closed}
 use Rattle.sgb_shell.proofs.Courses.{course-push, stepped, resolved, advance-by, unit_in, number-by, course-lines, refusals-few, course-refused, course_ordered, with_number, course-with_number, other_number, unit-answered, text-grows}
 use Rattle.sgb_shell.proofs.Performing.{machine_is}
 
@@ -74,6 +74,22 @@ stopped-earlier held now first more all s =
 pub stopped-reached : (held now : Option (List ℕ)) (ls : List (List ℕ)) (journal : Kept) (pending : Option Pending) (count refused : ℕ)
     → Reached held now ls journal pending count refused → Stopped held now ls ls
 stopped-reached held now ls journal pending count refused r = record { no_room = r.no_room; text = past-all held now _ r.text }
+
+-- ---- a line of a unit that goes on
+
+settled_by : (before : Option ScriptUnit) (unit unit' : Pending) (number : ℕ) (line : List ℕ) (journal : Kept) → Waits before (Some unit)
+    → ((u : ScriptUnit) → IsGathered u unit → (closes u line ≡ false) × IsGathered (with_line u line) unit')
+    → Settles (unit_by number before line) journal journal (Some unit') None
+settled_by None unit unit' number line journal waits longer = absurd waits
+settled_by (Some u) unit unit' number line journal waits longer =
+    let more = longer u waits in
+    subst (λ b. Settles (cond b (Ends (as_closed u)) (GoesOn (with_line u line))) journal journal (Some unit') None) (sym more.0) (refl, more.1)
+
+pub still_waits : (before : Option ScriptUnit) (pending : Option Pending) (unit unit' : Pending) (number : ℕ) (line : List ℕ) (journal : Kept)
+    → pending ≡ Some unit → Waits before pending
+    → ((u : ScriptUnit) → IsGathered u unit → (closes u line ≡ false) × IsGathered (with_line u line) unit')
+    → Settles (unit_by number before line) journal journal (Some unit') None
+still_waits before pending unit unit' number line journal is waits longer = settled_by before unit unit' number line journal (subst (Waits before) is waits) longer
 
 -- ---- a line that goes on
 

@@ -3,5 +3,6 @@ pub mod Lines
 pub mod Run
 pub mod Status
 pub mod Unit
+pub mod Group
 pub mod Transcript
 pub mod Private

@@ -11,43 +11,47 @@ use Rattle.sgb_script.specs.declared.command.Maker.TheVariants as makers
 use Rattle.sgb_script.specs.declared.command.Query.{Query}
 use Rattle.sgb_script.specs.declared.command.Query.TheVariants as queries
 use Rattle.sgb_script.specs.declared.command.Line.{Line}
-use Rattle.sgb_script.specs.declared.command.Line.TheVariants.{Nothing, Change, Undo, Redo, Ask, Load}
+use Rattle.sgb_script.specs.declared.command.Line.TheVariants.{Nothing, Change, Undo, Redo, Ask, Load, Group, End}
 use Rattle.sgb_shell.specs.declared.answer.Answer.{Answer}
 use Rattle.sgb_shell.specs.declared.answer.Answer.TheVariants as answers
 use Rattle.sgb_script.specs.declared.refusal.ShellRefusal.TheVariants.{NoRoom, NoGraph, ScriptSyntax, NothingToUndo, NothingToRedo, JournalFull}
 use Rattle.sgb_shell.specs.Answer.{answer_text}
 use Rattle.sgb_script.specs.Line.{line_of, has_text}
+use Rattle.sgb_shell.specs.Group.{closes, commands_in}
 use Rattle.sgb_shell.specs.Lines.{all_but_last, whole_lines, lines}
-use Rattle.sgb_shell.specs.Unit.{ScriptUnit, alone, opened, with_line, as_closed, takes_text, is_dot, is_whole, text_in}
+use Rattle.sgb_shell.specs.Unit.{ScriptUnit, alone, opened, with_line, as_closed, takes_text, takes_members, takes_lines, is_whole, text_in}
 use Rattle.sgb_text.specs.declared.saving.Saved.{Saved}
 use Rattle.sgb_text.specs.Clean.{clean_of, dirt_of}
 use Rattle.sgb_text.specs.Save.{text_of}
-use Rattle.sgb_session.specs.State.{State, StepOutcome, empty, step, may_want}
+use Rattle.sgb_groups.specs.declared.grouped.GroupedCommand.{GroupedCommand}
+use Rattle.sgb_groups.specs.declared.grouped.GroupedCommand.TheVariants as commands
+use Rattle.sgb_groups.specs.Grouped.{GroupedOutcome, step, may_want}
+use Rattle.sgb_session.specs.State.{State, empty}
 use Rattle.sgb_session.specs.Table.{find, graph_in}
 
 -- the commands that stand, and those that are undone, the next to redo first
 pub record Lists : Type 0 where
-  pub standing : List Command
-  pub undone : List Command
+  pub standing : List GroupedCommand
+  pub undone : List GroupedCommand
 
 -- the state that commands give, one after another, from the empty session
-abbrev pub state_of : List Command → State
-state_of commands = unwrap_or (fold step empty commands) empty
+abbrev pub state_of : List GroupedCommand → State
+state_of cs = unwrap_or (fold step empty cs) empty
 
 -- the lists after a unit, and what it is answered
 abbrev pub Told : Type 0
 Told = Lists × Answer
 
 -- an accepted command leaves other lists; a refused one leaves all as it was
-abbrev pub answered : Lists → Lists → StepOutcome → Told
+abbrev pub answered : Lists → Lists → GroupedOutcome → Told
 answered l accepted (Accepted s delta reply) = (accepted, answers.Replied reply)
 answered l accepted (Refused r) = (l, answers.Refused r)
 
 -- a command stands last, and nothing is undone any more
-abbrev pub with_command : Lists → Command → Lists
+abbrev pub with_command : Lists → GroupedCommand → Lists
 with_command l c = record { standing = l.standing ++ c ∷ []; undone = [] }
 
-abbrev pub are_none : List Command → Bool
+abbrev pub are_none : List GroupedCommand → Bool
 are_none [] = true
 are_none (c ∷ cs) = false
 
@@ -55,27 +59,32 @@ are_none (c ∷ cs) = false
 abbrev pub grows : Lists → Bool
 grows l = are_none l.undone && grows_at (length l.standing)
 
--- A command. Its text takes memory before the journal is asked; the journal may grow for it, and then its step may want
--- for memory.
-abbrev pub changing : Bool → Lists → Command → Told
+-- a command by itself has its text read first; those of a group are read with its lines
+abbrev pub has_its_text : GroupedCommand → Bool
+has_its_text (commands.One c) = has_text (Change c)
+has_its_text (commands.Group cs) = false
+
+-- A command, or a group. Its text takes memory before the journal is asked; the journal may grow for it, and then its
+-- step may want for memory.
+abbrev pub changing : Bool → Lists → GroupedCommand → Told
 changing no_room l c =
-    if no_room && has_text (Change c) then (l, answers.Refused NoRoom)
+    if no_room && has_its_text c then (l, answers.Refused NoRoom)
     else (if length l.standing == 65535 then (l, answers.Refused JournalFull)
     else (if no_room && (grows l || may_want (state_of l.standing) c) then (l, answers.Refused NoRoom)
     else answered l (with_command l c) (step (state_of l.standing) c)))
 
-abbrev pub last_command : List Command → Option Command
+abbrev pub last_command : List GroupedCommand → Option GroupedCommand
 last_command [] = None
 last_command (c ∷ []) = Some c
 last_command (c ∷ d ∷ ds) = last_command (d ∷ ds)
 
 -- the last standing command becomes the first undone one
-abbrev pub undoing : Lists → Option Command → Told
+abbrev pub undoing : Lists → Option GroupedCommand → Told
 undoing l None = (l, answers.Refused NothingToUndo)
 undoing l (Some c) = (record { standing = all_but_last l.standing; undone = c ∷ l.undone }, answers.Undone)
 
 -- the first undone command stands last
-abbrev pub redoing : Bool → List Command → List Command → Told
+abbrev pub redoing : Bool → List GroupedCommand → List GroupedCommand → Told
 redoing no_room standing [] = (record { standing = standing; undone = [] }, answers.Refused NothingToRedo)
 redoing no_room standing (c ∷ cs) =
     let l : Lists = record { standing = standing; undone = c ∷ cs } in
@@ -106,30 +115,44 @@ asked_of no_room s (queries.Save name) = saved_or_refused no_room s (find s.tabl
 abbrev pub line_told : Bool → Lists → Option Line → Told
 line_told no_room l None = (l, answers.Refused ScriptSyntax)
 line_told no_room l (Some Nothing) = (l, answers.Silent)
-line_told no_room l (Some (Change c)) = changing no_room l c
+line_told no_room l (Some (Change c)) = changing no_room l (commands.One c)
 line_told no_room l (Some Undo) = undoing l (last_command l.standing)
 line_told no_room l (Some Redo) = redoing no_room l.standing l.undone
 line_told no_room l (Some (Ask q)) = (l, asked_of no_room (state_of l.standing) q)
 line_told no_room l (Some (Load name rule)) = (l, answers.Refused ScriptSyntax)
+line_told no_room l (Some Group) = (l, answers.Refused ScriptSyntax)
+line_told no_room l (Some End) = (l, answers.Refused ScriptSyntax)
 
 -- What a unit with a text does: where its first line is good the text is gathered, which may want for memory, and where
 -- the text is whole it makes a graph.
 abbrev pub load_told : Bool → Lists → Option Line → ScriptUnit → Told
 load_told no_room l (Some (Load name rule)) u =
     if no_room && not (length u.inner == 0) then (l, answers.Refused NoRoom)
-    else (if is_whole u then changing no_room l (Make name (makers.Load (text_in u) rule))
+    else (if is_whole u then changing no_room l (commands.One (Make name (makers.Load (text_in u) rule)))
     else (l, answers.Refused ScriptSyntax))
 load_told no_room l line u = (l, answers.Refused ScriptSyntax)
 
+-- the commands of a group are performed as one, where there are no faults
+abbrev pub grouping : Bool → Lists → Option (List Command) → Told
+grouping no_room l None = (l, answers.Refused ScriptSyntax)
+grouping no_room l (Some cs) = changing no_room l (commands.Group cs)
+
+-- what a group does: where its first line is good its members are gathered, which may want for memory
+abbrev pub group_told : Bool → Lists → Option Line → ScriptUnit → Told
+group_told no_room l (Some Group) u =
+    if no_room && not (length u.inner == 0) then (l, answers.Refused NoRoom) else grouping no_room l (commands_in u)
+group_told no_room l line u = (l, answers.Refused ScriptSyntax)
+
 abbrev pub unit_told : Bool → Lists → ScriptUnit → Told
 unit_told no_room l u =
-    if takes_text u.first then load_told no_room l (line_of u.first) u else line_told no_room l (line_of u.first)
+    if takes_text u.first then load_told no_room l (line_of u.first) u
+    else (if takes_members u.first then group_told no_room l (line_of u.first) u else line_told no_room l (line_of u.first))
 
 abbrev pub refusals : Answer → ℕ
 refusals (answers.Refused r) = 1
 refusals answer = 0
 
--- how far a script has come: its lines, the unit whose text goes on, the lists, the refusals, and the text so far
+-- how far a script has come: its lines, the unit that goes on, the lists, the refusals, and the text so far
 pub record Course : Type 0 where
   pub lines : ℕ
   pub pending : Option ScriptUnit
@@ -153,12 +176,12 @@ goes_on c number told = record {
 abbrev pub answered_unit : List ℕ → Course → ScriptUnit → Course
 answered_unit no_room c u = goes_on c u.number (unit_told (list_any (λ n. n == u.number) no_room) c.lists u)
 
--- the line of the course's last number, behind a unit whose text goes on, or behind none
+-- the line of the course's last number, behind a unit that goes on, or behind none
 abbrev pub taken : List ℕ → Course → Option ScriptUnit → List ℕ → Course
 taken no_room c None line =
-    if takes_text line then record c { pending = Some (opened c.lines line) } else answered_unit no_room c (alone c.lines line)
+    if takes_lines line then record c { pending = Some (opened c.lines line) } else answered_unit no_room c (alone c.lines line)
 taken no_room c (Some u) line =
-    if is_dot line then answered_unit no_room c (as_closed u) else record c { pending = Some (with_line u line) }
+    if closes u line then answered_unit no_room c (as_closed u) else record c { pending = Some (with_line u line) }
 
 -- one line more
 abbrev pub advance : List ℕ → Course → List ℕ → Course
@@ -167,7 +190,7 @@ advance no_room c line = taken no_room (record c { lines = c.lines + 1 }) c.pend
 unfoldable pub course : List ℕ → List (List ℕ) → Course
 course no_room ls = fold_list (advance no_room) start ls
 
--- at the end of the script a unit whose text goes on is answered too
+-- at the end of the script a unit that goes on is answered too
 abbrev pub ended : List ℕ → Course → Option ScriptUnit → Course
 ended no_room c None = c
 ended no_room c (Some u) = answered_unit no_room c u

@@ -3,10 +3,11 @@ ghost use Rattle.sgb_print.specs.Print.{Prints};
 ghost use Rattle.std.specs.Prelude.{◌<◌, ◌++◌, codes, length};
 ghost use Rattle.std.specs.Fmt.{decimal};
 ghost use Rattle.std.specs.List.{flat_map};
-ghost use Rattle.sgb_shell.specs.Answer.{answer_text, reply_text, generator_text, refusal_text, count_text, list_text, entry_text, shown_text};
+ghost use Rattle.sgb_shell.specs.Answer.{answer_text, reply_text, grouped_count_text, generator_text, refusal_text, count_text, list_text, entry_text, shown_text};
 ghost use Rattle.sgb_session.specs.Table.{entry_in};
 
 use itoa::Buffer;
+use sgb_groups::GroupedReply;
 use sgb_print::{Failed, MeteredWriter, print_graph, print_made, put, put_all};
 use sgb_script::ShellRefusal;
 use sgb_session::{Reply, Session};
@@ -21,7 +22,7 @@ pub(crate) enum Answer {
     /// The last command was taken back.
     Undone,
     /// A command was accepted.
-    Replied(Reply),
+    Replied(GroupedReply),
     /// The generator was asked for.
     Generator,
     /// The graphs were asked for.
@@ -47,7 +48,8 @@ pub(crate) fn print_answer<W: Write>(
     match answer {
         Answer::Silent => Ok(()),
         Answer::Undone => put(writer, b"undone\n"),
-        Answer::Replied(reply) => print_reply(writer, reply),
+        Answer::Replied(GroupedReply::One(reply)) => print_reply(writer, reply),
+        Answer::Replied(GroupedReply::Group(members)) => print_group(writer, members.as_slice()),
         Answer::Generator => print_generator(writer, session),
         Answer::Graphs => print_list(writer, session),
         Answer::Graph(place) => print_graph_at(writer, session, *place),
@@ -86,6 +88,36 @@ fn print_reply<W: Write>(writer: &mut MeteredWriter<W>, reply: &Reply) -> Result
             )
         }
     }
+}
+
+// The replies of a group's members, and how many they are.
+fn print_group<W: Write>(writer: &mut MeteredWriter<W>, members: &[Reply]) -> Result<(), Failed>
+    ensures { Prints (W.contents writer.old.inner) (W.contents writer.new.inner) writer.old.failed writer.new.failed
+        result (flat_map reply_text members.now ++ grouped_count_text (length members.now)) }
+{
+    print_replies(writer, members)?;
+    print_grouped_count(writer, members.len())
+}
+
+fn print_replies<W: Write>(writer: &mut MeteredWriter<W>, members: &[Reply]) -> Result<(), Failed>
+    ensures { Prints (W.contents writer.old.inner) (W.contents writer.new.inner) writer.old.failed writer.new.failed
+        result (flat_map reply_text members.now) }
+{
+    for reply in members {
+        print_reply(writer, reply)?;
+    }
+    Ok(())
+}
+
+fn print_grouped_count<W: Write>(writer: &mut MeteredWriter<W>, count: usize) -> Result<(), Failed>
+    ensures { Prints (W.contents writer.old.inner) (W.contents writer.new.inner) writer.old.failed writer.new.failed
+        result (grouped_count_text count) }
+{
+    let mut digits = Buffer::new();
+    put_all(
+        writer,
+        &[b"grouped ", digits.format(count).as_bytes(), b"\n"],
+    )
 }
 
 fn print_generator<W: Write>(writer: &mut MeteredWriter<W>, session: &Session) -> Result<(), Failed>

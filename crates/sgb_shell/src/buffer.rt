@@ -1,6 +1,6 @@
 //! The line that is not finished.
 ghost use Rattle.std.specs.Prelude.{◌≡◌, ◌++◌, ◌∷◌, ◌==◌, [], true, false, List, ℕ, length, IfOk, MatchOption};
-ghost use Rattle.sgb_shell.specs.Unit.{takes_text, is_dot};
+ghost use Rattle.sgb_shell.specs.Unit.{takes_text, takes_members, is_dot, is_end};
 ghost use Rattle.sgb_shell.specs.Private.Holding.{held_line, is_above};
 
 use crate::first::FirstBytes;
@@ -74,6 +74,20 @@ impl LineBuffer {
         ensures { (line : List ℕ) → self.now ≡ held_line line → result ≡ takes_text line }
     {
         self.first.takes_text()
+    }
+
+    /// Whether the line begins a group.
+    pub(crate) fn takes_members(&self) -> bool
+        ensures { (line : List ℕ) → self.now ≡ held_line line → result ≡ takes_members line }
+    {
+        self.first.takes_members()
+    }
+
+    /// Whether the line ends a group.
+    pub(crate) fn is_end(&self) -> bool
+        ensures { (line : List ℕ) → self.now ≡ held_line line → result ≡ is_end line }
+    {
+        self.first.is_end()
     }
 
     /// Whether the line ends a text.

@@ -1,7 +1,8 @@
 //! What the definition of a transcript comes to.
 ghost use Rattle.std.specs.Prelude.{ℕ, List, IsSome};
 ghost use Rattle.sgb_undo.specs.Replay.{fold};
-ghost use Rattle.sgb_session.specs.State.{empty, step};
+ghost use Rattle.sgb_groups.specs.Grouped.{step};
+ghost use Rattle.sgb_session.specs.State.{empty};
 ghost use Rattle.sgb_shell.specs.Transcript.{course};
 
 /// After any lines, whichever of them wanted for memory, the standing commands are accepted one after another

@@ -6,36 +6,39 @@ ghost use Rattle.sgb_script.specs.declared.command.Line.TheVariants.{Undo, Redo}
 
 use crate::answer::Answer;
 use sgb_graph::Graph;
-use sgb_script::{Command, Line, Query, ShellRefusal, parse};
-use sgb_session::{Reply, Session};
+use sgb_groups::{GroupedCommand, GroupedReply, GroupedSession};
+use sgb_script::{Line, Query, ShellRefusal, parse};
+use sgb_session::Session;
 use sgb_text::save;
 use sgb_undo::{Journal, JournalRefusal};
 use std::alloc::Global;
 
 /// Reads a line without a text, and does what it says.
-pub(crate) fn perform(alloc: Global, journal: &mut Journal<Session>, line: &[u8]) -> Answer
+pub(crate) fn perform(alloc: Global, journal: &mut Journal<GroupedSession>, line: &[u8]) -> Answer
     ensures { IsBegun journal.old → Does (by_line (line_of line.now)) journal.old journal.new result }
 {
     match parse(alloc, line) {
         Ok(Line::Nothing) => Answer::Silent,
-        Ok(Line::Change(command)) => change(journal, command),
+        Ok(Line::Change(command)) => change(journal, GroupedCommand::One(command)),
         Ok(Line::Undo) => undo(journal),
         Ok(Line::Redo) => redo(journal),
-        Ok(Line::Ask(query)) => ask(alloc, journal.machine(), query),
+        Ok(Line::Ask(query)) => ask(alloc, journal.machine().session(), query),
         Ok(Line::Load(_, _)) => Answer::Refused(ShellRefusal::ScriptSyntax),
+        Ok(Line::Group) => Answer::Refused(ShellRefusal::ScriptSyntax),
+        Ok(Line::End) => Answer::Refused(ShellRefusal::ScriptSyntax),
         Err(refusal) => Answer::Refused(refusal),
     }
 }
 
-/// Performs a command.
-pub(crate) fn change(journal: &mut Journal<Session>, command: Command) -> Answer
+/// Performs a command, or a group.
+pub(crate) fn change(journal: &mut Journal<GroupedSession>, command: GroupedCommand) -> Answer
     ensures { IsBegun journal.old → Does (by_command command) journal.old journal.new result }
 {
     let outcome = journal.apply(command);
     answer_to(outcome)
 }
 
-fn undo(journal: &mut Journal<Session>) -> Answer
+fn undo(journal: &mut Journal<GroupedSession>) -> Answer
     ensures { IsBegun journal.old → Does (by_line (Some Undo)) journal.old journal.new result }
 {
     match journal.undo() {
@@ -44,14 +47,14 @@ fn undo(journal: &mut Journal<Session>) -> Answer
     }
 }
 
-fn redo(journal: &mut Journal<Session>) -> Answer
+fn redo(journal: &mut Journal<GroupedSession>) -> Answer
     ensures { IsBegun journal.old → Does (by_line (Some Redo)) journal.old journal.new result }
 {
     let outcome = journal.redo();
     answer_to(outcome)
 }
 
-fn answer_to(outcome: Result<Reply, JournalRefusal<ShellRefusal>>) -> Answer
+fn answer_to(outcome: Result<GroupedReply, JournalRefusal<ShellRefusal>>) -> Answer
     ensures { result ≡ answer_from outcome }
 {
     match outcome {

@@ -11,6 +11,7 @@ use crate::answer::{Answer, print_answer};
 use crate::buffer::LineBuffer;
 use crate::pending::Pending;
 use crate::unit::take_line;
+use sgb_groups::GroupedSession;
 use sgb_print::{Failed, MeteredWriter};
 use sgb_session::Session;
 use sgb_undo::Journal;
@@ -20,11 +21,11 @@ use std::io::Write;
 /// A session at work on a script.
 #[derive(Drop)]
 pub(crate) struct Shell {
-    // Where texts take their memory.
+    // Where texts and groups take their memory.
     alloc: Global,
     /// The commands that stand and those that are undone, with the session.
-    pub(crate) journal: Journal<Session>,
-    /// The unit whose text goes on.
+    pub(crate) journal: Journal<GroupedSession>,
+    /// The unit that goes on.
     pub(crate) pending: Option<Pending>,
     /// The line that is not finished.
     pub(crate) line: LineBuffer,
@@ -42,7 +43,7 @@ impl Shell {
         let line = LineBuffer::new(alloc)?;
         Ok(Shell {
             alloc,
-            journal: Journal::new(alloc, Session::new(alloc)),
+            journal: Journal::new(alloc, GroupedSession::new(alloc)),
             pending: None,
             line,
             lines: 0,
@@ -80,7 +81,7 @@ impl Shell {
         Ok(())
     }
 
-    /// Answers the line that no newline ends, where there is one, and the unit whose text has no end.
+    /// Answers the line that no newline ends, where there is one, and the unit that has no end.
     pub(crate) fn end<W: Write>(&mut self, writer: &mut MeteredWriter<W>) -> Result<(), Failed>
         ensures { (held : Option (List ℕ)) (script : List ℕ) → length script < 2 ^ 32
             → Progress held (W.contents writer.old.inner) script self.old.journal self.old.pending self.old.line self.old.lines self.old.refused
@@ -104,7 +105,7 @@ impl Shell {
         self.finish(writer)
     }
 
-    // Answers the unit whose text has no end, where there is one.
+    // Answers the unit that has no end, where there is one.
     fn end_unit<W: Write>(&mut self, writer: &mut MeteredWriter<W>) -> Result<(), Failed>
         ensures { (held : Option (List ℕ)) (ls : List (List ℕ)) → length ls ≤ 2 ^ 32
             → Reached held (W.contents writer.old.inner) ls self.old.journal self.old.pending self.old.lines self.old.refused
@@ -114,7 +115,7 @@ impl Shell {
             return Ok(());
         };
         let answer = Answer::Refused(unit.refusal());
-        let session = self.journal.machine();
+        let session = self.journal.machine().session();
         tell(writer, &mut self.refused, unit.number, session, &answer)
     }
 
@@ -140,7 +141,7 @@ impl Shell {
         let Some((number, answer)) = told else {
             return Ok(());
         };
-        let session = self.journal.machine();
+        let session = self.journal.machine().session();
         tell(writer, &mut self.refused, number, session, &answer)
     }
 }

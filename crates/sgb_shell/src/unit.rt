@@ -11,8 +11,8 @@ use crate::answer::Answer;
 use crate::buffer::LineBuffer;
 use crate::pending::Pending;
 use crate::perform::{change, perform};
+use sgb_groups::GroupedSession;
 use sgb_script::ShellRefusal;
-use sgb_session::Session;
 use sgb_undo::Journal;
 use std::alloc::Global;
 
@@ -20,7 +20,7 @@ use std::alloc::Global;
 /// with the number of its first line.
 pub(crate) fn take_line(
     alloc: Global,
-    journal: &mut Journal<Session>,
+    journal: &mut Journal<GroupedSession>,
     pending: &mut Option<Pending>,
     number: u64,
     line: &LineBuffer,
@@ -31,10 +31,10 @@ pub(crate) fn take_line(
     let Some(mut unit) = pending.take() else {
         return begin(alloc, journal, pending, number, line);
     };
-    if line.is_dot() {
+    if unit.closes(line) {
         return Some((unit.number, close(journal, unit)));
     }
-    unit.take_line(line);
+    unit.take_line(alloc, line);
     *pending = Some(unit);
     None
 }
@@ -42,7 +42,7 @@ pub(crate) fn take_line(
 // Takes a line behind which no unit goes on yet.
 fn begin(
     alloc: Global,
-    journal: &mut Journal<Session>,
+    journal: &mut Journal<GroupedSession>,
     pending: &mut Option<Pending>,
     number: u64,
     line: &LineBuffer,
@@ -51,14 +51,18 @@ fn begin(
         → Settles (unit_by number None l) journal.old journal.new pending.new result }
 {
     if line.takes_text() {
-        *pending = Some(Pending::new(alloc, number, line));
+        *pending = Some(Pending::text(alloc, number, line));
+        return None;
+    }
+    if line.takes_members() {
+        *pending = Some(Pending::group(alloc, number, line));
         return None;
     }
     Some((number, answer_line(alloc, journal, line)))
 }
 
-// Answers a unit whose text has its end.
-fn close(journal: &mut Journal<Session>, unit: Pending) -> Answer
+// Answers a unit that has its end.
+fn close(journal: &mut Journal<GroupedSession>, unit: Pending) -> Answer
     ensures { (u : ScriptUnit) → IsGathered u unit → IsBegun journal.old → Does (by_unit (as_closed u)) journal.old journal.new result }
 {
     match unit.command() {
@@ -68,7 +72,7 @@ fn close(journal: &mut Journal<Session>, unit: Pending) -> Answer
 }
 
 // Answers a line that is a unit of its own.
-fn answer_line(alloc: Global, journal: &mut Journal<Session>, line: &LineBuffer) -> Answer
+fn answer_line(alloc: Global, journal: &mut Journal<GroupedSession>, line: &LineBuffer) -> Answer
     ensures { (l : List ℕ) → line.now ≡ held_line l → IsBegun journal.old → Does (by_line (line_of l)) journal.old journal.new result }
 {
     match line.whole() {

@@ -1,19 +1,24 @@
 -- What is kept of a line while its bytes come.
 use Rattle.std.specs.Prelude.{ℕ, ◌==◌, Bool, nat_lt, List, length, take, drop}
-use Rattle.std.specs.List.{prefix_len}
+use Rattle.std.specs.List.{list_all}
+use Rattle.sgb_shell.specs.Unit.{unindented}
+
+-- six bytes from the first that is no space, and whether only spaces follow them
+pub record LineFront : Type 0 where
+  pub bytes : List ℕ
+  pub ends : Bool
 
 -- its first 8,192 bytes, whether there are more, and how it begins
 pub record HeldLine : Type 0 where
   pub bytes : List ℕ
   pub is_long : Bool
-  pub first : List ℕ
+  pub first : LineFront
 
--- five bytes from the first that is no space
-abbrev pub first_bytes : List ℕ → List ℕ
-first_bytes line = take 5 (drop (prefix_len (λ b. b == 32) line) line)
+abbrev pub front_of : List ℕ → LineFront
+front_of line = record { bytes = take 6 (unindented line); ends = list_all (λ b. b == 32) (drop 6 (unindented line)) }
 
 abbrev pub is_above : List ℕ → Bool
 is_above line = nat_lt 8192 (length line)
 
 unfoldable pub held_line : List ℕ → HeldLine
-held_line line = record { bytes = take 8192 line; is_long = is_above line; first = first_bytes line }
+held_line line = record { bytes = take 8192 line; is_long = is_above line; first = front_of line }

@@ -6,20 +6,21 @@ use Rattle.sgb_undo.specs.declared.refusal.JournalRefusal.{JournalRefusal}
 use Rattle.sgb_undo.specs.declared.refusal.JournalRefusal.TheVariants as journals
 use Rattle.sgb_shell.specs.declared.answer.Answer.{Answer}
 use Rattle.sgb_shell.specs.declared.answer.Answer.TheVariants.{Replied, Refused, Saved}
-use Rattle.sgb_script.specs.declared.command.Command.{Command}
+use Rattle.sgb_groups.specs.declared.grouped.GroupedCommand.{GroupedCommand}
+use Rattle.sgb_groups.specs.declared.grouped.GroupedDelta.{GroupedDelta}
+use Rattle.sgb_groups.specs.declared.grouped.GroupedReply.{GroupedReply}
+use Rattle.sgb_groups.specs.Grouped.{step, before}
 use Rattle.sgb_script.specs.declared.command.Line.{Line}
 use Rattle.sgb_script.specs.declared.command.Query.{Query}
 use Rattle.sgb_script.specs.declared.refusal.ShellRefusal.{ShellRefusal}
 use Rattle.sgb_script.specs.declared.refusal.ShellRefusal.TheVariants.{NoRoom, NothingToRedo, JournalFull}
-use Rattle.sgb_session.specs.declared.reply.Delta.{Delta}
-use Rattle.sgb_session.specs.declared.reply.Reply.{Reply}
-use Rattle.sgb_session.specs.State.{State, empty, step, before}
+use Rattle.sgb_session.specs.State.{State, empty}
 use Rattle.sgb_shell.specs.Transcript.{Lists, Told, asked_of, changing, saved_of, line_told, unit_told}
 use Rattle.sgb_shell.specs.Unit.{ScriptUnit}
 
 -- the session's journal, as its contracts see it
 abbrev pub Kept : Type 0
-Kept = History State Command Delta
+Kept = History State GroupedCommand GroupedDelta
 
 abbrev pub lists_of : Kept → Lists
 lists_of j = record { standing = j.standing; undone = j.undone }
@@ -35,7 +36,7 @@ refusal_from journals.Full = JournalFull
 refusal_from journals.NothingToRedo = NothingToRedo
 refusal_from (journals.Machine r) = r
 
-abbrev pub answer_from : Result Reply (JournalRefusal ShellRefusal) → Answer
+abbrev pub answer_from : Result GroupedReply (JournalRefusal ShellRefusal) → Answer
 answer_from (Ok reply) = Replied reply
 answer_from (Err e) = Refused (refusal_from e)
 
@@ -43,7 +44,7 @@ answer_from (Err e) = Refused (refusal_from e)
 abbrev pub Telling : Type 0
 Telling = Bool → Lists → Told
 
-abbrev pub by_command : Command → Telling
+abbrev pub by_command : GroupedCommand → Telling
 by_command c no_room l = changing no_room l c
 
 abbrev pub by_line : Option Line → Telling

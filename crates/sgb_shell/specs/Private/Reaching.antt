@@ -10,7 +10,8 @@ use Rattle.sgb_shell.specs.Private.Holding.{HeldLine, held_line}
 use Rattle.sgb_shell.specs.Private.Performing.{Kept, IsBegun, Does, lists_of, by_unit}
 use Rattle.sgb_shell.specs.Run.{AppendsPast}
 use Rattle.sgb_shell.specs.Transcript.{Course, course, whole_course}
-use Rattle.sgb_shell.specs.Unit.{ScriptUnit, alone, opened, with_line, as_closed, takes_text, is_dot}
+use Rattle.sgb_shell.specs.Group.{closes}
+use Rattle.sgb_shell.specs.Unit.{ScriptUnit, alone, opened, with_line, as_closed, takes_lines}
 
 -- ---- one line
 
@@ -19,12 +20,12 @@ pub data Taken : Type 0 where
   GoesOn : ScriptUnit → Taken
   Ends : ScriptUnit → Taken
 
--- the line of a number, behind a unit whose text goes on, or behind none
+-- the line of a number, behind a unit that goes on, or behind none
 abbrev pub unit_by : ℕ → Option ScriptUnit → List ℕ → Taken
-unit_by number None line = if takes_text line then GoesOn (opened number line) else Ends (alone number line)
-unit_by number (Some u) line = if is_dot line then Ends (as_closed u) else GoesOn (with_line u line)
+unit_by number None line = if takes_lines line then GoesOn (opened number line) else Ends (alone number line)
+unit_by number (Some u) line = if closes u line then Ends (as_closed u) else GoesOn (with_line u line)
 
--- what is gathered of the unit whose text goes on
+-- what is gathered of the unit that goes on
 abbrev pub Waits : Option ScriptUnit → Option Pending → Type 0
 Waits None None = Unit {0}
 Waits None (Some p) = ⊥
@@ -84,7 +85,7 @@ Takes held now failed failed' before script journal pending line lines refused (
 
 -- ---- the end of the script
 
--- all is answered, a unit whose text goes on too
+-- all is answered, a unit that goes on too
 pub record Ended (held now : Option (List ℕ)) (ls : List (List ℕ)) (count refusals : ℕ) : Type 0 where
   pub no_room : List ℕ
   pub lines : count ≡ length ls

@@ -1,4 +1,4 @@
-use Rattle.std.proofs.Common.{refl, subst}
+use Rattle.std.proofs.Common.{refl, ◌∙◌, subst}
 use Rattle.sgb_print.specs.Print.{Prints}
 use Rattle.sgb_shell.specs.Answer.{answer_text}
 use Rattle.sgb_shell.specs.Transcript.{course}
@@ -17,4 +17,4 @@ returns-clause-finishes g c held ls line few reached is =
     answer_taken held _ _ _ _ ls line _ _ _ _ _ _ _ _ (c.in-Some.number, c.in-Some.answer) c.tell.result reached few c.saturating_add-self.ensures
     (c.in-Some.ensures (course reached.no_room ls).pending line is reached.waits reached.begun) c.tell.ensures.refused
     (subst (λ s. Prints (g.W.Write.contents c.args.writer.now.inner) (g.W.Write.contents c.tell.new.writer.inner) c.args.writer.now.failed c.tell.new.writer.failed
-    c.tell.result (answer_text c.in-Some.number s c.in-Some.answer)) c.machine-session.ensures.value c.tell.ensures.prints)
+    c.tell.result (answer_text c.in-Some.number s c.in-Some.answer)) (c.session-session.ensures.value ∙ c.machine.ensures.value) c.tell.ensures.prints)
