@@ -1,0 +1,4 @@
+mod Linking
+mod Naming
+mod Parting
+mod Spelling

@@ -1,0 +1,82 @@
+//! Writes the parts of a text in the language of Graphviz.
+ghost use Rattle.std.specs.Prelude.{◌≡◌, ◌<◌};
+ghost use Rattle.sgb_graph.specs.Graph.{n_of};
+ghost use Rattle.sgb_print.specs.Print.{Prints};
+ghost use Rattle.sgb_export.specs.Dot.{arrow, dot_head, dot_vertex, dot_link};
+
+use crate::link::Link;
+use itoa::Buffer;
+use sgb_graph::{Graph, VertexNo};
+use sgb_print::{Failed, MeteredWriter, put_all};
+use std::io::Write;
+
+// What stands between the ends of an edge or arc.
+fn arrow(directed: bool) -> &'static str
+    ensures { result.now ≡ arrow directed }
+{
+    if directed { " -> " } else { " -- " }
+}
+
+// The first line.
+pub(crate) fn put_dot_head<W: Write>(
+    writer: &mut MeteredWriter<W>,
+    graph: &Graph,
+    directed: bool,
+) -> Result<(), Failed>
+    ensures { Prints (W.contents writer.old.inner) (W.contents writer.new.inner) writer.old.failed writer.new.failed
+        result (dot_head directed graph.now) }
+{
+    let id = graph.id();
+    if directed {
+        put_all(writer, &[b"digraph \"", id, b"\" {\n"])
+    } else {
+        put_all(writer, &[b"graph \"", id, b"\" {\n"])
+    }
+}
+
+// The line of a vertex.
+pub(crate) fn put_dot_vertex<W: Write>(
+    writer: &mut MeteredWriter<W>,
+    graph: &Graph,
+    vertex: VertexNo,
+) -> Result<(), Failed>
+    requires { vertex.0 < n_of graph.now }
+    ensures { Prints (W.contents writer.old.inner) (W.contents writer.new.inner) writer.old.failed writer.new.failed
+        result (dot_vertex graph.now vertex.0) }
+{
+    let mut digits = Buffer::new();
+    let digits = digits.format(vertex.0).as_bytes();
+    put_all(
+        writer,
+        &[b"  ", digits, b" [label=\"", graph.label(vertex), b"\"];\n"],
+    )
+}
+
+// The line of an edge or arc.
+pub(crate) fn put_dot_link<W: Write>(
+    writer: &mut MeteredWriter<W>,
+    directed: bool,
+    link: Link,
+) -> Result<(), Failed>
+    ensures { Prints (W.contents writer.old.inner) (W.contents writer.new.inner) writer.old.failed writer.new.failed
+        result (dot_link directed link) }
+{
+    let mut from_digits = Buffer::new();
+    let from = from_digits.format(link.from).as_bytes();
+    let mut to_digits = Buffer::new();
+    let to = to_digits.format(link.to).as_bytes();
+    let mut len_digits = Buffer::new();
+    let len = len_digits.format(link.len).as_bytes();
+    put_all(
+        writer,
+        &[
+            b"  ",
+            from,
+            arrow(directed).as_bytes(),
+            to,
+            b" [label=\"",
+            len,
+            b"\"];\n",
+        ],
+    )
+}

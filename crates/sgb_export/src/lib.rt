@@ -1,0 +1,22 @@
+//! Graphs in the text forms of other tools.
+#![tactic(auto)]
+
+mod check;
+mod count;
+mod dimacs;
+mod direction;
+mod dot;
+mod edges;
+mod exporting;
+mod fault;
+mod format;
+mod graphml;
+mod link;
+mod names;
+mod write;
+
+pub use check::check_export;
+pub use exporting::export;
+pub use fault::ExportFault;
+pub use format::Format;
+pub use write::write_export;

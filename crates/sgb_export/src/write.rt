@@ -1,0 +1,181 @@
+//! Writes the text of a graph.
+ghost use Rattle.std.specs.Prelude.{◌≡◌, ◌≤◌, ◌<◌, ◌+◌, IfOk, length};
+ghost use Rattle.sgb_graph.specs.Graph.{n_of};
+ghost use Rattle.sgb_print.specs.Print.{Prints};
+ghost use Rattle.sgb_export.specs.Links.{links_at, numbered};
+ghost use Rattle.sgb_export.specs.Export.{export_text};
+ghost use Rattle.sgb_export.specs.Private.Parts.{is_directed_in, head_text, vertex_text, vertices_text, link_text, links_text, foot_text};
+
+use crate::Format;
+use crate::dimacs::{put_dimacs_head, put_dimacs_link};
+use crate::direction::is_directed;
+use crate::dot::{put_dot_head, put_dot_link, put_dot_vertex};
+use crate::edges::{put_edges_head, put_edges_link, put_named_link};
+use crate::graphml::{put_graphml_head, put_graphml_link, put_graphml_vertex};
+use crate::link::{Link, is_written, link_at};
+use sgb_graph::{Graph, VertexNo};
+use sgb_print::{Failed, MeteredWriter, put};
+use std::io::Write;
+
+/// Writes the text of a graph in pieces: where it is undirected each edge once, else each arc, by vertex and in the order
+/// of its list; utility fields are left out. An arc that leads to no vertex is written as one to vertex 0:
+/// [`crate::check_export`] tells of it.
+///
+/// Takes no memory, and time of the whole graph.
+pub fn write_export<W: Write>(
+    writer: &mut MeteredWriter<W>,
+    graph: &Graph,
+    format: Format,
+) -> Result<(), Failed>
+    ensures { Prints (W.contents writer.old.inner) (W.contents writer.new.inner) writer.old.failed writer.new.failed
+        result (export_text format graph.now) }
+{
+    let directed = is_directed_in(format, graph);
+    put_head(writer, graph, format, directed)?;
+    put_vertices(writer, graph, format)?;
+    put_links(writer, graph, format, directed)?;
+    put_foot(writer, format)
+}
+
+// Every arc is written.
+fn is_directed_in(format: Format, graph: &Graph) -> bool
+    ensures { result ≡ is_directed_in format graph.now }
+{
+    match format {
+        Format::Dimacs => true,
+        _ => is_directed(graph),
+    }
+}
+
+// All before the first vertex.
+fn put_head<W: Write>(
+    writer: &mut MeteredWriter<W>,
+    graph: &Graph,
+    format: Format,
+    directed: bool,
+) -> Result<(), Failed>
+    ensures { Prints (W.contents writer.old.inner) (W.contents writer.new.inner) writer.old.failed writer.new.failed
+        result (head_text format directed graph.now) }
+{
+    match format {
+        Format::Dot => put_dot_head(writer, graph, directed),
+        Format::Dimacs => put_dimacs_head(writer, graph),
+        Format::Edges | Format::NamedEdges => put_edges_head(writer, graph, directed),
+        Format::Graphml => put_graphml_head(writer, graph, directed),
+    }
+}
+
+// The lines of the vertices.
+fn put_vertices<W: Write>(
+    writer: &mut MeteredWriter<W>,
+    graph: &Graph,
+    format: Format,
+) -> Result<(), Failed>
+    ensures { Prints (W.contents writer.old.inner) (W.contents writer.new.inner) writer.old.failed writer.new.failed
+        result (vertices_text format graph.now) }
+{
+    for v in 0..graph.n() {
+        put_vertex(writer, graph, format, VertexNo(v))?;
+    }
+    Ok(())
+}
+
+// The line of a vertex, where the format has one.
+fn put_vertex<W: Write>(
+    writer: &mut MeteredWriter<W>,
+    graph: &Graph,
+    format: Format,
+    vertex: VertexNo,
+) -> Result<(), Failed>
+    requires { vertex.0 < n_of graph.now }
+    ensures { Prints (W.contents writer.old.inner) (W.contents writer.new.inner) writer.old.failed writer.new.failed
+        result (vertex_text format graph.now vertex.0) }
+{
+    match format {
+        Format::Dot => put_dot_vertex(writer, graph, vertex),
+        Format::Graphml => put_graphml_vertex(writer, graph, vertex),
+        _ => Ok(()),
+    }
+}
+
+// The lines of the edges or arcs.
+fn put_links<W: Write>(
+    writer: &mut MeteredWriter<W>,
+    graph: &Graph,
+    format: Format,
+    directed: bool,
+) -> Result<(), Failed>
+    ensures { Prints (W.contents writer.old.inner) (W.contents writer.new.inner) writer.old.failed writer.new.failed
+        result (links_text format directed graph.now) }
+{
+    let mut count = 0;
+    for v in 0..graph.n() {
+        count = put_links_at(writer, graph, format, directed, VertexNo(v), count)?;
+    }
+    Ok(())
+}
+
+// The lines of those of one vertex, which count from `count` on. Answers the count behind them.
+fn put_links_at<W: Write>(
+    writer: &mut MeteredWriter<W>,
+    graph: &Graph,
+    format: Format,
+    directed: bool,
+    vertex: VertexNo,
+    count: u64,
+) -> Result<u64, Failed>
+    requires vertex { vertex.0 < n_of graph.now }
+    requires few { count ≤ 65535000000 }
+    ensures written { Prints (W.contents writer.old.inner) (W.contents writer.new.inner) writer.old.failed writer.new.failed
+        result (numbered (link_text format directed graph.now) count (links_at directed graph.now vertex.0)) }
+    ensures count { IfOk result (λ next. next ≡ count + length (links_at directed graph.now vertex.0)) }
+    ensures few { IfOk result (λ next. next ≤ count + 1000000) }
+{
+    let mut next = count;
+    for number in graph.walk(vertex, directed) {
+        let link = link_at(graph, vertex, number);
+        if !is_written(directed, link) {
+            continue;
+        }
+        put_link(writer, graph, format, directed, next, link)?;
+        next += 1;
+    }
+    Ok(next)
+}
+
+// The line of an edge or arc, whose number among them it is told.
+fn put_link<W: Write>(
+    writer: &mut MeteredWriter<W>,
+    graph: &Graph,
+    format: Format,
+    directed: bool,
+    number: u64,
+    link: Link,
+) -> Result<(), Failed>
+    requires from { link.from < n_of graph.now }
+    requires to { link.to < n_of graph.now }
+    ensures { Prints (W.contents writer.old.inner) (W.contents writer.new.inner) writer.old.failed writer.new.failed
+        result (link_text format directed graph.now number link) }
+{
+    // It tells that there are at most 65,535 vertices.
+    let _ = graph.n();
+    match format {
+        Format::Dot => put_dot_link(writer, directed, link),
+        Format::Dimacs => put_dimacs_link(writer, link),
+        Format::Edges => put_edges_link(writer, link),
+        Format::NamedEdges => put_named_link(writer, graph, link),
+        Format::Graphml => put_graphml_link(writer, number, link),
+    }
+}
+
+// All behind the last edge or arc.
+fn put_foot<W: Write>(writer: &mut MeteredWriter<W>, format: Format) -> Result<(), Failed>
+    ensures { Prints (W.contents writer.old.inner) (W.contents writer.new.inner) writer.old.failed writer.new.failed
+        result (foot_text format) }
+{
+    match format {
+        Format::Dot => put(writer, b"}\n"),
+        Format::Graphml => put(writer, b"  </graph>\n</graphml>\n"),
+        _ => Ok(()),
+    }
+}

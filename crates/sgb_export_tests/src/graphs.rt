@@ -1,0 +1,170 @@
+//! The graphs of the tests, and their texts. The functions promise nothing, so that the proof of a test stays short.
+
+use sgb_export::{ExportFault, Format, export};
+use sgb_graph::{
+    ArcNo, ArcPart, Graph, Items, Label, Parts, Refusal, Text, Tip, Types, Util, VertexNo,
+    VertexPart,
+};
+use sgb_print::MeteredWriter;
+use std::alloc::Global;
+
+/// A graph, or why there is none.
+pub type Made = Result<Graph, Refusal>;
+
+// The edits, without what undoes them.
+fn arc(graph: &mut Graph, from: u32, to: u32, len: i64) -> Result<(), Refusal> {
+    let _made = graph.new_arc(VertexNo(from), VertexNo(to), len)?;
+    Ok(())
+}
+
+fn edge(graph: &mut Graph, from: u32, to: u32, len: i64) -> Result<(), Refusal> {
+    let _made = graph.new_edge(VertexNo(from), VertexNo(to), len)?;
+    Ok(())
+}
+
+fn label(alloc: Global, graph: &mut Graph, vertex: u32, name: &[u8]) -> Result<(), Refusal> {
+    let _delta = graph.set_label(VertexNo(vertex), Text::new(alloc, name)?)?;
+    Ok(())
+}
+
+fn set_id(alloc: Global, graph: &mut Graph, id: &[u8]) -> Result<(), Refusal> {
+    let _delta = graph.set_id(Text::new(alloc, id)?)?;
+    Ok(())
+}
+
+fn set_len(graph: &mut Graph, number: u32, len: i64) -> Result<(), Refusal> {
+    let _delta = graph.set_len(ArcNo(number), len)?;
+    Ok(())
+}
+
+/// No vertices.
+pub fn empty(alloc: Global) -> Made {
+    Graph::new(alloc, 0)
+}
+
+/// An edge between two vertices.
+pub fn one_edge(alloc: Global) -> Made {
+    let mut graph = Graph::new(alloc, 2)?;
+    edge(&mut graph, 0, 1, 5)?;
+    Ok(graph)
+}
+
+/// The same, where one half is longer.
+pub fn uneven(alloc: Global) -> Made {
+    let mut graph = one_edge(alloc)?;
+    set_len(&mut graph, 1, 6)?;
+    Ok(graph)
+}
+
+/// Two edges between two vertices.
+pub fn two_edges(alloc: Global) -> Made {
+    let mut graph = one_edge(alloc)?;
+    edge(&mut graph, 1, 0, 6)?;
+    Ok(graph)
+}
+
+/// An arc.
+pub fn one_arc(alloc: Global) -> Made {
+    let mut graph = Graph::new(alloc, 2)?;
+    arc(&mut graph, 0, 1, -5)?;
+    Ok(graph)
+}
+
+/// A loop, and one that is no edge.
+pub fn loops(alloc: Global, directed: bool) -> Made {
+    let mut graph = Graph::new(alloc, 1)?;
+    if directed {
+        arc(&mut graph, 0, 0, 7)?;
+    } else {
+        edge(&mut graph, 0, 0, 7)?;
+    }
+    Ok(graph)
+}
+
+/// Three vertices with these names, and an edge between each two.
+pub fn triangle(alloc: Global, first: &[u8], second: &[u8], third: &[u8]) -> Made {
+    let mut graph = named(alloc, first, second, third)?;
+    edge(&mut graph, 0, 1, 1)?;
+    edge(&mut graph, 0, 2, 2)?;
+    edge(&mut graph, 1, 2, 3)?;
+    Ok(graph)
+}
+
+fn named(alloc: Global, first: &[u8], second: &[u8], third: &[u8]) -> Made {
+    let mut graph = Graph::new(alloc, 3)?;
+    label(alloc, &mut graph, 0, first)?;
+    label(alloc, &mut graph, 1, second)?;
+    label(alloc, &mut graph, 2, third)?;
+    Ok(graph)
+}
+
+/// One vertex, with this id and this name.
+pub fn single(alloc: Global, id: &[u8], name: &[u8]) -> Made {
+    let mut graph = Graph::new(alloc, 1)?;
+    set_id(alloc, &mut graph, id)?;
+    label(alloc, &mut graph, 0, name)?;
+    Ok(graph)
+}
+
+/// The Petersen graph: five vertices in a ring, five in a star, and an edge between each two that are alike.
+pub fn petersen(alloc: Global) -> Made {
+    let mut graph = Graph::new(alloc, 10)?;
+    for v in 0..5u32 {
+        edge(&mut graph, v, (v + 1) % 5, 1)?;
+        edge(&mut graph, v, v + 5, 1)?;
+        edge(&mut graph, v + 5, (v + 2) % 5 + 5, 1)?;
+    }
+    Ok(graph)
+}
+
+/// One vertex, whose arc has this tip.
+pub fn leading_to(alloc: Global, tip: Tip) -> Made {
+    let arc = ArcPart {
+        tip,
+        len: 1,
+        fields: [Util::Zero, Util::Zero],
+        next: None,
+    };
+    let vertex = VertexPart {
+        label: Label::empty(),
+        fields: zeros(),
+        first: Some(ArcNo(0)),
+    };
+    let parts = Parts {
+        id: Text::new(alloc, b"leading")?,
+        types: Types::none(),
+        fields: zeros(),
+        vertices: Items::from_vec(vec![in alloc; vertex]?),
+        arcs: Items::from_vec(vec![in alloc; arc]?),
+    };
+    Graph::build(alloc, parts)
+}
+
+fn zeros() -> [Util; 6] {
+    [
+        Util::Zero,
+        Util::Zero,
+        Util::Zero,
+        Util::Zero,
+        Util::Zero,
+        Util::Zero,
+    ]
+}
+
+/// The text of a graph, or why there is none.
+pub fn text_of(alloc: Global, made: &Made, format: Format) -> Result<Vec<u8>, ExportFault> {
+    let Ok(graph) = made else {
+        return Err(ExportFault::Refused(Refusal::NoRoom));
+    };
+    let mut writer = MeteredWriter::new(Vec::new(alloc));
+    export(alloc, graph, format, &mut writer)?;
+    Ok(writer.into_inner())
+}
+
+/// Whether the graph has this text.
+pub fn is_text(alloc: Global, made: &Made, format: Format, text: &str) -> bool {
+    match text_of(alloc, made, format) {
+        Ok(written) => written.as_slice() == text.as_bytes(),
+        Err(_) => false,
+    }
+}

@@ -1,0 +1,77 @@
+//! Graphs that have no text of a format.
+
+use crate::graphs::{Made, leading_to, text_of, triangle};
+use sgb_export::{ExportFault, Format, check_export, export};
+use sgb_graph::{Graph, Refusal, Tip};
+use sgb_print::MeteredWriter;
+use std::alloc::Global;
+
+const BAD: Option<ExportFault> = Some(ExportFault::Refused(Refusal::BadOperand));
+
+fn fault_of(alloc: Global, made: &Made, format: Format) -> Option<ExportFault> {
+    text_of(alloc, made, format).err()
+}
+
+#[test]
+fn arcs_to_no_vertex(rt: HostRuntime) {
+    let zero = leading_to(rt.alloc(), Tip::Zero);
+    assert!(rt; fault_of(rt.alloc(), &zero, Format::Dimacs) == BAD);
+    let one = leading_to(rt.alloc(), Tip::One);
+    assert!(rt; fault_of(rt.alloc(), &one, Format::Edges) == BAD);
+    assert!(rt; fault_of(rt.alloc(), &one, Format::Dot) == BAD);
+}
+
+// What is told where these names stand for the vertices.
+fn fault_of_names(alloc: Global, second: &[u8], third: &[u8]) -> Option<ExportFault> {
+    fault_of(
+        alloc,
+        &triangle(alloc, b"a", second, third),
+        Format::NamedEdges,
+    )
+}
+
+#[test]
+fn names_that_do_not_stand_for_vertices(rt: HostRuntime) {
+    assert!(rt; fault_of_names(rt.alloc(), b"b", b"c").is_none());
+    assert!(rt; fault_of_names(rt.alloc(), b"b", b"") == BAD);
+    assert!(rt; fault_of_names(rt.alloc(), b"b", b"a") == BAD);
+    assert!(rt; fault_of_names(rt.alloc(), b"b ", b"c") == BAD);
+    assert!(rt; fault_of_names(rt.alloc(), b"#b", b"c") == BAD);
+}
+
+// What is told of a graph before it is written.
+fn told(alloc: Global, made: &Made, format: Format) -> Result<(), Refusal> {
+    match made {
+        Ok(graph) => check_export(alloc, graph, format),
+        Err(_) => Err(Refusal::NoRoom),
+    }
+}
+
+#[test]
+fn checked(rt: HostRuntime) {
+    let same = triangle(rt.alloc(), b"a", b"b", b"a");
+    assert!(rt; told(rt.alloc(), &same, Format::NamedEdges) == Err(Refusal::BadOperand));
+    assert!(rt; told(rt.alloc(), &same, Format::Edges) == Ok(()));
+}
+
+// How many bytes a writer gets of a graph that is refused.
+fn written(alloc: Global, graph: &Graph) -> Option<usize> {
+    let mut writer = MeteredWriter::new(Vec::new(alloc));
+    match export(alloc, graph, Format::NamedEdges, &mut writer) {
+        Err(ExportFault::Refused(Refusal::BadOperand)) => Some(writer.into_inner().len()),
+        _ => None,
+    }
+}
+
+fn written_of(alloc: Global, made: &Made) -> Option<usize> {
+    match made {
+        Ok(graph) => written(alloc, graph),
+        Err(_) => None,
+    }
+}
+
+#[test]
+fn nothing_is_written(rt: HostRuntime) {
+    let same = triangle(rt.alloc(), b"a", b"b", b"a");
+    assert!(rt; written_of(rt.alloc(), &same) == Some(0));
+}

@@ -1,0 +1,184 @@
+//! The texts of each format.
+
+use crate::graphs::{
+    Made, empty, is_text, leading_to, loops, one_arc, one_edge, petersen, single, text_of,
+    triangle, two_edges, uneven,
+};
+use sgb_export::Format;
+use sgb_graph::{Tip, VertexNo};
+use std::alloc::Global;
+
+const DOT_EDGE: &str = "graph \"gb_new_graph(2)\" {
+  0 [label=\"\"];
+  1 [label=\"\"];
+  0 -- 1 [label=\"5\"];
+}
+";
+
+const DOT_ARC: &str = "digraph \"gb_new_graph(2)\" {
+  0 [label=\"\"];
+  1 [label=\"\"];
+  0 -> 1 [label=\"-5\"];
+}
+";
+
+const DIMACS_TRIANGLE: &str = "c gb_new_graph(3)
+p sp 3 6
+a 1 3 2
+a 1 2 1
+a 2 3 3
+a 2 1 1
+a 3 2 3
+a 3 1 2
+";
+
+const GRAPHML_SINGLE: &str = "<?xml version=\"1.0\" encoding=\"UTF-8\"?>
+<graphml xmlns=\"http://graphml.graphdrawing.org/xmlns\">
+  <key id=\"id\" for=\"graph\" attr.name=\"id\" attr.type=\"string\"/>
+  <key id=\"name\" for=\"node\" attr.name=\"name\" attr.type=\"string\"/>
+  <key id=\"len\" for=\"edge\" attr.name=\"len\" attr.type=\"long\"/>
+  <graph id=\"G\" edgedefault=\"undirected\">
+    <data key=\"id\">a&lt;b</data>
+    <node id=\"v0\"><data key=\"name\">&lt;R&amp;D&gt; x</data></node>
+  </graph>
+</graphml>
+";
+
+const GRAPHML_UNEVEN: &str = "<?xml version=\"1.0\" encoding=\"UTF-8\"?>
+<graphml xmlns=\"http://graphml.graphdrawing.org/xmlns\">
+  <key id=\"id\" for=\"graph\" attr.name=\"id\" attr.type=\"string\"/>
+  <key id=\"name\" for=\"node\" attr.name=\"name\" attr.type=\"string\"/>
+  <key id=\"len\" for=\"edge\" attr.name=\"len\" attr.type=\"long\"/>
+  <graph id=\"G\" edgedefault=\"directed\">
+    <data key=\"id\">gb_new_graph(2)</data>
+    <node id=\"v0\"><data key=\"name\"></data></node>
+    <node id=\"v1\"><data key=\"name\"></data></node>
+    <edge id=\"e0\" source=\"v0\" target=\"v1\"><data key=\"len\">5</data></edge>
+    <edge id=\"e1\" source=\"v1\" target=\"v0\"><data key=\"len\">6</data></edge>
+  </graph>
+</graphml>
+";
+
+#[test]
+fn dot(rt: HostRuntime) {
+    let edge = one_edge(rt.alloc());
+    assert!(rt; is_text(rt.alloc(), &edge, Format::Dot, DOT_EDGE));
+    let arc = one_arc(rt.alloc());
+    assert!(rt; is_text(rt.alloc(), &arc, Format::Dot, DOT_ARC));
+    let none = empty(rt.alloc());
+    assert!(rt;
+        is_text(
+            rt.alloc(),
+            &none,
+            Format::Dot,
+            "graph \"gb_new_graph(0)\" {\n}\n"
+        )
+    );
+}
+
+#[test]
+fn dimacs(rt: HostRuntime) {
+    let three = triangle(rt.alloc(), b"", b"", b"");
+    assert!(rt; is_text(rt.alloc(), &three, Format::Dimacs, DIMACS_TRIANGLE));
+    let none = empty(rt.alloc());
+    assert!(rt;
+        is_text(
+            rt.alloc(),
+            &none,
+            Format::Dimacs,
+            "c gb_new_graph(0)\np sp 0 0\n"
+        )
+    );
+}
+
+#[test]
+fn graphml(rt: HostRuntime) {
+    let one = single(rt.alloc(), b"a<b", b"<R&D> x");
+    assert!(rt; is_text(rt.alloc(), &one, Format::Graphml, GRAPHML_SINGLE));
+    let two = uneven(rt.alloc());
+    assert!(rt; is_text(rt.alloc(), &two, Format::Graphml, GRAPHML_UNEVEN));
+}
+
+// Whether the graph has this list of edges.
+fn is_list(alloc: Global, made: &Made, text: &str) -> bool {
+    is_text(alloc, made, Format::Edges, text)
+}
+
+#[test]
+fn edges(rt: HostRuntime) {
+    assert!(rt; is_list(rt.alloc(), &empty(rt.alloc()), "# graph 0 0\n"));
+    assert!(rt; is_list(rt.alloc(), &one_edge(rt.alloc()), "# graph 2 1\n0 1 5\n"));
+    assert!(rt;
+        is_list(
+            rt.alloc(),
+            &two_edges(rt.alloc()),
+            "# graph 2 2\n0 1 6\n0 1 5\n"
+        )
+    );
+    assert!(rt;
+        is_list(
+            rt.alloc(),
+            &loops(rt.alloc(), false),
+            "# graph 1 1\n0 0 7\n"
+        )
+    );
+}
+
+#[test]
+fn arcs(rt: HostRuntime) {
+    assert!(rt; is_list(rt.alloc(), &one_arc(rt.alloc()), "# digraph 2 1\n0 1 -5\n"));
+    assert!(rt;
+        is_list(
+            rt.alloc(),
+            &uneven(rt.alloc()),
+            "# digraph 2 2\n0 1 5\n1 0 6\n"
+        )
+    );
+    assert!(rt;
+        is_list(
+            rt.alloc(),
+            &loops(rt.alloc(), true),
+            "# digraph 1 1\n0 0 7\n"
+        )
+    );
+    let to_itself = leading_to(rt.alloc(), Tip::To(VertexNo(0)));
+    assert!(rt; is_list(rt.alloc(), &to_itself, "# digraph 1 1\n0 0 1\n"));
+}
+
+#[test]
+fn names(rt: HostRuntime) {
+    let three = triangle(rt.alloc(), b"Ada", b"B#", b"ada");
+    let text = "# graph 3 3\nAda ada 2\nAda B# 1\nB# ada 3\n";
+    assert!(rt; is_text(rt.alloc(), &three, Format::NamedEdges, text));
+}
+
+// How many lines the text has, and whether it begins so.
+fn lines_of(alloc: Global, made: &Made, format: Format, front: &[u8]) -> Option<usize> {
+    match text_of(alloc, made, format) {
+        Ok(text) if text.as_slice().starts_with(front) => {
+            Some(text.iter().filter(|byte| **byte == b'\n').count())
+        }
+        _ => None,
+    }
+}
+
+#[test]
+fn counts(rt: HostRuntime) {
+    let graph = petersen(rt.alloc());
+    let dimacs = lines_of(
+        rt.alloc(),
+        &graph,
+        Format::Dimacs,
+        b"c gb_new_graph(10)\np sp 10 30\n",
+    );
+    assert!(rt; dimacs == Some(32));
+    let edges = lines_of(rt.alloc(), &graph, Format::Edges, b"# graph 10 15\n");
+    assert!(rt; edges == Some(16));
+    let dot = lines_of(
+        rt.alloc(),
+        &graph,
+        Format::Dot,
+        b"graph \"gb_new_graph(10)\" {\n",
+    );
+    assert!(rt; dot == Some(27));
+}
