@@ -37,7 +37,7 @@ quick:
 edits:
 	@python3 tests/edits.py $(if $(CRATE),-v $(CRATE))
 
-# Compares each example's transcript, and those of the language's description.
+# Compares the transcripts of each example and of each script of tests/corpus, and those of the language's description.
 examples: bin/sgb
 	sh tests/examples.sh bin/sgb
 	python3 tests/documents.py bin/sgb docs/language.md docs/combinations.md
