@@ -37,7 +37,7 @@ quick:
 edits:
 	@python3 tests/edits.py $(if $(CRATE),-v $(CRATE))
 
-# Compares each example's transcript, and those of the language's description.
+# Compares the transcripts of each example and of each script of tests/corpus, and those of the language's description.
 examples: bin/sgb
 	sh tests/examples.sh bin/sgb
 	python3 tests/documents.py bin/sgb docs/language.md docs/combinations.md
@@ -50,7 +50,17 @@ growths: bin/sgb tests/out/refuse_growth.so
 program: bin/sgb
 	python3 tests/program.py bin/sgb
 
-tests/out/refuse_growth.so: tests/refuse_growth.c
+.PHONY: wants ends
+
+# Runs one script of every command, and the programs beside the script, with each growth refused.
+wants: bin/sgb tests/out/refuse_growth.so
+	python3 tests/wants.py bin/sgb tests/out/refuse_growth.so
+
+# Runs the program with reads and writes that fail or end at every byte.
+ends: bin/sgb tests/out/fail_io.so
+	python3 tests/ends.py bin/sgb tests/out/fail_io.so
+
+tests/out/%.so: tests/%.c
 	mkdir -p tests/out
 	$(CC) -O2 -shared -fPIC -o $@ $<
 
