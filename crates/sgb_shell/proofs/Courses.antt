@@ -10,7 +10,7 @@ use Rattle.sgb_shell.specs.Private.Performing.{Kept, Does, by_unit, lists_of}
 use Rattle.sgb_shell.specs.Private.Reaching.{Taken, GoesOn, Ends, unit_by, number_at, unanswered}
 use Rattle.sgb_shell.specs.Answer.{answer_text}
 use Rattle.sgb_shell.specs.Transcript.{Course, course, start, advance, taken, answered_unit, goes_on, unit_told, refusals, state_of}
-use Rattle.sgb_shell.specs.Unit.{ScriptUnit, alone, opened, with_line, as_closed, takes_lines}
+use Rattle.sgb_shell.specs.Unit.{ScriptUnit, alone, opened, with_line, closed_by, takes_lines}
 use Rattle.sgb_shell.specs.Group.{closes}
 
 -- ---- one line more
@@ -42,7 +42,7 @@ ends_or_goes false no_room c u v = refl
 
 taken-by : (no_room : List ℕ) (c : Course) (o : Option ScriptUnit) (line : List ℕ) → taken no_room c o line ≡ resolved no_room c (unit_by c.lines o line)
 taken-by no_room c None line = goes_or_ends (takes_lines line) no_room c (opened c.lines line) (alone c.lines line)
-taken-by no_room c (Some u) line = ends_or_goes (closes u line) no_room c (as_closed u) (with_line u line)
+taken-by no_room c (Some u) line = ends_or_goes (closes u line) no_room c (closed_by u line) (with_line u line)
 
 pub advance-by : (no_room : List ℕ) (c : Course) (line : List ℕ) → advance no_room c line ≡ resolved no_room (stepped c) (unit_by (c.lines + 1) c.pending line)
 advance-by no_room c line = taken-by no_room (stepped c) c.pending line
@@ -57,7 +57,7 @@ either_number false t s n p q = q
 
 pub number-by : (n : ℕ) (o : Option ScriptUnit) (line : List ℕ) → (unit_in (unit_by n o line)).number ≡ number_at n o
 number-by n None line = either_number (takes_lines line) (GoesOn (opened n line)) (Ends (alone n line)) n refl refl
-number-by n (Some u) line = either_number (closes u line) (Ends (as_closed u)) (GoesOn (with_line u line)) u.number refl refl
+number-by n (Some u) line = either_number (closes u line) (Ends (closed_by u line)) (GoesOn (with_line u line)) u.number refl refl
 
 -- ---- the lines and the refusals of a course
 

@@ -1,12 +1,14 @@
 -- What is gathered of a unit, line by line, and what comes of it.
 use Rattle.std.proofs.Common.{Vec, ◌≡◌, ℕ, ◌+◌, ◌==◌, ◌<◌, ◌≤◌, Bool, true, false, not, cond, List, [], ◌∷◌, ◌++◌, length, Option, None, Some, Result, Ok, Err, ◌⊎◌, inl, inr, refl, sym, ap, ◌∙◌, subst, append-nil, length-append, arith}
-use Rattle.std.specs.Prelude.{nat_le, is_none, ◌&&◌, ◌||◌}
+use Rattle.std.specs.Str.{bytes_eq}
+use Rattle.std.specs.Prelude.{codes, nat_le, is_none, ◌&&◌, ◌||◌}
 use Rattle.std.specs.declared.alloc.Global.{Global}
 use Rattle.std.proofs.lemmas.Bool.{cases_Bool, ne_eqb, and_left, and_right, le-leb, lt-leb, leb-false, ltb-false, ltb-true}
 use Rattle.std.proofs.lemmas.Grind.{flat_map-append}
 use Rattle.std.proofs.lemmas.List.Folds.{list_all-append}
 use Rattle.std.proofs.lemmas.List.Sums.{fold-append}
 use Rattle.sgb_groups.specs.Grouped.{may_want}
+use Rattle.sgb_groups.specs.declared.grouped.GroupedCommand.{GroupedCommand}
 use Rattle.sgb_groups.specs.declared.grouped.GroupedCommand.TheVariants.{One}
 use Rattle.sgb_groups.specs.declared.grouped.GroupedCommand.TheVariants as commands
 use Rattle.sgb_script.specs.declared.command.Command.{Command}
@@ -22,11 +24,11 @@ use Rattle.sgb_shell.specs.declared.answer.Answer.TheVariants.{Refused}
 use Rattle.sgb_shell.specs.declared.group.OpenGroup.{OpenGroup}
 use Rattle.sgb_shell.specs.declared.text.OpenText.{OpenText}
 use Rattle.sgb_shell.specs.declared.text.OpenText.TheVariants as texts
-use Rattle.sgb_shell.specs.Private.Gathering.{are_short, is_load, GathersText, IsText, Begins, IsRefused, is_group, IsMember, Collects, Adds, HasText, IsGroup, with_text}
+use Rattle.sgb_shell.specs.Private.Gathering.{ClosesText, are_short, is_load, GathersText, IsText, Begins, IsRefused, is_group, IsMember, Collects, Adds, HasText, IsGroup, with_text}
 use Rattle.sgb_shell.specs.Private.Holding.{is_above}
 use Rattle.sgb_shell.specs.Group.{Members, no_members, members_of, with_member, with_member_line, joined, few, commands_in, closes, text_member, line_member}
 use Rattle.sgb_shell.specs.Transcript.{Lists, Told, unit_told, load_told, group_told, grouping, changing, grows, state_of}
-use Rattle.sgb_shell.specs.Unit.{ScriptUnit, takes_text, takes_members, opened, with_line, as_closed, text_in, is_whole, is_dot, is_end}
+use Rattle.sgb_shell.specs.Unit.{ScriptUnit, takes_text, takes_members, opened, with_line, as_closed, closed_by, text_in, is_whole, is_dot, is_end}
 
 -- ---- line by line
 
@@ -491,3 +493,47 @@ group_closed u g list cs holds i same no_room l =
     let is : few (members_of u.inner).commands ≡ Some cs = few_enough _ list.items all.1 all.2 ∙ ap Some (sym same) in
     let told = grouped l u cs is no_room in
     (told.0, told_group told.0 l (as_closed u) i.other i.takes ∙ ap (λ o. group_told told.0 l o (as_closed u)) all.0 ∙ told.1)
+
+-- ---- the line that ends a unit
+
+abbrev with_closed : ScriptUnit → Bool → ScriptUnit
+with_closed u b = record u { closed = b }
+
+closed_so : (u : ScriptUnit) (line : List ℕ) → nat_le (length line) 8192 ≡ true → closed_by u line ≡ as_closed u
+closed_so u line short = ap (with_closed u) short
+
+is_short-dot : (line : List ℕ) → is_dot line ≡ true → nat_le (length line) 8192 ≡ true
+is_short-dot [] dot = refl
+is_short-dot (x ∷ []) dot = refl
+is_short-dot (x ∷ y ∷ line) dot = let never : bytes_eq (x ∷ y ∷ line) (codes ".") ≡ false = and_right (x == 46) false refl in cc
+
+module _ (u : ScriptUnit) (line : List ℕ) where
+  ended_well : closed_by u line ≡ as_closed u → (c : GroupedCommand)
+      → ((no_room : Bool) (l : Lists) → (wants : Bool) × (unit_told wants l (as_closed u) ≡ changing no_room l c))
+      → (no_room : Bool) (l : Lists) → (wants : Bool) × (unit_told wants l (closed_by u line) ≡ changing no_room l c)
+  ended_well same c told no_room l = let as_told = told no_room l in (as_told.0, ap (unit_told as_told.0 l) same ∙ as_told.1)
+
+  closed_text : closes u line ≡ true → takes_text u.first ≡ true → closed_by u line ≡ as_closed u
+  closed_text ends takes = closed_so u line (is_short-dot line (subst (λ b. cond b (is_dot line) (is_none (members_of u.inner).text && is_end line) ≡ true) takes ends))
+
+  pub text_ends : (t : OpenText) (c : Command) → closes u line ≡ true → IsText u t → ClosesText u (Ok c)
+      → (no_room : Bool) (l : Lists) → (wants : Bool) × (unit_told wants l (closed_by u line) ≡ changing no_room l (One c))
+  text_ends t c ends i told = ended_well (closed_text ends i.takes) (One c) (λ no_room l. (no_room, told.0 no_room l))
+
+  pub text_ends_refused : (t : OpenText) (r : ShellRefusal) → closes u line ≡ true → IsText u t → ClosesText u (Err r) → IsRefused (closed_by u line) r
+  text_ends_refused t r ends i told = subst (λ v. IsRefused v r) (sym (closed_text ends i.takes)) told.0
+
+  pub group_ends : (g : OpenGroup) (list : Vec Command Global) (cs : List Command) → is_above line ≡ false → g.commands ≡ Ok list → IsGroup u g → cs ≡ list.items
+      → (no_room : Bool) (l : Lists) → (wants : Bool) × (unit_told wants l (closed_by u line) ≡ changing no_room l (commands.Group cs))
+  group_ends g list cs short holds i same = ended_well (closed_so u line (short_line line short)) (commands.Group cs) (group_closed u g list cs holds i same)
+
+  pub group_ends_refused : (g : OpenGroup) (r : ShellRefusal) → g.commands ≡ Err r → IsGroup u g → IsRefused (closed_by u line) r
+  group_ends_refused g r holds i =
+      spoiled_so u (nat_le (length line) 8192) r i.other i.takes (subst (Collects (line_of u.first) (members_of u.inner).commands (not (length u.inner == 0))) holds i.commands)
+
+  pub group_ends_badly : (g : OpenGroup) → is_above line ≡ true → IsGroup u g → IsRefused (closed_by u line) ScriptSyntax
+  group_ends_badly g long i = record {
+    no_room = false;
+    told = λ l. told_group false l (closed_by u line) i.other i.takes
+        ∙ no_commands l (line_of u.first) (closed_by u line) (ap (λ b. cond b (few (members_of u.inner).commands) None) (long_line line long));
+  }

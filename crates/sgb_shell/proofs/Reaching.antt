@@ -14,7 +14,7 @@ use Rattle.sgb_shell.specs.Run.{AppendsPast}
 use Rattle.sgb_shell.specs.Answer.{answer_text}
 use Rattle.sgb_shell.specs.Transcript.{Course, course, whole_course, ended, answered_unit, goes_on, refusals}
 use Rattle.sgb_shell.specs.Group.{closes}
-use Rattle.sgb_shell.specs.Unit.{ScriptUnit, with_line, as_closed}
+use Rattle.sgb_shell.specs.Unit.{ScriptUnit, with_line, closed_by}
 use Rattle.sgb_shell.proofs.Courses.{course-push, stepped, resolved, advance-by, unit_in, number-by, course-lines, refusals-few, course-refused, course_ordered, with_number, course-with_number, other_number, unit-answered, text-grows}
 use Rattle.sgb_shell.proofs.Performing.{machine_is}
 
@@ -83,7 +83,7 @@ settled_by : (before : Option ScriptUnit) (unit unit' : Pending) (number : ℕ) 
 settled_by None unit unit' number line journal waits longer = absurd waits
 settled_by (Some u) unit unit' number line journal waits longer =
     let more = longer u waits in
-    subst (λ b. Settles (cond b (Ends (as_closed u)) (GoesOn (with_line u line))) journal journal (Some unit') None) (sym more.0) (refl, more.1)
+    subst (λ b. Settles (cond b (Ends (closed_by u line)) (GoesOn (with_line u line))) journal journal (Some unit') None) (sym more.0) (refl, more.1)
 
 pub still_waits : (before : Option ScriptUnit) (pending : Option Pending) (unit unit' : Pending) (number : ℕ) (line : List ℕ) (journal : Kept)
     → pending ≡ Some unit → Waits before pending

@@ -19,7 +19,7 @@ use Rattle.sgb_shell.specs.Answer.{answer_text}
 use Rattle.sgb_script.specs.Line.{line_of, has_text}
 use Rattle.sgb_shell.specs.Group.{closes, commands_in}
 use Rattle.sgb_shell.specs.Lines.{all_but_last, whole_lines, lines}
-use Rattle.sgb_shell.specs.Unit.{ScriptUnit, alone, opened, with_line, as_closed, takes_text, takes_members, takes_lines, is_whole, text_in}
+use Rattle.sgb_shell.specs.Unit.{ScriptUnit, alone, opened, with_line, closed_by, takes_text, takes_members, takes_lines, is_whole, text_in}
 use Rattle.sgb_text.specs.declared.saving.Saved.{Saved}
 use Rattle.sgb_text.specs.Clean.{clean_of, dirt_of}
 use Rattle.sgb_text.specs.Save.{text_of}
@@ -181,7 +181,7 @@ abbrev pub taken : List ℕ → Course → Option ScriptUnit → List ℕ → Co
 taken no_room c None line =
     if takes_lines line then record c { pending = Some (opened c.lines line) } else answered_unit no_room c (alone c.lines line)
 taken no_room c (Some u) line =
-    if closes u line then answered_unit no_room c (as_closed u) else record c { pending = Some (with_line u line) }
+    if closes u line then answered_unit no_room c (closed_by u line) else record c { pending = Some (with_line u line) }
 
 -- one line more
 abbrev pub advance : List ℕ → Course → List ℕ → Course

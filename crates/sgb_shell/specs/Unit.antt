@@ -3,7 +3,7 @@ use Rattle.std.specs.Prelude.{ℕ, ◌==◌, nat_le, Bool, true, false, not, ◌
 use Rattle.std.specs.List.{flat_map, list_all, prefix_len, take_while}
 use Rattle.std.specs.Str.{bytes_eq}
 
--- the number of its first line, this line, the lines behind it, and whether the line that ends them came
+-- the number of its first line, this line, the lines behind it, and whether a line of at most 8,192 bytes ended them
 pub record ScriptUnit : Type 0 where
   pub number : ℕ
   pub first : List ℕ
@@ -50,6 +50,9 @@ with_line u line = record u { inner = u.inner ++ line ∷ [] }
 
 abbrev pub as_closed : ScriptUnit → ScriptUnit
 as_closed u = record u { closed = true }
+
+abbrev pub closed_by : ScriptUnit → List ℕ → ScriptUnit
+closed_by u line = record u { closed = nat_le (length line) 8192 }
 
 -- the text has its end, and no line of it has more than 8,192 bytes
 abbrev pub is_whole : ScriptUnit → Bool

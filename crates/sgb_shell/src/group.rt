@@ -79,11 +79,14 @@ impl OpenGroup {
         add(&mut self.commands, member_of(alloc, line));
     }
 
-    /// The group as a command, where it has its end.
-    pub(crate) fn command(self) -> Result<GroupedCommand, ShellRefusal>
-        ensures { (u : ScriptUnit) → IsGroup u self → Closes u result }
+    /// The group as a command, where the line ends it.
+    pub(crate) fn command(self, line: &LineBuffer) -> Result<GroupedCommand, ShellRefusal>
+        ensures { (u : ScriptUnit) (l : List ℕ) → line.now ≡ held_line l → IsGroup u self → Closes u l result }
     {
         let OpenGroup { commands, .. } = self;
+        let Some(_) = line.whole() else {
+            return Err(ShellRefusal::ScriptSyntax);
+        };
         match commands {
             Ok(list) => Ok(GroupedCommand::Group(Items::from_vec(list))),
             Err(refusal) => Err(refusal),

@@ -71,14 +71,14 @@ impl Pending {
         }
     }
 
-    /// The command of the unit, which has its end.
-    pub(crate) fn command(self) -> Result<GroupedCommand, ShellRefusal>
-        ensures { (u : ScriptUnit) → IsGathered u self → Closes u result }
+    /// The command of the unit, which the line ends.
+    pub(crate) fn command(self, line: &LineBuffer) -> Result<GroupedCommand, ShellRefusal>
+        ensures { (u : ScriptUnit) (l : List ℕ) → line.now ≡ held_line l → closes u l ≡ true → IsGathered u self → Closes u l result }
     {
         let Pending { unit, .. } = self;
         match unit {
             OpenUnit::Text(text) => Ok(GroupedCommand::One(text.command()?)),
-            OpenUnit::Group(group) => group.command(),
+            OpenUnit::Group(group) => group.command(line),
         }
     }
 

@@ -1,7 +1,8 @@
 //! What the lines of a script come to, one by one.
-ghost use Rattle.std.specs.Prelude.{◌≡◌, List, ℕ, Option, None};
+ghost use Rattle.std.specs.Prelude.{◌≡◌, List, ℕ, Option, None, true};
 ghost use Rattle.sgb_script.specs.Line.{line_of};
-ghost use Rattle.sgb_shell.specs.Unit.{ScriptUnit, as_closed};
+ghost use Rattle.sgb_shell.specs.Unit.{ScriptUnit, closed_by};
+ghost use Rattle.sgb_shell.specs.Group.{closes};
 ghost use Rattle.sgb_shell.specs.Private.Holding.{held_line};
 ghost use Rattle.sgb_shell.specs.Private.Gathering.{IsGathered};
 ghost use Rattle.sgb_shell.specs.Private.Performing.{IsBegun, Does, by_line, by_unit};
@@ -32,7 +33,7 @@ pub(crate) fn take_line(
         return begin(alloc, journal, pending, number, line);
     };
     if unit.closes(line) {
-        return Some((unit.number, close(journal, unit)));
+        return Some((unit.number, close(journal, unit, line)));
     }
     unit.take_line(alloc, line);
     *pending = Some(unit);
@@ -61,11 +62,12 @@ fn begin(
     Some((number, answer_line(alloc, journal, line)))
 }
 
-// Answers a unit that has its end.
-fn close(journal: &mut Journal<GroupedSession>, unit: Pending) -> Answer
-    ensures { (u : ScriptUnit) → IsGathered u unit → IsBegun journal.old → Does (by_unit (as_closed u)) journal.old journal.new result }
+// Answers a unit that the line ends.
+fn close(journal: &mut Journal<GroupedSession>, unit: Pending, line: &LineBuffer) -> Answer
+    ensures { (u : ScriptUnit) (l : List ℕ) → line.now ≡ held_line l → closes u l ≡ true → IsGathered u unit → IsBegun journal.old
+        → Does (by_unit (closed_by u l)) journal.old journal.new result }
 {
-    match unit.command() {
+    match unit.command(line) {
         Ok(command) => change(journal, command),
         Err(refusal) => Answer::Refused(refusal),
     }

@@ -20,7 +20,7 @@ use Rattle.sgb_shell.specs.declared.text.OpenText.TheVariants as texts
 use Rattle.sgb_shell.specs.Group.{members_of, few, joined, text_member}
 use Rattle.sgb_shell.specs.Private.Holding.{is_above}
 use Rattle.sgb_shell.specs.Transcript.{Lists, unit_told, changing}
-use Rattle.sgb_shell.specs.Unit.{ScriptUnit, takes_text, takes_members, as_closed, text_in}
+use Rattle.sgb_shell.specs.Unit.{ScriptUnit, takes_text, takes_members, as_closed, closed_by, text_in}
 
 -- the unit is refused so, whatever stands
 pub record IsRefused (u : ScriptUnit) (r : ShellRefusal) : Type 0 where
@@ -134,8 +134,8 @@ pub record IsGathered (u : ScriptUnit) (p : Pending) : Type 0 where
   pub number : p.number ≡ u.number
   pub lines : GathersUnit u p.unit
 
--- What comes of the unit where it ends. A group that found room for its members may be told as one that did not, and one
+-- What comes of the unit where a line ends it. A group that found room for its members may be told as one that did not, and one
 -- that did not as one that did.
-abbrev pub Closes : ScriptUnit → Result GroupedCommand ShellRefusal → Type 0
-Closes u (Ok c) = (no_room : Bool) (l : Lists) → (wants : Bool) × (unit_told wants l (as_closed u) ≡ changing no_room l c)
-Closes u (Err r) = IsRefused (as_closed u) r
+abbrev pub Closes : ScriptUnit → List ℕ → Result GroupedCommand ShellRefusal → Type 0
+Closes u line (Ok c) = (no_room : Bool) (l : Lists) → (wants : Bool) × (unit_told wants l (closed_by u line) ≡ changing no_room l c)
+Closes u line (Err r) = IsRefused (closed_by u line) r

@@ -11,7 +11,7 @@ use Rattle.sgb_shell.specs.Private.Performing.{Kept, IsBegun, Does, lists_of, by
 use Rattle.sgb_shell.specs.Run.{AppendsPast}
 use Rattle.sgb_shell.specs.Transcript.{Course, course, whole_course}
 use Rattle.sgb_shell.specs.Group.{closes}
-use Rattle.sgb_shell.specs.Unit.{ScriptUnit, alone, opened, with_line, as_closed, takes_lines}
+use Rattle.sgb_shell.specs.Unit.{ScriptUnit, alone, opened, with_line, closed_by, takes_lines}
 
 -- ---- one line
 
@@ -23,7 +23,7 @@ pub data Taken : Type 0 where
 -- the line of a number, behind a unit that goes on, or behind none
 abbrev pub unit_by : ℕ → Option ScriptUnit → List ℕ → Taken
 unit_by number None line = if takes_lines line then GoesOn (opened number line) else Ends (alone number line)
-unit_by number (Some u) line = if closes u line then Ends (as_closed u) else GoesOn (with_line u line)
+unit_by number (Some u) line = if closes u line then Ends (closed_by u line) else GoesOn (with_line u line)
 
 -- what is gathered of the unit that goes on
 abbrev pub Waits : Option ScriptUnit → Option Pending → Type 0
