@@ -35,6 +35,10 @@ fn names_that_do_not_stand_for_vertices(rt: HostRuntime) {
     assert!(rt; fault_of_names(rt.alloc(), b"b", b"c").is_none());
     assert!(rt; fault_of_names(rt.alloc(), b"b", b"") == BAD);
     assert!(rt; fault_of_names(rt.alloc(), b"b", b"a") == BAD);
+}
+
+#[test]
+fn names_that_a_line_cannot_hold(rt: HostRuntime) {
     assert!(rt; fault_of_names(rt.alloc(), b"b ", b"c") == BAD);
     assert!(rt; fault_of_names(rt.alloc(), b"#b", b"c") == BAD);
 }

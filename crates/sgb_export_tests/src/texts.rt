@@ -108,39 +108,23 @@ fn is_list(alloc: Global, made: &Made, text: &str) -> bool {
 fn edges(rt: HostRuntime) {
     assert!(rt; is_list(rt.alloc(), &empty(rt.alloc()), "# graph 0 0\n"));
     assert!(rt; is_list(rt.alloc(), &one_edge(rt.alloc()), "# graph 2 1\n0 1 5\n"));
-    assert!(rt;
-        is_list(
-            rt.alloc(),
-            &two_edges(rt.alloc()),
-            "# graph 2 2\n0 1 6\n0 1 5\n"
-        )
-    );
-    assert!(rt;
-        is_list(
-            rt.alloc(),
-            &loops(rt.alloc(), false),
-            "# graph 1 1\n0 0 7\n"
-        )
-    );
+    let two = two_edges(rt.alloc());
+    assert!(rt; is_list(rt.alloc(), &two, "# graph 2 2\n0 1 6\n0 1 5\n"));
 }
 
 #[test]
 fn arcs(rt: HostRuntime) {
     assert!(rt; is_list(rt.alloc(), &one_arc(rt.alloc()), "# digraph 2 1\n0 1 -5\n"));
-    assert!(rt;
-        is_list(
-            rt.alloc(),
-            &uneven(rt.alloc()),
-            "# digraph 2 2\n0 1 5\n1 0 6\n"
-        )
-    );
-    assert!(rt;
-        is_list(
-            rt.alloc(),
-            &loops(rt.alloc(), true),
-            "# digraph 1 1\n0 0 7\n"
-        )
-    );
+    let two = uneven(rt.alloc());
+    assert!(rt; is_list(rt.alloc(), &two, "# digraph 2 2\n0 1 5\n1 0 6\n"));
+}
+
+#[test]
+fn loops_as_edges_and_as_arcs(rt: HostRuntime) {
+    let edge = loops(rt.alloc(), false);
+    assert!(rt; is_list(rt.alloc(), &edge, "# graph 1 1\n0 0 7\n"));
+    let arc = loops(rt.alloc(), true);
+    assert!(rt; is_list(rt.alloc(), &arc, "# digraph 1 1\n0 0 7\n"));
     let to_itself = leading_to(rt.alloc(), Tip::To(VertexNo(0)));
     assert!(rt; is_list(rt.alloc(), &to_itself, "# digraph 1 1\n0 0 1\n"));
 }
