@@ -138,10 +138,25 @@ fn union_of_steps(alloc: Global, multi: bool) -> Made {
     )
 }
 
+// How many that are, counted plainly: each vertex has an edge for each step that either graph takes, or with `multi` one
+// for each graph that takes it.
+fn counted_steps(multi: bool) -> usize {
+    let mut count = 0usize;
+    for step in 1..151u32 {
+        let first = step <= 50;
+        let second = step % 3 == 0;
+        let edges = usize::from(first || second) + usize::from(multi && first && second);
+        count = count.saturating_add(edges * 2000);
+    }
+    count
+}
+
 #[test]
 fn of_many_edges(rt: HostRuntime) -> Result<(), Fail> {
-    assert!(rt; walked_union(rt.alloc(), true) == 200_000);
+    assert!(rt; counted_steps(true) == 200_000);
+    assert!(rt; walked_union(rt.alloc(), true) == counted_steps(true));
     // 16 of the steps by threes are below 51.
-    assert!(rt; walked_union(rt.alloc(), false) == 168_000);
+    assert!(rt; counted_steps(false) == 168_000);
+    assert!(rt; walked_union(rt.alloc(), false) == counted_steps(false));
     Ok(())
 }

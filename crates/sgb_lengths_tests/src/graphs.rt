@@ -1,66 +1,81 @@
-//! Small graphs, and what is looked at of them.
+//! Graphs to give lengths, and questions that promise nothing, so that the proof of a test stays short. For the same
+//! reason graphs are handed about with their refusals.
+
 use sgb_flip::Flip;
 use sgb_graph::{ArcNo, Graph, Refusal, VertexNo};
 use sgb_lengths::{LengthsDelta, LengthsSpec, random_lengths, revert_lengths};
 use sgb_plan::Seed;
 use std::alloc::Global;
 
-/// A new arc.
-pub fn arc(graph: &mut Graph, from: u32, to: u32, len: i64) -> Result<(), Refusal> {
-    let (_number, _delta) = graph.new_arc(VertexNo(from), VertexNo(to), len)?;
+/// An arc or an edge from one vertex to another, of this length.
+pub type Line = (u32, u32, i64);
+
+/// A graph, or its refusal.
+pub type Made = Result<Graph, Refusal>;
+
+// A graph of n vertices with these edges.
+fn graph_of(alloc: Global, n: u32, edges: &[Line]) -> Made {
+    let mut graph = Graph::new(alloc, n)?;
+    insert_edges(&mut graph, edges)?;
+    Ok(graph)
+}
+
+fn insert_edges(graph: &mut Graph, edges: &[Line]) -> Result<(), Refusal> {
+    for (from, to, len) in edges {
+        graph.new_edge(VertexNo(*from), VertexNo(*to), *len)?;
+    }
     Ok(())
 }
 
-/// A new edge.
-pub fn edge(graph: &mut Graph, from: u32, to: u32, len: i64) -> Result<(), Refusal> {
-    let (_number, _delta) = graph.new_edge(VertexNo(from), VertexNo(to), len)?;
+fn insert_arc(graph: &mut Graph, line: Line) -> Result<(), Refusal> {
+    graph.new_arc(VertexNo(line.0), VertexNo(line.1), line.2)?;
     Ok(())
 }
 
 /// Two vertices and an edge between them.
-pub fn one_edge(alloc: Global) -> Result<Graph, Refusal> {
-    let mut graph = Graph::new(alloc, 2)?;
-    edge(&mut graph, 0, 1, 9)?;
-    Ok(graph)
+pub fn one_edge(alloc: Global) -> Made {
+    graph_of(alloc, 2, &[(0, 1, 9)])
 }
 
 /// Four vertices with two edges, an arc on either side of them, and a loop.
-pub fn mixed(alloc: Global) -> Result<Graph, Refusal> {
+pub fn mixed(alloc: Global) -> Made {
     let mut graph = Graph::new(alloc, 4)?;
-    arc(&mut graph, 0, 1, 7)?;
-    edge(&mut graph, 1, 2, 8)?;
-    edge(&mut graph, 3, 3, 2)?;
-    arc(&mut graph, 0, 3, 9)?;
+    mix(&mut graph)?;
     Ok(graph)
+}
+
+fn mix(graph: &mut Graph) -> Result<(), Refusal> {
+    insert_arc(graph, (0, 1, 7))?;
+    insert_edges(graph, &[(1, 2, 8), (3, 3, 2)])?;
+    insert_arc(graph, (0, 3, 9))
 }
 
 /// Two edges and two loops.
-pub fn paired(alloc: Global) -> Result<Graph, Refusal> {
-    let mut graph = Graph::new(alloc, 4)?;
-    edge(&mut graph, 0, 1, 7)?;
-    edge(&mut graph, 2, 1, 8)?;
-    edge(&mut graph, 3, 3, 2)?;
-    edge(&mut graph, 3, 3, 4)?;
+pub fn paired(alloc: Global) -> Made {
+    graph_of(alloc, 4, &[(0, 1, 7), (2, 1, 8), (3, 3, 2), (3, 3, 4)])
+}
+
+/// The graph without an arc.
+pub fn without(made: Made, number: u32) -> Made {
+    let mut graph = made?;
+    cut(&mut graph, number)?;
     Ok(graph)
 }
 
-/// Cuts an arc.
-pub fn cut(graph: &mut Graph, number: u32) -> Result<(), Refusal> {
+fn cut(graph: &mut Graph, number: u32) -> Result<(), Refusal> {
     let _delta = graph.cut(ArcNo(number))?;
     Ok(())
 }
 
-/// The lengths by number, of which -1 stands for a hole.
-pub fn lengths(alloc: Global, graph: &Graph) -> Result<Vec<i64>, Refusal> {
-    let mut list = Vec::new(alloc);
-    for number in 0..graph.made() {
-        list.push(length(graph, number))?;
+/// Whether these are the lengths by number, of which -1 stands for a hole.
+pub fn has_lengths(made: &Made, wanted: &[i64]) -> bool {
+    match made {
+        Ok(graph) => are_lengths(graph, wanted),
+        Err(_) => false,
     }
-    Ok(list)
 }
 
-/// Whether these are the lengths by number, of which -1 stands for a hole.
-pub fn has_lengths(graph: &Graph, wanted: &[i64]) -> bool {
+fn are_lengths(graph: &Graph, wanted: &[i64]) -> bool {
     let mut lengths = wanted.iter();
     for number in 0..graph.made() {
         if lengths.next() != Some(&length(graph, number)) {
@@ -80,33 +95,69 @@ fn length(graph: &Graph, number: u32) -> i64 {
     }
 }
 
+/// Whether the id has these bytes.
+pub fn has_id(made: &Made, id: &[u8]) -> bool {
+    match made {
+        Ok(graph) => graph.id() == id,
+        Err(_) => false,
+    }
+}
+
+// The graph. Where it is wanting there is no room, which no test of refusals asks for.
+fn operand(made: &mut Made) -> Result<&mut Graph, Refusal> {
+    match made {
+        Ok(graph) => Ok(graph),
+        Err(_) => Err(Refusal::NoRoom),
+    }
+}
+
 /// Gives the graph lengths from the generator, and answers the number of draws.
 pub fn lengthen(
     alloc: Global,
-    graph: &mut Graph,
+    made: &mut Made,
     flip: &mut Flip,
     spec: &LengthsSpec,
     seed: Seed,
 ) -> Result<u64, Refusal> {
-    let (_delta, draws) = random_lengths(alloc, graph, flip, spec, seed)?;
+    let (_delta, draws) = random_lengths(alloc, operand(made)?, flip, spec, seed)?;
     Ok(draws)
 }
 
 /// Gives the graph lengths and takes them back at once.
 pub fn lengthen_and_back(
     alloc: Global,
-    graph: &mut Graph,
+    made: &mut Made,
     flip: &mut Flip,
     spec: &LengthsSpec,
 ) -> Result<u64, Refusal> {
+    let graph = operand(made)?;
     let (delta, draws) = random_lengths(alloc, graph, flip, spec, Seed::Current)?;
     revert_lengths(graph, delta);
     Ok(draws)
 }
 
-/// What the delta keeps.
-pub fn kept(alloc: Global, graph: &mut Graph, spec: &LengthsSpec) -> Result<LengthsDelta, Refusal> {
+/// What is kept of the graph, or the refusal.
+pub type Kept = Result<LengthsDelta, Refusal>;
+
+/// What the delta keeps, where the lengths are those of seed 5.
+pub fn kept(alloc: Global, made: &mut Made, spec: &LengthsSpec) -> Kept {
     let mut flip = Flip::new(5);
-    let (delta, _draws) = random_lengths(alloc, graph, &mut flip, spec, Seed::Number(5))?;
+    let (delta, _draws) = random_lengths(alloc, operand(made)?, &mut flip, spec, Seed::Number(5))?;
     Ok(delta)
+}
+
+/// Whether these lengths are kept.
+pub fn keeps_lengths(kept: &Kept, lengths: &[i64]) -> bool {
+    match kept {
+        Ok(delta) => delta.lengths.as_slice() == lengths,
+        Err(_) => false,
+    }
+}
+
+/// Whether this id is kept.
+pub fn keeps_id(kept: &Kept, id: &[u8]) -> bool {
+    match kept {
+        Ok(delta) => delta.id.bytes() == id,
+        Err(_) => false,
+    }
 }
