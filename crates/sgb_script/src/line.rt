@@ -4,7 +4,7 @@ ghost use Rattle.std.specs.List.{list_all};
 ghost use Rattle.std.specs.Option.{option_and_then};
 ghost use Rattle.std.specs.Str.{bytes_eq};
 ghost use Rattle.sgb_script.specs.Words.{words_of};
-ghost use Rattle.sgb_script.specs.Arguments.{the_value, none};
+ghost use Rattle.sgb_script.specs.Arguments.{the_value};
 ghost use Rattle.sgb_script.specs.Line.{line_of, asked_of, line_after, keyword_of, step_of, whole_of, takes_memory, is_printable_byte};
 ghost use Rattle.sgb_script.specs.Private.Words.{seen, AreTexts, HasTexts};
 ghost use Rattle.sgb_script.specs.Private.Reading.{is_text, Reads};
@@ -56,6 +56,8 @@ enum Keyword {
 
 /// Reads one line of a script, without its newline. Refused 100 where it is no line of the language. Memory is taken
 /// for a text alone, once the line is known to be one.
+// A line is large: inlined, it is written where the caller keeps it and not handed up.
+#[inline(always)]
 #[tactic(auto, unfolding(crate::specs::Line::line_of))]
 pub fn parse(alloc: Global, line: &[u8]) -> Result<Line, ShellRefusal>
     ensures ok { IfOk result (λ l. line_of line.now ≡ Some l) }
@@ -71,6 +73,7 @@ pub fn parse(alloc: Global, line: &[u8]) -> Result<Line, ShellRefusal>
     asked(alloc, line)
 }
 
+#[inline(always)]
 fn asked(alloc: Global, line: &[u8]) -> Result<Line, ShellRefusal>
     requires { HasTexts (words_of line.now) }
     ensures { Reads (option_and_then asked_of (words_of line.now)) result }
@@ -168,6 +171,7 @@ fn is(word: &[u8], keyword: &str) -> bool
 }
 
 // What the keyword asks for with the words that follow it.
+#[inline(always)]
 fn asked_after(alloc: Global, keyword: Keyword, rest: &[u8]) -> Result<Line, ShellRefusal>
     requires { HasTexts (words_of rest.now) }
     ensures { Reads (option_and_then (λ ws. line_after ws keyword) (words_of rest.now)) result }

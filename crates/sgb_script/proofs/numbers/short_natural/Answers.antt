@@ -1,4 +1,4 @@
-use Rattle.std.proofs.Common.{◌<◌, ◌^◌, ◌≤◌, ◌-◌, get_or, arith}
+use Rattle.std.proofs.Common.{◌-◌, get_or, arith}
 use Rattle.sgb_script.proofs.Digits.{value_more, digits_more, small_more, below, all_read}
 use Rattle.sgb_script.proofs.numbers.short_natural.Goals as goal
 
