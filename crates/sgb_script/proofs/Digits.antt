@@ -1,9 +1,15 @@
 -- What `parse` reads, and the number that a word spells.
-use Rattle.std.proofs.Common.{◌≡◌, ◌≢◌, ℕ, zero, suc, ◌<◌, ◌^◌, Bool, true, false, not, ◌&&◌, ◌==◌, cond, List, [], ◌∷◌, length, Result, Ok, Err, None, Some, ℤ, pos, neg_ℤ, refl, sym, ap, ◌∙◌, arith, w64, nat_le, nat_lt, get_or, slice_index, inl, inr}
+use Rattle.std.proofs.Common.{◌≡◌, ◌≢◌, ℕ, zero, suc, ◌+◌, ◌*◌, ◌-◌, ◌<◌, ◌≤◌, ◌^◌, Bool, true, false, not, ◌&&◌, ◌==◌, cond, List, [], ◌∷◌, length, drop, drop-cons, add-one, Result, Ok, Err, None, Some, ℤ, pos, neg_ℤ, refl, sym, ap, ◌∙◌, arith, w64, nat_le, nat_lt, get_or, slice_index, inl, inr}
 use Rattle.std.specs.Option.{option_and_then}
 use Rattle.std.specs.Result.{OkIff, result_ok}
 use Rattle.std.specs.Str.{all_ascii_digits, IsUtf8, IsAscii}
-use Rattle.std.specs.Str.Parse.{ParsesSigned, ParsesUnsigned, digits_value}
+use Rattle.std.specs.Str.Parse.{ParsesSigned, ParsesUnsigned, digits_value, digits_value_after}
+use Rattle.std.specs.Char.{digit_value, is_ascii_digit}
+use Rattle.std.specs.Int.{IsInRange}
+use Rattle.std.proofs.Math.Nat.{pow-le-pow_right}
+use Rattle.std.proofs.lemmas.Grind.{pow_more}
+use Rattle.std.proofs.lemmas.List.{drop_all}
+use Rattle.std.proofs.lemmas.Str.{digit_value_digit}
 use Rattle.std.proofs.lemmas.Bool.{cases_Bool, and_right, false_from_ne_true, eqb-true, eqb-false, ne_eqb, leb-true, le-leb, ltb-true, lt-ltb}
 use Rattle.std.proofs.lemmas.Str.{IsUtf8-from_ascii}
 use Rattle.std.proofs.lemmas.Fmt.{IsAscii-from_digits}
@@ -140,3 +146,47 @@ no_plus [] plus = refl
 no_plus (c ∷ cs) plus =
     let first : c ≡ 43 = eqb-true c 43 plus in
     rw first (ap (option_and_then (λ n. cond (nat_lt n (2 ^ 63)) (Some (pos n)) None)) (natural_none (43 ∷ cs) refl))
+
+-- ---- a few digits, read one by one
+
+digit_is : (c : ℕ) → IsInRange 48 57 c → digit_value c ≡ c - 48
+digit_is c range = let same : digit_value c + 48 ≡ c = digit_value_digit c range in omega arith
+
+pub value_more : (value i : ℕ) (ds : List ℕ) → i < length ds → IsInRange 48 57 (get_or ds i 0) → digits_value_after 10 value (drop i ds) ≡ digits_value 10 ds
+    → digits_value_after 10 (value * 10 + (get_or ds i 0 - 48)) (drop (i + 1) ds) ≡ digits_value 10 ds
+value_more value i ds here range spelled =
+    rw add-one (sym (ap (λ d. digits_value_after 10 (value * 10 + d) (drop (suc i) ds)) (digit_is (get_or ds i 0) range)) ∙ sym (ap (digits_value_after 10 value) (drop-cons ds i 0 here)) ∙ spelled)
+
+pub digits_more : (i : ℕ) (ds : List ℕ) → i < length ds → true ≡ is_ascii_digit (get_or ds i 0) → all_ascii_digits (drop i ds) ≡ all_ascii_digits ds → all_ascii_digits (drop (i + 1) ds) ≡ all_ascii_digits ds
+digits_more i ds here digit tested =
+    rw add-one (ap (λ b. b && all_ascii_digits (drop (suc i) ds)) digit ∙ sym (ap all_ascii_digits (drop-cons ds i 0 here)) ∙ tested)
+
+pub small_more : (value i d : ℕ) → value < 10 ^ i → d < 10 → value * 10 + d < 10 ^ (i + 1)
+small_more value i d small digit = rw (pow_more 10 i) (omega arith)
+
+pub below : (value i k : ℕ) → value < 10 ^ i → i ≤ k → value < 10 ^ k
+below value i k small few =
+    let some : 0 < 10 = omega arith in
+    let most : 10 ^ i ≤ 10 ^ k = pow-le-pow_right some few in
+    omega arith
+
+pub all_read : (value i : ℕ) (ds : List ℕ) → length ds ≤ i → (length ds == 0) ≡ false → digits_value_after 10 value (drop i ds) ≡ digits_value 10 ds → all_ascii_digits (drop i ds) ≡ all_ascii_digits ds
+    → natural_of ds ≡ Some value
+unfolding natural_of
+all_read value i ds past some spelled tested =
+    let left : drop i ds ≡ [] = drop_all i ds past in
+    let value_is : value ≡ digits_value 10 ds = rw left at spelled in
+    let digits : true ≡ all_ascii_digits ds = rw left at tested in
+    rw (some, ← digits) (ap Some (sym value_is))
+
+no_empty : (n : ℕ) → natural_of [] ≡ Some n → ⊥
+unfolding natural_of
+no_empty n bad = cc
+
+pub short_number : (w : List ℕ) (n : ℕ) → natural_of w ≡ Some n → n < 10 ^ 17 → number_of w ≡ Some (pos n)
+unfolding number_of
+short_number [] n spelled small = absurd (let bad : natural_of [] ≡ Some n = spelled in no_empty n bad)
+short_number (c ∷ cs) n spelled small = elim (cases_Bool (c == 45)) [
+  | inl minus ↦ absurd (let none : natural_of (c ∷ cs) ≡ None = natural_none (c ∷ cs) (rw (eqb-true c 45 minus) refl) in let bad : None ≡ Some n = sym none ∙ spelled in cc)
+  | inr plain ↦ rw (plain, spelled) (let fits : nat_lt n (2 ^ 63) ≡ true = lt-ltb n (2 ^ 63) (omega arith) in rw fits refl)
+]

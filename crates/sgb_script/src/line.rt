@@ -4,7 +4,7 @@ ghost use Rattle.std.specs.List.{list_all};
 ghost use Rattle.std.specs.Option.{option_and_then};
 ghost use Rattle.std.specs.Str.{bytes_eq};
 ghost use Rattle.sgb_script.specs.Words.{words_of};
-ghost use Rattle.sgb_script.specs.Arguments.{the_value, none};
+ghost use Rattle.sgb_script.specs.Arguments.{the_value};
 ghost use Rattle.sgb_script.specs.Line.{line_of, asked_of, line_after, keyword_of, step_of, whole_of, takes_memory, is_printable_byte};
 ghost use Rattle.sgb_script.specs.Private.Words.{seen, AreTexts, HasTexts};
 ghost use Rattle.sgb_script.specs.Private.Reading.{is_text, Reads};
@@ -56,6 +56,8 @@ enum Keyword {
 
 /// Reads one line of a script, without its newline. Refused 100 where it is no line of the language. Memory is taken
 /// for a text alone, once the line is known to be one.
+// A line is large: inlined, it is written where the caller keeps it and not handed up.
+#[inline(always)]
 #[tactic(auto, unfolding(crate::specs::Line::line_of))]
 pub fn parse(alloc: Global, line: &[u8]) -> Result<Line, ShellRefusal>
     ensures ok { IfOk result (λ l. line_of line.now ≡ Some l) }
@@ -71,18 +73,17 @@ pub fn parse(alloc: Global, line: &[u8]) -> Result<Line, ShellRefusal>
     asked(alloc, line)
 }
 
+#[inline(always)]
 fn asked(alloc: Global, line: &[u8]) -> Result<Line, ShellRefusal>
     requires { HasTexts (words_of line.now) }
     ensures { Reads (option_and_then asked_of (words_of line.now)) result }
 {
-    if is_blank(line) {
-        return Ok(Line::Nothing);
-    }
     match split_word(line) {
         Some((Word::Plain(word), rest)) => match recognize(word) {
             Some(keyword) => asked_after(alloc, keyword, rest),
             None => Err(ShellRefusal::ScriptSyntax),
         },
+        None if is_blank(line) => Ok(Line::Nothing),
         _ => Err(ShellRefusal::ScriptSyntax),
     }
 }
@@ -170,160 +171,234 @@ fn is(word: &[u8], keyword: &str) -> bool
 }
 
 // What the keyword asks for with the words that follow it.
-#[inline(never)]
+#[inline(always)]
 fn asked_after(alloc: Global, keyword: Keyword, rest: &[u8]) -> Result<Line, ShellRefusal>
     requires { HasTexts (words_of rest.now) }
     ensures { Reads (option_and_then (λ ws. line_after ws keyword) (words_of rest.now)) result }
 {
-    let refused = ShellRefusal::ScriptSyntax;
     match keyword {
-        Keyword::Seed => seed(rest).ok_or(refused),
-        Keyword::Next => alone(rest, Line::Change(Command::Next)).ok_or(refused),
-        Keyword::Unif => unif(rest).ok_or(refused),
+        Keyword::Seed => seed(rest),
+        Keyword::Next => next(rest),
+        Keyword::Unif => unif(rest),
         Keyword::Make(kind) => make(alloc, kind, rest),
-        Keyword::Arc => arc(rest).ok_or(refused),
-        Keyword::Edge => edge(rest).ok_or(refused),
-        Keyword::Cut => cut(rest).ok_or(refused),
-        Keyword::Len => len(rest).ok_or(refused),
+        Keyword::Arc => arc(rest),
+        Keyword::Edge => edge(rest),
+        Keyword::Cut => cut(rest),
+        Keyword::Len => len(rest),
         Keyword::Set => set(alloc, rest),
-        Keyword::Types => types(rest).ok_or(refused),
+        Keyword::Types => types(rest),
         Keyword::Label => label(alloc, rest),
         Keyword::Id => id(alloc, rest),
-        Keyword::Lengths => lengths(rest).ok_or(refused),
-        Keyword::Drop => drop_graph(rest).ok_or(refused),
-        Keyword::Undo => alone(rest, Line::Undo).ok_or(refused),
-        Keyword::Redo => alone(rest, Line::Redo).ok_or(refused),
-        Keyword::Group => alone(rest, Line::Group).ok_or(refused),
-        Keyword::End => alone(rest, Line::End).ok_or(refused),
-        Keyword::Gen => alone(rest, Line::Ask(Query::Gen)).ok_or(refused),
-        Keyword::List => alone(rest, Line::Ask(Query::List)).ok_or(refused),
-        Keyword::Show => show(rest).ok_or(refused),
-        Keyword::Save => save(rest).ok_or(refused),
-        Keyword::Load => load(rest).ok_or(refused),
+        Keyword::Lengths => lengths(rest),
+        Keyword::Drop => drop_graph(rest),
+        Keyword::Undo => undo(rest),
+        Keyword::Redo => redo(rest),
+        Keyword::Group => group(rest),
+        Keyword::End => end(rest),
+        Keyword::Gen => generator(rest),
+        Keyword::List => list(rest),
+        Keyword::Show => show(rest),
+        Keyword::Save => save(rest),
+        Keyword::Load => load(rest),
     }
 }
 
-// The line, where no word follows.
-fn alone(rest: &[u8], line: Line) -> Option<Line>
-    ensures { result ≡ option_and_then (none line) (words_of rest.now) }
+fn next(rest: &[u8]) -> Result<Line, ShellRefusal>
+    ensures { Reads (option_and_then (λ ws. line_after ws keywords.Next) (words_of rest.now)) result }
 {
-    if is_blank(rest) { Some(line) } else { None }
+    if is_blank(rest) {
+        Ok(Line::Change(Command::Next))
+    } else {
+        Err(ShellRefusal::ScriptSyntax)
+    }
+}
+
+fn undo(rest: &[u8]) -> Result<Line, ShellRefusal>
+    ensures { Reads (option_and_then (λ ws. line_after ws keywords.Undo) (words_of rest.now)) result }
+{
+    if is_blank(rest) {
+        Ok(Line::Undo)
+    } else {
+        Err(ShellRefusal::ScriptSyntax)
+    }
+}
+
+fn redo(rest: &[u8]) -> Result<Line, ShellRefusal>
+    ensures { Reads (option_and_then (λ ws. line_after ws keywords.Redo) (words_of rest.now)) result }
+{
+    if is_blank(rest) {
+        Ok(Line::Redo)
+    } else {
+        Err(ShellRefusal::ScriptSyntax)
+    }
+}
+
+fn group(rest: &[u8]) -> Result<Line, ShellRefusal>
+    ensures { Reads (option_and_then (λ ws. line_after ws keywords.Group) (words_of rest.now)) result }
+{
+    if is_blank(rest) {
+        Ok(Line::Group)
+    } else {
+        Err(ShellRefusal::ScriptSyntax)
+    }
+}
+
+fn end(rest: &[u8]) -> Result<Line, ShellRefusal>
+    ensures { Reads (option_and_then (λ ws. line_after ws keywords.End) (words_of rest.now)) result }
+{
+    if is_blank(rest) {
+        Ok(Line::End)
+    } else {
+        Err(ShellRefusal::ScriptSyntax)
+    }
+}
+
+fn generator(rest: &[u8]) -> Result<Line, ShellRefusal>
+    ensures { Reads (option_and_then (λ ws. line_after ws keywords.Gen) (words_of rest.now)) result }
+{
+    if is_blank(rest) {
+        Ok(Line::Ask(Query::Gen))
+    } else {
+        Err(ShellRefusal::ScriptSyntax)
+    }
+}
+
+fn list(rest: &[u8]) -> Result<Line, ShellRefusal>
+    ensures { Reads (option_and_then (λ ws. line_after ws keywords.List) (words_of rest.now)) result }
+{
+    if is_blank(rest) {
+        Ok(Line::Ask(Query::List))
+    } else {
+        Err(ShellRefusal::ScriptSyntax)
+    }
 }
 
 #[inline(never)]
-fn seed(rest: &[u8]) -> Option<Line>
-    ensures { result ≡ option_and_then (λ ws. line_after ws keywords.Seed) (words_of rest.now) }
+fn seed(rest: &[u8]) -> Result<Line, ShellRefusal>
+    ensures { Reads (option_and_then (λ ws. line_after ws keywords.Seed) (words_of rest.now)) result }
 {
-    let seed = the_number(one_word(rest)?)?;
-    Some(Line::Change(Command::Seed(seed)))
+    let refused = ShellRefusal::ScriptSyntax;
+    let seed = the_number(one_word(rest).ok_or(refused)?).ok_or(refused)?;
+    Ok(Line::Change(Command::Seed(seed)))
 }
 
 #[inline(never)]
-fn unif(rest: &[u8]) -> Option<Line>
-    ensures { result ≡ option_and_then (λ ws. line_after ws keywords.Unif) (words_of rest.now) }
+fn unif(rest: &[u8]) -> Result<Line, ShellRefusal>
+    ensures { Reads (option_and_then (λ ws. line_after ws keywords.Unif) (words_of rest.now)) result }
 {
-    let bound = the_number(one_word(rest)?)?;
-    Some(Line::Change(Command::Unif(bound)))
+    let refused = ShellRefusal::ScriptSyntax;
+    let bound = the_number(one_word(rest).ok_or(refused)?).ok_or(refused)?;
+    Ok(Line::Change(Command::Unif(bound)))
 }
 
 #[inline(never)]
-fn arc(rest: &[u8]) -> Option<Line>
-    ensures { result ≡ option_and_then (λ ws. line_after ws keywords.Arc) (words_of rest.now) }
+fn arc(rest: &[u8]) -> Result<Line, ShellRefusal>
+    ensures { Reads (option_and_then (λ ws. line_after ws keywords.Arc) (words_of rest.now)) result }
 {
-    let (name, from, to, len) = four_words(rest)?;
-    let name = the_name(name)?;
-    let from = the_vertex(from)?;
-    let to = the_vertex(to)?;
-    let len = the_number(len)?;
-    Some(Line::Change(Command::Edit(name, Edit::Arc(from, to, len))))
+    let refused = ShellRefusal::ScriptSyntax;
+    let (name, from, to, len) = four_words(rest).ok_or(refused)?;
+    let name = the_name(name).ok_or(refused)?;
+    let from = the_vertex(from).ok_or(refused)?;
+    let to = the_vertex(to).ok_or(refused)?;
+    let len = the_number(len).ok_or(refused)?;
+    Ok(Line::Change(Command::Edit(name, Edit::Arc(from, to, len))))
 }
 
 #[inline(never)]
-fn edge(rest: &[u8]) -> Option<Line>
-    ensures { result ≡ option_and_then (λ ws. line_after ws keywords.Edge) (words_of rest.now) }
+fn edge(rest: &[u8]) -> Result<Line, ShellRefusal>
+    ensures { Reads (option_and_then (λ ws. line_after ws keywords.Edge) (words_of rest.now)) result }
 {
-    let (name, from, to, len) = four_words(rest)?;
-    let name = the_name(name)?;
-    let from = the_vertex(from)?;
-    let to = the_vertex(to)?;
-    let len = the_number(len)?;
-    Some(Line::Change(Command::Edit(name, Edit::Edge(from, to, len))))
+    let refused = ShellRefusal::ScriptSyntax;
+    let (name, from, to, len) = four_words(rest).ok_or(refused)?;
+    let name = the_name(name).ok_or(refused)?;
+    let from = the_vertex(from).ok_or(refused)?;
+    let to = the_vertex(to).ok_or(refused)?;
+    let len = the_number(len).ok_or(refused)?;
+    Ok(Line::Change(Command::Edit(name, Edit::Edge(from, to, len))))
 }
 
 #[inline(never)]
-fn cut(rest: &[u8]) -> Option<Line>
-    ensures { result ≡ option_and_then (λ ws. line_after ws keywords.Cut) (words_of rest.now) }
+fn cut(rest: &[u8]) -> Result<Line, ShellRefusal>
+    ensures { Reads (option_and_then (λ ws. line_after ws keywords.Cut) (words_of rest.now)) result }
 {
-    let (name, arc) = two_words(rest)?;
-    let name = the_name(name)?;
-    let arc = the_arc(arc)?;
-    Some(Line::Change(Command::Edit(name, Edit::Cut(arc))))
+    let refused = ShellRefusal::ScriptSyntax;
+    let (name, arc) = two_words(rest).ok_or(refused)?;
+    let name = the_name(name).ok_or(refused)?;
+    let arc = the_arc(arc).ok_or(refused)?;
+    Ok(Line::Change(Command::Edit(name, Edit::Cut(arc))))
 }
 
 #[inline(never)]
-fn len(rest: &[u8]) -> Option<Line>
-    ensures { result ≡ option_and_then (λ ws. line_after ws keywords.Len) (words_of rest.now) }
+fn len(rest: &[u8]) -> Result<Line, ShellRefusal>
+    ensures { Reads (option_and_then (λ ws. line_after ws keywords.Len) (words_of rest.now)) result }
 {
-    let (name, arc, len) = three_words(rest)?;
-    let name = the_name(name)?;
-    let arc = the_arc(arc)?;
-    let len = the_number(len)?;
-    Some(Line::Change(Command::Edit(name, Edit::Len(arc, len))))
+    let refused = ShellRefusal::ScriptSyntax;
+    let (name, arc, len) = three_words(rest).ok_or(refused)?;
+    let name = the_name(name).ok_or(refused)?;
+    let arc = the_arc(arc).ok_or(refused)?;
+    let len = the_number(len).ok_or(refused)?;
+    Ok(Line::Change(Command::Edit(name, Edit::Len(arc, len))))
 }
 
 #[inline(never)]
-fn types(rest: &[u8]) -> Option<Line>
-    ensures { result ≡ option_and_then (λ ws. line_after ws keywords.Types) (words_of rest.now) }
+fn types(rest: &[u8]) -> Result<Line, ShellRefusal>
+    ensures { Reads (option_and_then (λ ws. line_after ws keywords.Types) (words_of rest.now)) result }
 {
-    let (name, letters) = two_words(rest)?;
-    let name = the_name(name)?;
-    let types = the_letters(letters)?;
-    Some(Line::Change(Command::Edit(name, Edit::Types(types))))
+    let refused = ShellRefusal::ScriptSyntax;
+    let (name, letters) = two_words(rest).ok_or(refused)?;
+    let name = the_name(name).ok_or(refused)?;
+    let types = the_letters(letters).ok_or(refused)?;
+    Ok(Line::Change(Command::Edit(name, Edit::Types(types))))
 }
 
 #[inline(never)]
-fn drop_graph(rest: &[u8]) -> Option<Line>
-    ensures { result ≡ option_and_then (λ ws. line_after ws keywords.Drop) (words_of rest.now) }
+fn drop_graph(rest: &[u8]) -> Result<Line, ShellRefusal>
+    ensures { Reads (option_and_then (λ ws. line_after ws keywords.Drop) (words_of rest.now)) result }
 {
-    let name = the_name(one_word(rest)?)?;
-    Some(Line::Change(Command::Drop(name)))
+    let refused = ShellRefusal::ScriptSyntax;
+    let name = the_name(one_word(rest).ok_or(refused)?).ok_or(refused)?;
+    Ok(Line::Change(Command::Drop(name)))
 }
 
 #[inline(never)]
-fn show(rest: &[u8]) -> Option<Line>
-    ensures { result ≡ option_and_then (λ ws. line_after ws keywords.Show) (words_of rest.now) }
+fn show(rest: &[u8]) -> Result<Line, ShellRefusal>
+    ensures { Reads (option_and_then (λ ws. line_after ws keywords.Show) (words_of rest.now)) result }
 {
-    let name = the_name(one_word(rest)?)?;
-    Some(Line::Ask(Query::Show(name)))
+    let refused = ShellRefusal::ScriptSyntax;
+    let name = the_name(one_word(rest).ok_or(refused)?).ok_or(refused)?;
+    Ok(Line::Ask(Query::Show(name)))
 }
 
 #[inline(never)]
-fn save(rest: &[u8]) -> Option<Line>
-    ensures { result ≡ option_and_then (λ ws. line_after ws keywords.Save) (words_of rest.now) }
+fn save(rest: &[u8]) -> Result<Line, ShellRefusal>
+    ensures { Reads (option_and_then (λ ws. line_after ws keywords.Save) (words_of rest.now)) result }
 {
-    let name = the_name(one_word(rest)?)?;
-    Some(Line::Ask(Query::Save(name)))
+    let refused = ShellRefusal::ScriptSyntax;
+    let name = the_name(one_word(rest).ok_or(refused)?).ok_or(refused)?;
+    Ok(Line::Ask(Query::Save(name)))
 }
 
 #[inline(never)]
-fn load(rest: &[u8]) -> Option<Line>
-    ensures { result ≡ option_and_then (λ ws. line_after ws keywords.Load) (words_of rest.now) }
+fn load(rest: &[u8]) -> Result<Line, ShellRefusal>
+    ensures { Reads (option_and_then (λ ws. line_after ws keywords.Load) (words_of rest.now)) result }
 {
-    let (name, rule) = two_words(rest)?;
-    let name = the_name(name)?;
-    let rule = the_rule(rule)?;
-    Some(Line::Load(name, rule))
+    let refused = ShellRefusal::ScriptSyntax;
+    let (name, rule) = two_words(rest).ok_or(refused)?;
+    let name = the_name(name).ok_or(refused)?;
+    let rule = the_rule(rule).ok_or(refused)?;
+    Ok(Line::Load(name, rule))
 }
 
 #[inline(never)]
-fn lengths(rest: &[u8]) -> Option<Line>
-    ensures { result ≡ option_and_then (λ ws. line_after ws keywords.Lengths) (words_of rest.now) }
+fn lengths(rest: &[u8]) -> Result<Line, ShellRefusal>
+    ensures { Reads (option_and_then (λ ws. line_after ws keywords.Lengths) (words_of rest.now)) result }
 {
-    let (graph, rest) = split_word(rest)?;
-    let graph = the_name(graph)?;
-    let (directed, min, max, seed) = drawn(rest)?;
+    let refused = ShellRefusal::ScriptSyntax;
+    let (graph, rest) = split_word(rest).ok_or(refused)?;
+    let graph = the_name(graph).ok_or(refused)?;
+    let (directed, min, max, seed) = drawn(rest).ok_or(refused)?;
     let spec = LengthsSpec { directed, min, max };
-    Some(Line::Change(Command::Lengths(graph, spec, seed)))
+    Ok(Line::Change(Command::Lengths(graph, spec, seed)))
 }
 
 #[inline(never)]
@@ -383,8 +458,19 @@ fn is_comment(line: &[u8]) -> bool
     line.first() == Some(&b'#')
 }
 
+// Looks at all bytes, whatever it meets: so many are looked at together.
 fn is_printable(line: &[u8]) -> bool
     ensures { result ≡ list_all is_printable_byte line.now }
 {
-    line.iter().all(|b| (b' '..=b'~').contains(b))
+    let mut all = true;
+    'bytes: for byte in line {
+        all = all & is_printable_byte(*byte);
+    }
+    all
+}
+
+fn is_printable_byte(byte: u8) -> bool
+    ensures { result ≡ is_printable_byte byte }
+{
+    byte >= b' ' && byte <= b'~'
 }

@@ -1,11 +1,42 @@
 //! The numbers of a line.
-ghost use Rattle.std.specs.Prelude.{◌≡◌, ◌==◌, slice_index};
-ghost use Rattle.sgb_script.specs.Numbers.{number_of, index_of, bits_of, is_yes, in_32_bits};
+ghost use Rattle.std.specs.Prelude.{◌≡◌, ◌==◌, ◌<◌, ◌^◌, slice_index, IfSome, Some};
+ghost use Rattle.sgb_script.specs.Numbers.{natural_of, number_of, index_of, bits_of, is_yes, in_32_bits};
 
 use std::str::from_utf8;
 
+/// So many digits spell a number of 64 bits, whatever they are.
+const SHORT: usize = 17;
+
 /// A whole number: digits, and a minus before them.
 pub(crate) fn number(word: &[u8]) -> Option<i64>
+    ensures { result ≡ number_of word.now }
+{
+    match short_natural(word) {
+        Some(number) => Some(number as i64),
+        None => long_number(word),
+    }
+}
+
+// The number that a few digits spell; none tells nothing of the word.
+fn short_natural(digits: &[u8]) -> Option<u64>
+    ensures value { IfSome result (λ n. natural_of digits.now ≡ Some n) }
+    ensures small { IfSome result (λ n. n < 10 ^ 17) }
+{
+    if digits.is_empty() || digits.len() > SHORT {
+        return None;
+    }
+    let mut value = 0u64;
+    for digit in digits {
+        if !digit.is_ascii_digit() {
+            return None;
+        }
+        value = value * 10 + u64::from(*digit - b'0');
+    }
+    Some(value)
+}
+
+// A number of any length.
+fn long_number(word: &[u8]) -> Option<i64>
     ensures { result ≡ number_of word.now }
 {
     if has_plus(word) {

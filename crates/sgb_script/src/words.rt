@@ -46,8 +46,12 @@ pub(crate) fn two_words(line: &[u8]) -> Option<(Word<'_>, Word<'_>)>
     ensures { option_map (λ p. (seen p.0, seen p.1)) result ≡ two_of (words_of line.now) }
 {
     let (first, rest) = split_word(line)?;
-    let second = one_word(rest)?;
-    Some((first, second))
+    let (second, rest) = split_word(rest)?;
+    if is_blank(rest) {
+        Some((first, second))
+    } else {
+        None
+    }
 }
 
 /// The words, where there are three.
@@ -55,8 +59,13 @@ pub(crate) fn three_words(line: &[u8]) -> Option<(Word<'_>, Word<'_>, Word<'_>)>
     ensures { option_map (λ p. (seen p.0, seen p.1, seen p.2)) result ≡ three_of (words_of line.now) }
 {
     let (first, rest) = split_word(line)?;
-    let (second, third) = two_words(rest)?;
-    Some((first, second, third))
+    let (second, rest) = split_word(rest)?;
+    let (third, rest) = split_word(rest)?;
+    if is_blank(rest) {
+        Some((first, second, third))
+    } else {
+        None
+    }
 }
 
 /// The words, where there are four.
@@ -64,8 +73,14 @@ pub(crate) fn four_words(line: &[u8]) -> Option<(Word<'_>, Word<'_>, Word<'_>, W
     ensures { option_map (λ p. (seen p.0, seen p.1, seen p.2, seen p.3)) result ≡ four_of (words_of line.now) }
 {
     let (first, rest) = split_word(line)?;
-    let (second, third, fourth) = three_words(rest)?;
-    Some((first, second, third, fourth))
+    let (second, rest) = split_word(rest)?;
+    let (third, rest) = split_word(rest)?;
+    let (fourth, rest) = split_word(rest)?;
+    if is_blank(rest) {
+        Some((first, second, third, fourth))
+    } else {
+        None
+    }
 }
 
 /// The first word and what follows it, where the line begins with one.
