@@ -18,7 +18,7 @@ from concurrent.futures import FIRST_COMPLETED, ThreadPoolExecutor, wait
 from edits import rt, rtlib
 
 PROGRAM = 'bin/sgb'
-REFUSING = 'tests/out/refuse_growth.so'
+REFUSING, FAILING = 'tests/out/refuse_growth.so', 'tests/out/fail_io.so'
 # How many lines of a part, and of those that explain a failure, are printed.
 SHOWN = 30
 
@@ -223,11 +223,13 @@ class Gate:
         return 1 if self.failed else 0
 
     def parts_of_program(self):
-        self.log.call(['make', REFUSING])
+        self.log.call(['make', REFUSING, FAILING])
         yield 'examples', ['sh', 'tests/examples.sh', PROGRAM]
         yield 'documents', [sys.executable, 'tests/documents.py', PROGRAM, 'docs/language.md', 'docs/combinations.md']
         yield 'manual', [sys.executable, 'docs/manual.py', '--check', 'sgb.1']
         yield 'growths', [sys.executable, 'tests/growths.py', PROGRAM, REFUSING]
+        yield 'wants', [sys.executable, 'tests/wants.py', PROGRAM, REFUSING]
+        yield 'ends', [sys.executable, 'tests/ends.py', PROGRAM, FAILING]
         if os.path.isfile('tests/program.py'):
             yield 'program', [sys.executable, 'tests/program.py', PROGRAM]
 

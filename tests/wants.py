@@ -37,6 +37,10 @@ GROUPS = (b'next\ngroup\nend\ngroup\ngraph g 2\nedge g 0 1 5\n# no member\nnext\
           b'gen\n' + b'undo\n' * 4 + b'list\n' + b'redo\n' * 4 + b'group\nnext\ngraph i 1\nend\nsave b\n'
           b'group\nnext\nlabel g 0 "last"\n')
 
+# A group that takes memory for each of its members, behind commands of its kinds.
+MANY = (b'graph g 9\nrandom r 5 4 0 0 0 1 6 -\ngroup\n' + b'edge g 0 1 5\nnext\n' * 300 + b'label g 0 "here"\nboard b 3 3 0 0 1 0 0\n'
+        b'lengths b 0 1 9 -\ndrop r\ncomplement c b 0 0 0\nend\n')
+
 
 # Commands that find room where an earlier one left some.
 FIND_ROOM = (b'arc', b'edge', b'redo')
@@ -106,6 +110,18 @@ class Wants(Growths):
         self.tell(not never, name, 'never refused at', never)
         return most
 
+    def try_undos(self, script, undos):
+        """The script with no more memory than it asks for, then undos, each of which succeeds and takes none."""
+        def limited(script, limit):
+            return subprocess.run([self.program, 'run'], input=script, stdout=subprocess.PIPE, stderr=subprocess.PIPE,
+                                  env={'LD_PRELOAD': self.library, 'GROWTH_LIMIT': str(limit)}).stdout
+        wanted, few, enough = self.transcript_of(script), 0, 1 << 24
+        while few < enough:
+            limit = (few + enough) // 2
+            few, enough = (few, limit) if limited(script, limit) == wanted else (limit + 1, enough)
+        met = limited(script + undos, enough)
+        self.tell(met == wanted + b'undone\n' * undos.count(b'undo'), 'undos behind the last memory answered', met[len(wanted):])
+
     def try_program(self, *words):
         """How many growths a program beside the script has; with each refused it tells `no room` and writes nothing."""
         plain = subprocess.run([self.program, *words], stdout=subprocess.PIPE, stderr=subprocess.PIPE)
@@ -129,6 +145,7 @@ def main():
     counts = [wants.try_units('the script of every command', COMMANDS)]
     if wants.transcript_of(b'group\nend\n') == b'grouped 0\n':
         counts.append(wants.try_units('the script of groups', GROUPS))
+        wants.try_undos(MANY, b'undo\n' * 3)
     with tempfile.TemporaryDirectory() as folder:
         for name, text in ('edge', EDGE), ('cut', EDGE[:60]), ('wrong', EDGE.replace(b'522', b'523')):
             path = os.path.join(folder, name)

@@ -4,21 +4,15 @@
 #[cfg(test)]
 mod arcs;
 #[cfg(test)]
-mod calls;
-#[cfg(test)]
 mod fake;
 #[cfg(test)]
 mod fields;
-#[cfg(test)]
-mod journals;
 #[cfg(test)]
 mod limits;
 #[cfg(test)]
 mod lines;
 #[cfg(test)]
 mod many;
-#[cfg(test)]
-mod session;
 #[cfg(test)]
 mod table;
 #[cfg(test)]
