@@ -110,6 +110,15 @@ class Wants(Growths):
         self.tell(not never, name, 'never refused at', never)
         return most
 
+    def try_met(self, script, lines):
+        """That each of these lines is once answered by refusal 1."""
+        met, number, was_asked = set(), 0, True
+        while was_asked:
+            number += 1
+            result, was_asked = self.run_refusing(script, number)
+            met.add(refused_line(result) if was_asked else None)
+        self.tell(set(lines) <= met, 'refused only at', met)
+
     def try_undos(self, script, undos):
         """The script with no more memory than it asks for, then undos, each of which succeeds and takes none."""
         def limited(script, limit):
@@ -145,6 +154,7 @@ def main():
     counts = [wants.try_units('the script of every command', COMMANDS)]
     if wants.transcript_of(b'group\nend\n') == b'grouped 0\n':
         counts.append(wants.try_units('the script of groups', GROUPS))
+        wants.try_met(b'seed 7\ngroup\nnext\nend\nundo\nredo\n', [2, 6])
         wants.try_undos(MANY, b'undo\n' * 3)
     with tempfile.TemporaryDirectory() as folder:
         for name, text in ('edge', EDGE), ('cut', EDGE[:60]), ('wrong', EDGE.replace(b'522', b'523')):
