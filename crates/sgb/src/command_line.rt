@@ -9,8 +9,8 @@ use std::alloc::{AllocError, Global};
 // What stands below the help.
 const MORE_HELP: &str = "\
 Status:
-  0  every line, or the saved graph, was accepted
-  1  a line, or the saved graph, was refused
+  0  every line, the saved graph, or the words of a graph were accepted
+  1  a line, the saved graph, or the words of a graph were refused
   2  a fault: a bad command line, a file that cannot be opened, a failed read or write, a script or file that
      is too long, or no room; a line on standard error tells which
 
@@ -18,6 +18,11 @@ Example:
   printf 'graph g 2\\nedge g 0 1 5\\nshow g\\n' | sgb run
 
 The file docs/language.md, which comes with the source, describes what a script may say.";
+
+// The commands that make a graph of numbers alone.
+static MAKERS: [&str; 7] = [
+    "graph", "board", "simplex", "subsets", "perms", "binary", "random",
+];
 
 /// What the command line asks for.
 #[derive(Drop)]
@@ -30,6 +35,8 @@ pub enum Task<'a> {
     Queen,
     /// `sgb check [--any] FILE`: to check the saved graph of a file by this rule.
     Check(&'a str, CheckRule),
+    /// `sgb make COMMAND WORDS..`: to write the graph that a command makes with these words.
+    Make(&'a str, Vec<&'a [u8]>),
 }
 
 /// Reads the command line. Help and the version are printed at once.
@@ -50,6 +57,9 @@ pub fn read_task<'a>(rt: &HostRuntime, words: &'a [String]) -> Result<Task<'a>, 
     if let Some(check) = matches.subcommand_matches("check") {
         return task_of_check(check);
     }
+    if let Some(make) = matches.subcommand_matches("make") {
+        return task_of_make(rt.alloc(), make);
+    }
     match matches.subcommand_matches("queen") {
         Some(_) => Ok(Task::Queen),
         None => Err(Complaint::CommandLine),
@@ -68,6 +78,19 @@ fn task_of_check<'a>(matches: &ArgMatches<'a>) -> Result<Task<'a>, Complaint<'a>
     }
 }
 
+fn task_of_make<'a>(alloc: Global, matches: &ArgMatches<'a>) -> Result<Task<'a>, Complaint<'a>> {
+    let Some(command) = matches.get_str("COMMAND") else {
+        return Err(Complaint::CommandLine);
+    };
+    let mut words = Vec::new(alloc);
+    if let Some(given) = matches.get_strs("WORD") {
+        for word in given {
+            words.push(word.as_bytes())?;
+        }
+    }
+    Ok(Task::Make(command, words))
+}
+
 fn command<'a>(alloc: Global) -> Result<Command<'a>, AllocError> {
     Command::new(alloc, "sgb")
         .version("0.1.0")
@@ -76,7 +99,8 @@ fn command<'a>(alloc: Global) -> Result<Command<'a>, AllocError> {
         .subcommand_required(true)
         .subcommand(run_command(alloc)?)?
         .subcommand(queen_command(alloc))?
-        .subcommand(check_command(alloc)?)
+        .subcommand(check_command(alloc)?)?
+        .subcommand(make_command(alloc)?)
 }
 
 fn run_command<'a>(alloc: Global) -> Result<Command<'a>, AllocError> {
@@ -106,4 +130,20 @@ fn check_command<'a>(alloc: Global) -> Result<Command<'a>, AllocError> {
         .after_help(MORE_HELP)
         .arg(any)?
         .arg(file)
+}
+
+fn make_command<'a>(alloc: Global) -> Result<Command<'a>, AllocError> {
+    let command = Arg::new(alloc, "COMMAND")
+        .required(true)
+        .value_parser(MAKERS.as_slice())
+        .help("how the graph is made");
+    let words = Arg::new(alloc, "WORD")
+        .num_args(0..)
+        .allow_negative_numbers(true)
+        .help("the words that stand behind the name in a script");
+    Command::new(alloc, "make")
+        .about("Writes a graph without arcs, a standard graph or a random one as a saved graph")
+        .after_help(MORE_HELP)
+        .arg(command)?
+        .arg(words)
 }

@@ -1,4 +1,4 @@
-//! Why the program ends with status 2.
+//! Why the program ends with a line on standard error.
 
 use sgb_shell::RunFault;
 use std::alloc::{AllocError, AllocFailed};
@@ -14,6 +14,20 @@ pub enum Complaint<'a> {
     CannotOpen(&'a str),
     #[error("{0}")]
     Fault(RunFault),
+    /// No fault, but a refusal: its number and its text.
+    #[error("refused {0} {1}")]
+    Refused(u8, &'static str),
+}
+
+impl<'a> Complaint<'a> {
+    /// How the program ended: a refusal is no fault.
+    pub fn end(&self) -> Result<bool, RunFault> {
+        match self {
+            Complaint::Refused(_, _) => Ok(false),
+            Complaint::Fault(fault) => Err(*fault),
+            _ => Err(RunFault::Read),
+        }
+    }
 }
 
 impl<'a> From<RunFault> for Complaint<'a> {

@@ -1,4 +1,5 @@
-//! The program `sgb`, which runs scripts on a session of graphs, writes the queen's moves and checks saved graphs.
+//! The program `sgb`, which runs scripts on a session of graphs, writes the queen's moves, checks saved graphs and makes
+//! graphs.
 #![tactic(auto)]
 
 mod command_line;
@@ -8,8 +9,8 @@ mod transcript;
 
 use command_line::{Task, read_task};
 use complaint::Complaint;
-use programs::{print_check, print_queen};
-use sgb_shell::{RunFault, exit_status};
+use programs::{print_check, print_made, print_queen};
+use sgb_shell::exit_status;
 use std::env;
 use std::fs::File;
 use std::process::ExitCode;
@@ -46,6 +47,10 @@ fn perform<'a>(rt: &HostRuntime, words: &'a [String]) -> Result<bool, Complaint<
             Ok(true)
         }
         Task::Check(name, rule) => Ok(print_check(rt, open(rt, name)?, rule)?),
+        Task::Make(command, words) => match print_made(rt, command, words.as_slice())? {
+            Ok(()) => Ok(true),
+            Err(refusal) => Err(Complaint::Refused(refusal.number(), refusal.text())),
+        },
     }
 }
 
@@ -56,8 +61,8 @@ fn open<'a>(rt: &HostRuntime, name: &'a str) -> Result<File, Complaint<'a>> {
     }
 }
 
-// One line on standard error, and the status of a fault.
+// One line on standard error, and the status of a fault or a refusal.
 fn complain(rt: &HostRuntime, complaint: Complaint<'_>) -> ExitCode {
     let _ = eprintln!(rt; "sgb: {complaint}");
-    ExitCode::from(exit_status(&Err(RunFault::Read)))
+    ExitCode::from(exit_status(&complaint.end()))
 }

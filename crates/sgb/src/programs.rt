@@ -1,7 +1,7 @@
-//! The queen's moves and the check of a saved graph, to standard output.
+//! The queen's moves, the check of a saved graph, and graphs that words make, to standard output.
 
-use sgb_programs::{Finished, check, queen, read_file};
-use sgb_shell::{MeteredReader, RunFault};
+use sgb_programs::{Finished, check, make, queen, read_file};
+use sgb_shell::{MeteredReader, RunFault, ShellRefusal};
 use sgb_text::CheckRule;
 use std::io::{BufWriter, Read, Write};
 
@@ -23,6 +23,18 @@ pub fn print_check<R: Read + Drop>(
     let text = read_file(rt.alloc(), &mut reader)?;
     match BufWriter::new(rt.alloc(), rt.stdout()) {
         Ok(writer) => outcome(check(rt.alloc(), text.as_slice(), rule, writer)),
+        Err(_) => Err(RunFault::NoRoom),
+    }
+}
+
+/// Writes the saved text of the graph that a command makes with these words, and answers why it was refused, if it was.
+pub fn print_made(
+    rt: &HostRuntime,
+    command: &str,
+    words: &[&[u8]],
+) -> Result<Result<(), ShellRefusal>, RunFault> {
+    match BufWriter::new(rt.alloc(), rt.stdout()) {
+        Ok(writer) => outcome(make(rt.alloc(), command.as_bytes(), words, writer)),
         Err(_) => Err(RunFault::NoRoom),
     }
 }

@@ -1,4 +1,5 @@
 mod Pieces
 mod Queens
 mod Reading
+mod Standard
 mod Telling

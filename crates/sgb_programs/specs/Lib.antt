@@ -1,3 +1,4 @@
 pub mod Checked
 pub mod File
+pub mod Made
 pub mod Queen

@@ -1,12 +1,14 @@
-//! The programs beside the script: the queen's moves, and the check of a saved text.
+//! The programs beside the script: the queen's moves, the check of a saved text, and graphs that words make.
 #![tactic(auto)]
 
 mod checking;
 mod file;
 mod finished;
+mod making;
 mod moves;
 
 pub use checking::{check, check_metered};
 pub use file::{FILE_LIMIT, read_file};
 pub use finished::Finished;
+pub use making::{make, make_metered};
 pub use moves::{queen, queen_metered};
