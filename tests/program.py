@@ -5,6 +5,7 @@ and its status with what the description of the program wants, which is written 
     program.py PROGRAM
 """
 import os
+import re
 import select
 import subprocess
 import sys
@@ -32,6 +33,18 @@ FILES = {'next': b'next\n', 'unfinished': b'next\nnext', 'refused': b'bogus\nnex
 NEXT = b'2029883356\n'
 REFUSED = b'line 1: refused 100 bad command\n'
 BAD_SAVED = b'refused 20 bad saved graph\n'
+BAD_LINE = b'sgb: bad command line\n'
+BAD_WORDS = b'sgb: refused 100 bad command\n'
+BAD_SPECS = b'sgb: refused 30 bad specification\n'
+
+# A vertex without arcs, as it is saved.
+VERTEX = b'''* GraphBase graph (util_types ZZZZZZZZZZZZZZ,1V,0A)
+"gb_new_graph(1)",1,0
+* Vertices
+"",0
+* Arcs
+* Checksum 607769883
+'''
 
 # The words of a command line, the status, and what standing output and standard error get.
 COMMAND_LINES = [
@@ -84,7 +97,37 @@ COMMAND_LINES = [
     (['check', 'absent'], 2, b'', b'sgb: cannot open absent\n'),
     (['check', '--', '--any'], 2, b'', b'sgb: cannot open --any\n'),
     (['check', '.'], 2, b'', b'sgb: read failed\n'),
+    (['make', 'graph', '1'], 0, VERTEX, b''),
+    (['make', '--', 'graph', '1'], 0, VERTEX, b''),
+    (['make', 'graph', '--', '1'], 0, VERTEX, b''),
+    (['make', 'graph'], 1, b'', BAD_WORDS),
+    (['make', 'graph', 'g', '1'], 1, b'', BAD_WORDS),
+    (['make', 'graph', '1', '1'], 1, b'', BAD_WORDS),
+    (['make', 'graph', '+1'], 1, b'', BAD_WORDS),
+    (['make', 'graph', '"1"'], 1, b'', BAD_WORDS),
+    (['make', 'graph', '1\n'], 1, b'', BAD_WORDS),
+    (['make', 'graph', ''], 1, b'', BAD_WORDS),
+    (['make', 'graph', '0' * 8185], 1, b'', BAD_WORDS),
+    (['make', 'graph', '-1'], 1, b'', BAD_SPECS),
+    (['make', 'graph', '65536'], 1, b'', b'sgb: refused 40 too large\n'),
+    (['make', 'random', '1', '1', '0', '0', '0', '1', '1', '-'], 1, b'', b'sgb: refused 106 stuck\n'),
+    (['make', 'binary', '3', '9', 'no'], 1, b'', BAD_WORDS),
+    (['make'], 2, b'', BAD_LINE),
+    (['make', ''], 2, b'', BAD_LINE),
+    (['make', 'lengths', 'g', '0', '1', '1', '-'], 2, b'', BAD_LINE),
+    (['make', 'complement', 'g', '0', '0', '0'], 2, b'', BAD_LINE),
+    (['make', 'load', 'any'], 2, b'', BAD_LINE),
+    (['make', 'next'], 2, b'', BAD_LINE),
+    (['make', 'graphs', '1'], 2, b'', BAD_LINE),
+    (['make', '--walk', 'graph', '1'], 2, b'', BAD_LINE),
+    (['make', 'graph', '--walk'], 2, b'', BAD_LINE),
+    (['make', 'graph', '-w'], 2, b'', BAD_LINE),
 ]
+
+# Words that make graphs: each one alone, and such as begin with a minus.
+MADE = ['graph 0', 'graph 7', 'board 3 4 0 0 -1 0 0', 'board 8 8 0 0 5 0 0', 'simplex 2 2 2 2 0 0 0',
+        'subsets 2 1 -4 0 0 0 1 0', 'perms 2 1 1 0 0 0 0', 'binary 4 9 0', 'random 1000 5000 0 0 0 1 100 42',
+        'random 10 20 1 1 1 -5 5 -', 'random 10 20 0 0 0 1 1 -7', 'random 10 20 -1 0 0 1 1 0']
 
 # The front of the queen's moves, which are 110 lines.
 QUEEN = b'''Queen Moves on a 3x4 Board
@@ -106,7 +149,8 @@ gunion(board(3,4,0,0,-1,0,0),board(3,4,0,0,-2,0,0),0,0)
 
 # Each tells the statuses and where the language is described. What else they say is free.
 HELP = [['--help'], ['-h'], ['help'], ['run', '--help'], ['run', '-h'], ['help', 'run'], ['queen', '--help'],
-        ['check', '--help'], ['check', '-h'], ['help', 'check']]
+        ['check', '--help'], ['check', '-h'], ['help', 'check'], ['make', '--help'], ['make', '-h'],
+        ['help', 'make']]
 
 # A script of 16,777,216 bytes, all of them a text of long lines.
 FILLED = b'load g any\n' + (b'x' * 8191 + b'\n') * 2047
@@ -183,6 +227,16 @@ class Tests:
         told = moves.startswith(QUEEN) and moves.endswith(b'\n') and moves.count(b'\n') == 110
         self.tell(status == 0 and told and complaint == b'', 'queen ended', status, moves, complaint)
 
+    def try_made(self):
+        """What is made is what a script saves under a name."""
+        for words in MADE:
+            command, rest = words.split(' ', 1)
+            ran = self.run(['run'], ('%s name %s\nsave name\n' % (command, rest)).encode())
+            saved = re.sub(rb'\Aname: .*\n|cleaned 0\n\Z', b'', ran[1])
+            self.tell(ran[0] == 0 and saved.startswith(b'* GraphBase graph'), words, 'is saved', ran)
+            self.expect((0, saved, b''), words, ['make'] + words.split())
+            self.expect((0, saved, b''), words + ', in one', ['make', command, rest])
+
     def try_readers(self):
         read_failed = 2, b'', b'sgb: read failed\n'
         opened = os.open(self.folder, os.O_RDONLY)
@@ -202,6 +256,8 @@ class Tests:
             self.expect(write_failed, 'a full device, queen', ['queen'], stdout=full)
             self.expect(write_failed, 'a full device, an accepted graph', ['check', 'edge'], stdout=full)
             self.expect(write_failed, 'a full device, a refused graph', ['check', 'wrong'], stdout=full)
+            self.expect(write_failed, 'a full device, a made graph', ['make', 'graph', '1'], stdout=full)
+            self.expect((1, None, BAD_SPECS), 'a full device, no graph is made', ['make', 'graph', '-1'], stdout=full)
             self.expect((0, None, b''), 'a full device, nothing to write', ['run'], stdout=full)
         for script in b'next\n', long_script:
             gone, pipe = os.pipe()
@@ -245,6 +301,7 @@ def main():
             tests.expect(tuple(wanted), script[:20], ['run'], script)
         tests.try_help()
         tests.try_queen()
+        tests.try_made()
         tests.converse()
         tests.try_writers()
         tests.try_readers()

@@ -8,4 +8,6 @@ mod fake;
 #[cfg(test)]
 mod files;
 #[cfg(test)]
+mod made;
+#[cfg(test)]
 mod moves;
