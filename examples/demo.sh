@@ -13,11 +13,13 @@ That run is UNPROVED: `rt try` compiles the code and checks none of its contract
 and each function that it stands on, in some minutes, and leaves it as bin/sgb. Then try
 
     bin/sgb queen                           the moves of a queen on a board of 3 by 4
+    bin/sgb make board 8 8 0 0 5 0 0        a knight's moves as a saved graph, in one line
     bin/sgb run examples/standard.sgb       a tour of the standard graphs and their combinations
     bin/sgb run examples/saved.sgb          a random graph, saved, loaded and found to be the same
     bin/sgb run examples/byhand.sgb         a house, drawn by edges, with labels
     bin/sgb run examples/cutting.sgb        edits of a graph, undone and redone
     bin/sgb run examples/fields.sgb         utility fields: numbers, texts, vertices and arcs
+    bin/sgb run examples/groups.sgb         several commands that count as one
     bin/sgb run examples/uniform.sgb        uniform numbers, drawn and taken back
     bin/sgb run examples/refused.sgb        what is refused, and that it changes nothing
 
