@@ -85,9 +85,9 @@ impl Builder {
         ensures unchanged { OnErr result (self.new ≡ self.old) }
     {
         if self.directed {
-            self.graph.new_arc(from, to, len)?;
+            self.graph.add_arc(from, to, len)?;
         } else {
-            self.graph.new_edge(from, to, len)?;
+            self.graph.add_edge(from, to, len)?;
         }
         Ok(())
     }

@@ -481,6 +481,30 @@ fn make_room(
     fields: &mut Vec<[Util; 2]>,
     count: usize,
 ) -> Result<(), AllocError>
+    requires len { vec_len fields.old ≤ vec_len cells.old }
+    requires room { vec_len cells.old ≤ vec_capacity fields.old }
+    ensures cells { cells.new.items ≡ cells.old.items }
+    ensures cells_len { vec_len cells.new ≡ vec_len cells.old }
+    ensures fields { fields.new.items ≡ fields.old.items }
+    ensures fields_len { vec_len fields.new ≡ vec_len fields.old }
+    ensures cells_room { OnOk result (vec_len cells.new + count ≤ vec_capacity cells.new) }
+    ensures fields_room { OnOk result (vec_len cells.new + count ≤ vec_capacity fields.new) }
+    ensures capacity { vec_capacity fields.old ≤ vec_capacity fields.new }
+{
+    if cells.capacity().min(fields.capacity()) - cells.len() >= count {
+        return Ok(());
+    }
+    grow_room(cells, fields, count)
+}
+
+// Takes more memory for so many slots more, and for the fields of all.
+#[cold]
+#[inline(never)]
+fn grow_room(
+    cells: &mut Vec<Cell>,
+    fields: &mut Vec<[Util; 2]>,
+    count: usize,
+) -> Result<(), AllocError>
     requires { vec_len fields.old ≤ vec_len cells.old }
     ensures cells { cells.new.items ≡ cells.old.items }
     ensures cells_len { vec_len cells.new ≡ vec_len cells.old }

@@ -32,17 +32,7 @@ impl Graph {
         ensures unchanged { OnErr result (self.new ≡ self.old) }
         ensures sound { IsGraph self.new }
     {
-        if from.0 >= self.n() || to.0 >= self.n() {
-            return Err(Refusal::BadOperand);
-        }
-        if self.made() >= MOST_ARCS {
-            return Err(Refusal::TooLarge);
-        }
-        let number = ArcNo(self.made());
-        let next = first_of(&self.vertices, from);
-        self.slots.push(from, to, next, len)?;
-        link_first(&mut self.vertices, from, number);
-        self.live += 1;
+        let number = self.add_arc(from, to, len)?;
         Ok((number, GraphDelta::NewArc(number)))
     }
 
@@ -68,6 +58,58 @@ impl Graph {
         ensures unchanged { OnErr result (self.new ≡ self.old) }
         ensures sound { IsGraph self.new }
     {
+        let number = self.add_edge(from, to, len)?;
+        Ok((number, GraphDelta::NewEdge(number)))
+    }
+
+    // What `new_arc` does. Answers the number alone.
+    #[inline(always)]
+    pub(crate) fn add_arc(
+        &mut self,
+        from: VertexNo,
+        to: VertexNo,
+        len: i64,
+    ) -> Result<ArcNo, Refusal>
+        ensures accepted { OnOk result (refusal_of_arc self.old from.0 to.0 ≡ None) }
+        ensures number { IfOk result (λ k. k ≡ arc_no (made_of self.old)) }
+        ensures graph { OnOk result (self.new ≡ with_arc self.old from.0 to.0 len) }
+        ensures left { IfOk result (λ k. LeftBy self.old (GraphDelta.NewArc k) self.new) }
+        ensures err { IfErr result (λ e. (e ≡ Refusal.NoRoom) ⊎ (refusal_of_arc self.old from.0 to.0 ≡ Some e)) }
+        ensures room { IsErrOf result Refusal.NoRoom → refusal_of_arc self.old from.0 to.0 ≡ None }
+        ensures unchanged { OnErr result (self.new ≡ self.old) }
+        ensures sound { IsGraph self.new }
+    {
+        if from.0 >= self.n() || to.0 >= self.n() {
+            return Err(Refusal::BadOperand);
+        }
+        if self.made() >= MOST_ARCS {
+            return Err(Refusal::TooLarge);
+        }
+        let number = ArcNo(self.made());
+        let next = first_of(&self.vertices, from);
+        self.slots.push(from, to, next, len)?;
+        link_first(&mut self.vertices, from, number);
+        self.live += 1;
+        Ok(number)
+    }
+
+    // What `new_edge` does. Answers the first number alone.
+    #[inline(always)]
+    pub(crate) fn add_edge(
+        &mut self,
+        from: VertexNo,
+        to: VertexNo,
+        len: i64,
+    ) -> Result<ArcNo, Refusal>
+        ensures accepted { OnOk result (refusal_of_edge self.old from.0 to.0 ≡ None) }
+        ensures number { IfOk result (λ k. k ≡ arc_no (made_of self.old)) }
+        ensures graph { OnOk result (self.new ≡ with_edge self.old from.0 to.0 len) }
+        ensures left { IfOk result (λ k. LeftBy self.old (GraphDelta.NewEdge k) self.new) }
+        ensures err { IfErr result (λ e. (e ≡ Refusal.NoRoom) ⊎ (refusal_of_edge self.old from.0 to.0 ≡ Some e)) }
+        ensures room { IsErrOf result Refusal.NoRoom → refusal_of_edge self.old from.0 to.0 ≡ None }
+        ensures unchanged { OnErr result (self.new ≡ self.old) }
+        ensures sound { IsGraph self.new }
+    {
         if from.0 >= self.n() || to.0 >= self.n() {
             return Err(Refusal::BadOperand);
         }
@@ -82,7 +124,7 @@ impl Graph {
         self.slots.push_both(low, high, after_low, after_high, len)?;
         link_both(&mut self.vertices, number, low, high);
         self.live += 2;
-        Ok((number, GraphDelta::NewEdge(number)))
+        Ok(number)
     }
 }
 

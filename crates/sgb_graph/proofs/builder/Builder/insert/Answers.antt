@@ -8,34 +8,34 @@ use Rattle.sgb_graph.specs.Builder.{insertion}
 use Rattle.sgb_graph.proofs.Growing.{grown_arc, grown_edge, arc_too_many, edge_too_many, arc_room, edge_room}
 use Rattle.sgb_graph.proofs.builder.Builder.insert.Goals as goal
 
-pub returns-in_err-new_arc-clause-value : goal.returns-in_err-new_arc-clause-value
-returns-in_err-new_arc-clause-value c =
+pub returns-in_err-add_arc-clause-value : goal.returns-in_err-add_arc-clause-value
+returns-in_err-add_arc-clause-value c =
     let p = err_from_is_err_and c.from_residual.result c.from_residual.ensures.1 in
-    rw (p.1, p.2) (arc_too_many c.args.self.now (insertion c.args.from.0 c.args.to.0 c.args.len) c.in_err-new_arc.field-0.0 c.if-self.true c.requires.from c.requires.to c.in_err-new_arc.ensures.err)
+    rw (p.1, p.2) (arc_too_many c.args.self.now (insertion c.args.from.0 c.args.to.0 c.args.len) c.in_err-add_arc.field-0.0 c.if-self.true c.requires.from c.requires.to c.in_err-add_arc.ensures.err)
 
-pub returns-in_err-new_edge-clause-value : goal.returns-in_err-new_edge-clause-value
-returns-in_err-new_edge-clause-value c =
-    let p = err_from_is_err_and c.from_residual-in_err-new_edge.result c.from_residual-in_err-new_edge.ensures.1 in
-    rw (p.1, p.2) (edge_too_many c.args.self.now (insertion c.args.from.0 c.args.to.0 c.args.len) c.in_err-new_edge.field-0.0 c.if-self.false c.requires.from c.requires.to c.in_err-new_edge.ensures.err)
+pub returns-in_err-add_edge-clause-value : goal.returns-in_err-add_edge-clause-value
+returns-in_err-add_edge-clause-value c =
+    let p = err_from_is_err_and c.from_residual-in_err-add_edge.result c.from_residual-in_err-add_edge.ensures.1 in
+    rw (p.1, p.2) (edge_too_many c.args.self.now (insertion c.args.from.0 c.args.to.0 c.args.len) c.in_err-add_edge.field-0.0 c.if-self.false c.requires.from c.requires.to c.in_err-add_edge.ensures.err)
 
-pub returns-in_ok-new_arc-clause-value : goal.returns-in_ok-new_arc-clause-value
-returns-in_ok-new_arc-clause-value c =
+pub returns-in_ok-add_arc-clause-value : goal.returns-in_ok-add_arc-clause-value
+returns-in_ok-add_arc-clause-value c =
     let b = c.args.self.now in
-    ap (λ (g : GraphOf). record { graph = g; directed = b.directed }) (c.in_ok-new_arc.ensures.graph ∙ ap (with_arc b.graph c.args.from.0 c.args.to.0) (to_z-of_z w64 c.args.len c.ranges.len))
+    ap (λ (g : GraphOf). record { graph = g; directed = b.directed }) (c.in_ok-add_arc.ensures.graph ∙ ap (with_arc b.graph c.args.from.0 c.args.to.0) (to_z-of_z w64 c.args.len c.ranges.len))
     ∙ sym (grown_arc b (insertion c.args.from.0 c.args.to.0 c.args.len) c.if-self.true)
 
-pub returns-in_ok-new_edge-clause-value : goal.returns-in_ok-new_edge-clause-value
-returns-in_ok-new_edge-clause-value c =
+pub returns-in_ok-add_edge-clause-value : goal.returns-in_ok-add_edge-clause-value
+returns-in_ok-add_edge-clause-value c =
     let b = c.args.self.now in
-    ap (λ (g : GraphOf). record { graph = g; directed = b.directed }) (c.in_ok-new_edge.ensures.graph ∙ ap (with_edge b.graph c.args.from.0 c.args.to.0) (to_z-of_z w64 c.args.len c.ranges.len))
+    ap (λ (g : GraphOf). record { graph = g; directed = b.directed }) (c.in_ok-add_edge.ensures.graph ∙ ap (with_edge b.graph c.args.from.0 c.args.to.0) (to_z-of_z w64 c.args.len c.ranges.len))
     ∙ sym (grown_edge b (insertion c.args.from.0 c.args.to.0 c.args.len) c.if-self.false)
 
-pub returns-in_err-new_arc-clause-room : goal.returns-in_err-new_arc-clause-room
-returns-in_err-new_arc-clause-room c =
+pub returns-in_err-add_arc-clause-room : goal.returns-in_err-add_arc-clause-room
+returns-in_err-add_arc-clause-room c =
     let p = err_from_is_err_and c.from_residual.result c.from_residual.ensures.1 in
-    λ is. arc_room c.args.self.now (insertion c.args.from.0 c.args.to.0 c.args.len) c.if-self.true (c.in_err-new_arc.ensures.room (cc (is, p.1, p.2)))
+    λ is. arc_room c.args.self.now (insertion c.args.from.0 c.args.to.0 c.args.len) c.if-self.true (c.in_err-add_arc.ensures.room (cc (is, p.1, p.2)))
 
-pub returns-in_err-new_edge-clause-room : goal.returns-in_err-new_edge-clause-room
-returns-in_err-new_edge-clause-room c =
-    let p = err_from_is_err_and c.from_residual-in_err-new_edge.result c.from_residual-in_err-new_edge.ensures.1 in
-    λ is. edge_room c.args.self.now (insertion c.args.from.0 c.args.to.0 c.args.len) c.if-self.false (c.in_err-new_edge.ensures.room (cc (is, p.1, p.2)))
+pub returns-in_err-add_edge-clause-room : goal.returns-in_err-add_edge-clause-room
+returns-in_err-add_edge-clause-room c =
+    let p = err_from_is_err_and c.from_residual-in_err-add_edge.result c.from_residual-in_err-add_edge.ensures.1 in
+    λ is. edge_room c.args.self.now (insertion c.args.from.0 c.args.to.0 c.args.len) c.if-self.false (c.in_err-add_edge.ensures.room (cc (is, p.1, p.2)))

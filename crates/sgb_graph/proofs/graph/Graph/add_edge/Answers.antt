@@ -11,7 +11,7 @@ use Rattle.sgb_graph.specs.Private.Link.{vertex_in, vertices_relinked}
 use Rattle.sgb_graph.proofs.Shows.{opened}
 use Rattle.sgb_graph.proofs.InsertLemmas.{NewEdgeCan, SameOwn, new_cut_at, new_edge_done}
 use Rattle.sgb_graph.proofs.Pushing.{edge_pushed}
-use Rattle.sgb_graph.proofs.graph.Graph.new_edge.Goals as goal
+use Rattle.sgb_graph.proofs.graph.Graph.add_edge.Goals as goal
 
 pub invariant_of-self-2 : goal.invariant_of-self-2
 invariant_of-self-2 c =

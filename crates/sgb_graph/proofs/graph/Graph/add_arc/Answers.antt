@@ -10,7 +10,7 @@ use Rattle.sgb_graph.specs.Private.Link.{PutsBack, vertex_in, vertices_relinked}
 use Rattle.sgb_graph.proofs.Shows.{opened}
 use Rattle.sgb_graph.proofs.InsertLemmas.{NewArcCan, SameOwn, new_cut_is, new_arc_done}
 use Rattle.sgb_graph.proofs.Pushing.{arc_pushed}
-use Rattle.sgb_graph.proofs.graph.Graph.new_arc.Goals as goal
+use Rattle.sgb_graph.proofs.graph.Graph.add_arc.Goals as goal
 
 pub invariant_of-self-2 : goal.invariant_of-self-2
 invariant_of-self-2 c =
