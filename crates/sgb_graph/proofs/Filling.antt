@@ -2,7 +2,7 @@
 use Rattle.std.proofs.Common.{◌≡◌, ◌<◌, ℕ, List, [], ◌∷◌, length, get_or, set, map, Option, Some, None, is_some, IfSome, true, ◌&&◌, refl, sym, ap, subst, ◌∙◌, arith, inl, inr}
 use Rattle.std.proofs.Common.{Result, Ok, Err, is_ok, OnOk}
 use Rattle.std.proofs.lemmas.Bool.{cases_Bool, cases_eq, lt-ltb, and_parts}
-use Rattle.std.proofs.lemmas.List.{get_or-set_same, set-set, length-set}
+use Rattle.std.proofs.lemmas.List.{get_or-set_same, set-set, set-get_or, length-set}
 use Rattle.sgb_graph.specs.declared.field.ArcNo.{ArcNo}
 use Rattle.sgb_graph.specs.declared.field.VertexNo.{VertexNo}
 use Rattle.sgb_graph.specs.declared.field.Util.{Util}
@@ -12,13 +12,14 @@ use Rattle.sgb_graph.specs.declared.field.Place.TheVariants as places
 use Rattle.sgb_graph.specs.declared.refusal.Refusal.TheVariants.{BadOperand}
 use Rattle.sgb_graph.proofs.TakeOut.{some_entry}
 use Rattle.sgb_graph.specs.Graph.{GraphOf, VertexOf, ArcOf, IsGraph, IsArc, n_of, vertex_at, no_vertex, arc_at, has_arc}
-use Rattle.sgb_graph.specs.Edit.{with_util, with_label, with_vertex, with_entry, can_name, has_place, refusal_of_util, refusal_unless, entry_at, arc_or, no_arc, stored}
-use Rattle.sgb_graph.specs.Field.{vertex_place}
+use Rattle.sgb_graph.specs.Edit.{with_util, util_at, with_label, with_vertex, with_entry, can_name, has_place, refusal_of_util, refusal_unless, entry_at, arc_or, no_arc, stored}
+use Rattle.sgb_graph.specs.Field.{vertex_place, arc_place, graph_place}
 use Rattle.sgb_graph.specs.declared.field.VertexField.{VertexField}
 use Rattle.sgb_graph.specs.declared.field.VertexField.TheVariants as fields
 use Rattle.sgb_graph.specs.declared.field.GraphField.TheVariants as own
 use Rattle.sgb_graph.specs.declared.field.ArcField.TheVariants as arcs
 use Rattle.sgb_graph.specs.Private.Fill.{SameNames, can_name_each, with_filled_vertex, with_filled_arc, filled_entry}
+use Rattle.sgb_graph.specs.Private.Cells.{is_zero}
 use Rattle.sgb_graph.proofs.Graphs.{made_of_live}
 use Rattle.sgb_graph.proofs.Sound.{entry_same, entry_other}
 
@@ -76,6 +77,32 @@ accepted_place g p u ok =
       | inl yes' ↦ yes'
       | inr no' ↦ absurd (let bad : Some BadOperand ≡ None = sym (ap (λ x. refusal_unless (x && can_name g u) BadOperand None) no') ∙ ok in cc)
     ]
+
+-- a field that is given the value that it has
+with_util-same : (g : GraphOf) (p : Place) → has_place g p ≡ true → with_util g p (util_at g p) ≡ g
+unfolding with_util util_at
+with_util-same g (places.Graph f) there = ap (λ us. record g { fields = us }) (set-get_or g.fields (graph_place f) utils.Zero)
+with_util-same g (places.Vertex v f) there =
+    let x = vertex_at g v.0 in
+    ap (λ vs. record g { vertices = vs })
+    (ap (λ us. set g.vertices v.0 (record x { fields = us })) (set-get_or x.fields (vertex_place f) utils.Zero) ∙ set-get_or g.vertices v.0 no_vertex)
+with_util-same g (places.Arc k f) there =
+    let e = entry_at g k.0 in
+    ap (λ es. record g { entries = es })
+    (ap (λ us. set g.entries k.0 (Some (record e { fields = us }))) (set-get_or e.fields (arc_place f) utils.Zero)
+    ∙ (ap (set g.entries k.0) (sym (some_entry (arc_at g k.0) there)) ∙ set-get_or g.entries k.0 None))
+
+zero_is : (u : Util) → is_zero u ≡ true → u ≡ utils.Zero
+zero_is utils.Zero h = refl
+zero_is (utils.Int z) h = absurd cc
+zero_is (utils.Vertex v) h = absurd cc
+zero_is (utils.Arc a) h = absurd cc
+zero_is (utils.Text t) h = absurd cc
+
+pub filled_by_zero : (g : GraphOf) (p : Place) (u : Util) → refusal_of_util g p u ≡ None → is_zero u && is_zero (util_at g p) ≡ true → g ≡ with_util g p (stored u)
+filled_by_zero g p u ok zeros =
+    let both = and_parts (is_zero u) (is_zero (util_at g p)) zeros in
+    sym (ap (with_util g p) (ap stored (zero_is u both.0) ∙ sym (zero_is (util_at g p) both.1)) ∙ with_util-same g p (accepted_place g p u ok))
 
 -- one field of a vertex after another
 pub with_util-vertex : (g : GraphOf) (v : VertexNo) (f : VertexField) (x : VertexOf) (u : Util) → v.0 < n_of g → with_util (with_vertex g v.0 x) (places.Vertex v f) u ≡ with_vertex g v.0 (record x { fields = set x.fields (vertex_place f) u })

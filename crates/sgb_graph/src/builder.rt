@@ -75,7 +75,7 @@ impl Builder {
 
     /// Inserts an arc from one vertex to another, or an edge between them. Refused `TooLarge` where the graph would
     /// give out more than 1,000,000 numbers; the graph is then as it was, also where there was room for half an edge.
-    #[inline]
+    #[inline(always)]
     pub fn insert(&mut self, from: VertexNo, to: VertexNo, len: i64) -> Result<(), Refusal>
         requires from { from.0 < n_of self.old.graph }
         requires to { to.0 < n_of self.old.graph }

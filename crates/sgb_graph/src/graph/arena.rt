@@ -382,6 +382,7 @@ impl Arena {
     }
 
     /// A field of a live arc.
+    #[inline]
     pub fn field(&self, number: ArcNo, place: usize) -> &Util
         requires number { number.0 < length self.now }
         requires fields { length (fields_in (slot_at self.now number.0)) ≡ 2 }
@@ -528,7 +529,8 @@ fn two_zeros() -> [Util; 2]
     [Util::Zero, Util::Zero]
 }
 
-fn is_zero(value: &Util) -> bool
+#[inline]
+pub(super) fn is_zero(value: &Util) -> bool
     ensures { result ≡ is_zero value.now }
 {
     matches!(value, Util::Zero)

@@ -1,11 +1,13 @@
 //! Putting the names and the values of saved parts into a graph.
-ghost use Rattle.std.specs.Prelude.{◌≡◌, ◌<◌, ◌∷◌, [], length, slice_index_or, map, true, None};
+ghost use Rattle.std.specs.Prelude.{◌≡◌, ◌<◌, ◌∷◌, ◌&&◌, [], length, slice_index_or, map, true, IsTrue, None};
 ghost use Rattle.std.specs.List.{list_all, range_with_len};
 ghost use Rattle.sgb_graph.specs.Graph.{IsGraph, n_of, made_of, has_arc};
-ghost use Rattle.sgb_graph.specs.Edit.{with_util, with_label, can_name, stored, refusal_of_util};
+ghost use Rattle.sgb_graph.specs.Edit.{with_util, with_label, util_at, has_place, can_name, stored, refusal_of_util};
+ghost use Rattle.sgb_graph.specs.Private.Cells.{is_zero};
 ghost use Rattle.sgb_graph.specs.Private.Fill.{SameNames, can_name_each, can_name_at, can_name_vertices, can_name_arcs, can_name_all, with_filled_vertex, with_filled_arc, FillsVertices, FillsArcs};
 
 use super::Graph;
+use super::arena::is_zero;
 use crate::{
     ArcField, ArcNo, ArcPart, GraphField, Label, Place, Util, VertexField, VertexNo, VertexPart,
 };
@@ -138,7 +140,8 @@ impl Graph {
         let _ = self.swap_label(vertex, label);
     }
 
-    // Gives one field a value that it may hold.
+    // Gives one field a value that it may hold. Most fields are Zero and stay so.
+    #[inline]
     fn fill(&mut self, place: Place, value: Util)
         requires { refusal_of_util self.old place value ≡ None }
         ensures value { self.new ≡ with_util self.old place (stored value) }
@@ -147,6 +150,27 @@ impl Graph {
         ensures sound { IsGraph self.new }
     {
         let _ = self.n();
+        if !self.stays_zero(place, &value) {
+            self.put_util(place, value);
+        }
+    }
+
+    // The field and the value that it is given are Zero.
+    #[inline]
+    fn stays_zero(&self, place: Place, value: &Util) -> bool
+        requires { IsTrue (has_place self.now place) }
+        ensures { result ≡ (is_zero value.now && is_zero (util_at self.now place)) }
+    {
+        is_zero(value) && is_zero(self.util(place))
+    }
+
+    // Gives one field a value that it may hold.
+    fn put_util(&mut self, place: Place, value: Util)
+        requires { refusal_of_util self.old place value ≡ None }
+        ensures value { self.new ≡ with_util self.old place (stored value) }
+        ensures names { SameNames self.old self.new }
+        ensures sound { IsGraph self.new }
+    {
         let done = self.set_util(place, value);
         prove!(done.is_ok());
     }

@@ -143,6 +143,7 @@ impl Graph {
     }
 
     /// The value of a utility field.
+    #[inline]
     pub fn util(&self, place: Place) -> &Util
         requires { IsTrue (has_place self.now place) }
         ensures { result.now ≡ util_at self.now place }

@@ -1,4 +1,4 @@
-use Rattle.std.proofs.Common.{take, ◌<◌, ◌∷◌, ◌++◌, [], length, sym, ap, ◌∙◌, arith}
+use Rattle.std.proofs.Common.{take, ◌<◌, ◌∷◌, ◌++◌, [], length, sym, ap, ◌∙◌}
 use Rattle.std.proofs.lemmas.List.{map_more, take_all}
 use Rattle.sgb_graph.specs.declared.parts.ArcPart.{ArcPart}
 use Rattle.sgb_graph.specs.Parts.{any_arc_part}
