@@ -190,15 +190,15 @@ fn print_arc<W: Write>(
     let Some(arc) = graph.arc(number) else {
         unreachable!()
     };
-    let fields = [
+    let values = [
         ("a", graph.util(Place::Arc(number, ArcField::A))),
         ("b", graph.util(Place::Arc(number, ArcField::B))),
     ];
-    if are_zeros(&fields) {
+    if are_zeros(&values) {
         return print_arc_head(writer, number, arc.tip, arc.len, b"\n");
     }
     print_arc_head(writer, number, arc.tip, arc.len, b"")?;
-    end_with_fields(writer, &fields)
+    end_with_fields(writer, &values)
 }
 
 // What stands before an arc's fields, and what follows.
