@@ -1,4 +1,4 @@
-use Rattle.std.proofs.Common.{◌++◌, codes, [], ap, sym, ◌∙◌, append-nil}
+use Rattle.std.proofs.Common.{◌++◌, codes, ap, sym, ◌∙◌, append-nil}
 use Rattle.std.proofs.lemmas.Result.{err_from_is_err_and}
 use Rattle.sgb_graph.specs.Edit.{entry_at, util_at}
 use Rattle.sgb_print.specs.Show.{arc_head, arc_names, fields_end, arc_line}

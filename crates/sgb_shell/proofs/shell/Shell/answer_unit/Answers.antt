@@ -1,4 +1,4 @@
-use Rattle.std.proofs.Common.{refl, ◌∙◌, subst}
+use Rattle.std.proofs.Common.{◌∙◌, subst}
 use Rattle.sgb_print.specs.Print.{Prints}
 use Rattle.sgb_shell.specs.Answer.{answer_text}
 use Rattle.sgb_shell.specs.Transcript.{course}

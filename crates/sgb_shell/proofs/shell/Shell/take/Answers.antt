@@ -1,7 +1,7 @@
-use Rattle.std.proofs.Common.{◌≡◌, ◌<◌, ◌≤◌, ◌^◌, ◌∙◌, sym, ap, subst, take, drop, length, ◌++◌, ◌+◌, arith, length-drop}
+use Rattle.std.proofs.Common.{◌<◌, ◌^◌, ◌∙◌, sym, subst, take, length, ◌++◌, arith}
 use Rattle.std.proofs.lemmas.List.{take_all}
 use Rattle.std.proofs.lemmas.Result.{err_from_is_err_and}
-use Rattle.sgb_shell.specs.Private.Reaching.{Progress, TakesFront}
+use Rattle.sgb_shell.specs.Private.Reaching.{Progress}
 use Rattle.sgb_shell.proofs.Bytes.{split_script, rest_failed, front_taken}
 use Rattle.sgb_shell.proofs.shell.Shell.take.Goals as goal
 

@@ -1,4 +1,4 @@
-use Rattle.std.proofs.Common.{◌∙◌, sym, subst, take, ◌++◌}
+use Rattle.std.proofs.Common.{◌∙◌, subst, ◌++◌}
 use Rattle.std.proofs.lemmas.Result.{err_from_is_err_and}
 use Rattle.sgb_shell.specs.Lines.{whole_lines, unfinished}
 use Rattle.sgb_shell.specs.Private.Reaching.{Progress}
