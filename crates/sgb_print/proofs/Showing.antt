@@ -1,5 +1,5 @@
 -- How the pieces that are printed make up a graph's text.
-use Rattle.std.proofs.Common.{◌≡◌, ◌<◌, ℕ, List, [], ◌∷◌, ◌++◌, codes, length, Option, Some, None, IsSome, IfSome, true, false, slice_index_or, refl, sym, ap, ◌∙◌, append_assoc, arith}
+use Rattle.std.proofs.Common.{◌≡◌, ◌<◌, ℕ, List, [], ◌∷◌, ◌++◌, codes, length, Bool, ◌&&◌, append-nil, Option, Some, None, IsSome, IfSome, true, false, slice_index_or, refl, sym, ap, ◌∙◌, append_assoc, arith}
 use Rattle.std.specs.List.{list_all}
 use Rattle.std.proofs.lemmas.List.Elements.{All-get_or}
 use Rattle.std.proofs.lemmas.Int.{to_z-of_z}
@@ -11,7 +11,7 @@ use Rattle.sgb_graph.specs.declared.graph.read.ArcView.{ArcView}
 use Rattle.sgb_graph.specs.Graph.{GraphOf, ArcOf, n_of, made_of, vertex_at, no_vertex, arc_at, IsGraph, IsVertex, IsArc}
 use Rattle.sgb_graph.specs.Edit.{entry_at, arc_or, no_arc, owner_of}
 use Rattle.sgb_graph.specs.Read.{entry_view, arc_view}
-use Rattle.sgb_print.specs.Show.{is_zero, arc_head, fields_end, graph_names, graph_fields_text}
+use Rattle.sgb_print.specs.Show.{is_zero, field_text, arc_head, fields_end, arc_names, graph_names, graph_fields_text}
 
 pub made_pieces : (name n m n' m' : List ℕ) → n' ≡ n → m' ≡ m
     → name ++ codes ": " ++ n ++ codes " vertices, " ++ m ++ codes " arcs\n"
@@ -43,6 +43,29 @@ two_values [] x y two a b = absurd (omega arith)
 two_values (_ ∷ []) x y two a b = absurd (omega arith)
 two_values (_ ∷ _ ∷ []) x y two a b = rw (a, b) refl
 two_values (_ ∷ _ ∷ _ ∷ _) x y two a b = absurd (omega arith)
+
+-- two fields that are Zero leave the end of the line
+zero_field : (name : List ℕ) (u : Util) → is_zero u ≡ true → field_text name u ≡ []
+zero_field name u zero = rw zero refl
+
+both : (a b : Bool) → (a && (b && true)) ≡ true → (a ≡ true) × (b ≡ true)
+both true true e = (refl, refl)
+both true false e = cc
+both false b e = cc
+
+pub zeros_end : (u v : Util) → list_all is_zero (u ∷ v ∷ []) ≡ true → fields_end arc_names (u ∷ v ∷ []) ≡ codes "\n"
+zeros_end u v zeros =
+    let each = both (is_zero u) (is_zero v) zeros in
+    rw (each.0, each.1) refl
+
+-- pieces one behind another, with a gap around the second of them, and what stands behind them
+pub pieces_behind : (a n gap t l behind : List ℕ) → (a ++ n ++ gap ++ t ++ gap ++ l) ++ behind ≡ a ++ (n ++ ((gap ++ t ++ gap) ++ (l ++ (behind ++ []))))
+pieces_behind a n gap t l behind = rw (append-nil behind) (simp append_assoc)
+
+-- a page that grew at its front by five pieces
+pub five_pieces : (a n t l behind p q r s u v : List ℕ) → p ≡ [] → q ≡ behind ++ p → r ≡ l ++ q → s ≡ t ++ r → u ≡ n ++ s → v ≡ a ++ u
+    → a ++ (n ++ (t ++ (l ++ (behind ++ [])))) ≡ v
+five_pieces a n t l behind p q r s u v none first second third fourth fifth = rw (fifth, fourth, third, second, first, none) refl
 
 -- ---- what a sound graph has
 pub vertex_six : (g : GraphOf) (v : ℕ) → IsGraph g → v < n_of g → length (vertex_at g v).fields ≡ 6

@@ -1,12 +1,13 @@
 //! Graphs as they are printed.
-ghost use Rattle.std.specs.Prelude.{◌≡◌, ◌<◌, ◌++◌, codes, IsSome};
+ghost use Rattle.std.specs.Prelude.{◌≡◌, ◌+◌, ◌<◌, ◌≤◌, ◌++◌, codes, length, IsSome};
 ghost use Rattle.std.specs.List.{flat_map, list_all};
 ghost use Rattle.sgb_graph.specs.Graph.{n_of, made_of, arc_at, arcs_of};
 ghost use Rattle.sgb_graph.specs.Edit.{entry_at};
 ghost use Rattle.sgb_print.specs.Print.{Prints};
-ghost use Rattle.sgb_print.specs.Show.{made_text, graph_text, header_text, is_zero, field_text, arc_head, arc_line, vertex_head, vertex_line, vertex_text, graph_fields_text, vertices_text, arcs_text};
+ghost use Rattle.sgb_print.specs.Show.{made_text, graph_text, header_text, is_zero, field_text, tip_text, arc_head, arc_line, vertex_head, vertex_line, vertex_text, graph_fields_text, vertices_text, arcs_text};
 
 use crate::meter::{Failed, MeteredWriter};
+use crate::page::Page;
 use crate::print::{put, put_all};
 use itoa::Buffer;
 use sgb_graph::{ArcField, ArcNo, Graph, GraphField, Place, Tip, Util, VertexField, VertexNo};
@@ -189,37 +190,51 @@ fn print_arc<W: Write>(
     let Some(arc) = graph.arc(number) else {
         unreachable!()
     };
-    print_arc_head(writer, number, arc.tip, arc.len)?;
-    let fields = [
+    let values = [
         ("a", graph.util(Place::Arc(number, ArcField::A))),
         ("b", graph.util(Place::Arc(number, ArcField::B))),
     ];
-    end_with_fields(writer, &fields)
+    if are_zeros(&values) {
+        return print_arc_head(writer, number, arc.tip, arc.len, b"\n");
+    }
+    print_arc_head(writer, number, arc.tip, arc.len, b"")?;
+    end_with_fields(writer, &values)
 }
 
+// What stands before an arc's fields, and what follows.
 fn print_arc_head<W: Write>(
     writer: &mut MeteredWriter<W>,
     number: ArcNo,
     tip: Tip,
     len: i64,
+    behind: &[u8],
 ) -> Result<(), Failed>
+    requires behind { length behind.now ≤ 1 }
     ensures { Prints (W.contents writer.old.inner) (W.contents writer.new.inner) writer.old.failed writer.new.failed
-        result (arc_head number.0 tip len) }
+        result (arc_head number.0 tip len ++ behind.now) }
 {
-    let mut digits = Buffer::new();
-    let digits = digits.format(number.0).as_bytes();
-    let mut len_digits = Buffer::new();
-    let len_digits = len_digits.format(len).as_bytes();
+    let mut page = Page::new();
+    page.prepend(behind);
+    page.prepend_signed(len);
+    prepend_tip(&mut page, tip);
+    page.prepend_number(number.0 as u64);
+    page.prepend(b"  A");
+    page.print(writer)
+}
+
+// Puts an arc's tip in front, between spaces.
+fn prepend_tip(page: &mut Page, tip: Tip)
+    requires { length page.old ≤ 22 }
+    ensures text { page.new ≡ (codes " " ++ tip_text tip ++ codes " ") ++ page.old }
+    ensures count { length page.new ≤ length page.old + 23 }
+{
     match tip {
-        Tip::Zero => put_all(writer, &[b"  A", digits, b" 0 ", len_digits]),
-        Tip::One => put_all(writer, &[b"  A", digits, b" 1 ", len_digits]),
+        Tip::Zero => page.prepend(b" 0 "),
+        Tip::One => page.prepend(b" 1 "),
         Tip::To(vertex) => {
-            let mut tip_digits = Buffer::new();
-            let tip_digits = tip_digits.format(vertex.0).as_bytes();
-            put_all(
-                writer,
-                &[b"  A", digits, b" V", tip_digits, b" ", len_digits],
-            )
+            page.prepend(b" ");
+            page.prepend_number(vertex.0 as u64);
+            page.prepend(b" V");
         }
     }
 }

@@ -93,7 +93,7 @@ first_pushed line bytes ends byte same leads few =
     (ap (λ k. k.ends) same ∙ ap (list_all is_space) (drop_all 6 t (omega arith) ∙ sym (drop_all 6 (t ++ byte ∷ []) (omega arith))))
     ∙ sym (front-longer line (record { bytes = bytes; ends = ends }) byte false same leads)
 
-not_true : (b : Bool) → not b ≡ true → b ≡ false
+pub not_true : (b : Bool) → not b ≡ true → b ≡ false
 not_true true e = cc
 not_true false e = refl
 
@@ -141,6 +141,20 @@ pub members_taken : (line : List ℕ) (kept : LineFront) → kept ≡ front_of l
 unfolding takes_members
 members_taken line kept same =
     ap (λ k. bytes_eq k.bytes (codes "group") || bytes_eq k.bytes (codes "group ")) same ∙ word_first (codes "group") (unindented line) refl
+
+-- a line that begins with its first word
+unindented-plain : (line : List ℕ) → bytes_eq (take 1 (take 6 line)) (codes " ") ≡ false → unindented line ≡ line
+unindented-plain [] plain = refl
+unindented-plain (x ∷ xs) plain = unindented-other x xs (sym (and-true (x == 32)) ∙ plain)
+
+pub plain_line : (line word : List ℕ) → word ≡ take 6 line → bytes_eq (take 1 word) (codes " ") ≡ false
+    → (bytes_eq (take 5 word) (codes "load") || bytes_eq (take 5 word) (codes "load ")) ≡ false
+    → (bytes_eq word (codes "group") || bytes_eq word (codes "group ")) ≡ false → (takes_text line ≡ false) × (takes_members line ≡ false)
+plain_line line word same plain text group =
+    let begins : take 6 (unindented line) ≡ word = ap (take 6) (unindented-plain line (ap (λ w. bytes_eq (take 1 w) (codes " ")) (sym same) ∙ plain)) ∙ sym same in (
+      sym (text_taken line (front_of line) refl) ∙ ap (λ w. bytes_eq (take 5 w) (codes "load") || bytes_eq (take 5 w) (codes "load ")) begins ∙ text,
+      sym (members_taken line (front_of line) refl) ∙ ap (λ w. bytes_eq w (codes "group") || bytes_eq w (codes "group ")) begins ∙ group,
+    )
 
 end_word : (t : List ℕ) → take 3 (take 6 t) ≡ take 3 t
 end_word [] = refl

@@ -3,20 +3,21 @@ use Rattle.std.proofs.Common.{◌≡◌, ℕ, ◌+◌, ◌<◌, ◌≤◌, ◌^�
 use Rattle.std.specs.Io.KnownBytes.{Appends}
 use Rattle.std.proofs.KnownBytes.{Appends-nil, Appends-trans}
 use Rattle.sgb_print.specs.Print.{AppendsFront, Prints}
+use Rattle.sgb_script.specs.Line.{line_of}
 use Rattle.sgb_script.specs.declared.refusal.ShellRefusal.{ShellRefusal}
 use Rattle.sgb_shell.specs.declared.answer.Answer.{Answer}
 use Rattle.sgb_shell.specs.declared.answer.Answer.TheVariants.{Refused}
 use Rattle.sgb_shell.specs.declared.pending.Pending.{Pending}
 use Rattle.sgb_shell.specs.Private.Gathering.{IsGathered, IsRefused}
-use Rattle.sgb_shell.specs.Private.Performing.{Kept, IsBegun, Does, by_unit, lists_of}
+use Rattle.sgb_shell.specs.Private.Performing.{Kept, IsBegun, Does, by_line, by_unit, lists_of}
 use Rattle.sgb_shell.specs.Private.Reaching.{Taken, GoesOn, Ends, Waits, Settles, unit_by, number_at, unanswered, Reached, Stopped, Finishes, Ended, StoppedAtEnd, Concludes}
 use Rattle.sgb_shell.specs.Run.{AppendsPast}
 use Rattle.sgb_shell.specs.Answer.{answer_text}
 use Rattle.sgb_shell.specs.Transcript.{Course, course, whole_course, ended, answered_unit, goes_on, refusals}
 use Rattle.sgb_shell.specs.Group.{closes}
-use Rattle.sgb_shell.specs.Unit.{ScriptUnit, with_line, closed_by}
+use Rattle.sgb_shell.specs.Unit.{ScriptUnit, alone, opened, with_line, closed_by, takes_text, takes_members, takes_lines}
 use Rattle.sgb_shell.proofs.Courses.{course-push, stepped, resolved, advance-by, unit_in, number-by, course-lines, refusals-few, course-refused, course_ordered, with_number, course-with_number, other_number, unit-answered, text-grows}
-use Rattle.sgb_shell.proofs.Performing.{machine_is}
+use Rattle.sgb_shell.proofs.Performing.{machine_is, line_does}
 
 -- ---- text past other text
 
@@ -90,6 +91,17 @@ pub still_waits : (before : Option ScriptUnit) (pending : Option Pending) (unit 
     → ((u : ScriptUnit) → IsGathered u unit → (closes u line ≡ false) × IsGathered (with_line u line) unit')
     → Settles (unit_by number before line) journal journal (Some unit') None
 still_waits before pending unit unit' number line journal is waits longer = settled_by before unit unit' number line journal (subst (Waits before) is waits) longer
+
+-- ---- a line that is a unit of its own
+
+pub alone_settles : (count : ℕ) (before : Option ScriptUnit) (line : List ℕ) (old new : Kept) (pending : Option Pending) (answer : Answer)
+    → Waits before pending → pending ≡ None → takes_text line ≡ false → takes_members line ≡ false → Does (by_line (line_of line)) old new answer
+    → Settles (unit_by count before line) old new pending (Some (count, answer))
+alone_settles count (Some u) line old new pending answer waits none text members does = absurd (subst (Waits (Some u)) none waits)
+alone_settles count None line old new pending answer waits none text members does =
+    let other : takes_lines line ≡ false = rw (text, members) refl in
+    subst (λ b. Settles (cond b (GoesOn (opened count line)) (Ends (alone count line))) old new pending (Some (count, answer)))
+    (sym other) (refl, none, line_does old new (alone count line) answer text members does)
 
 -- ---- a line that goes on
 

@@ -7,8 +7,9 @@ ghost use Rattle.sgb_shell.specs.Answer.{answer_text, reply_text, grouped_count_
 ghost use Rattle.sgb_session.specs.Table.{entry_in};
 
 use itoa::Buffer;
+use sgb_graph::ArcNo;
 use sgb_groups::GroupedReply;
-use sgb_print::{Failed, MeteredWriter, print_graph, print_made, put, put_all};
+use sgb_print::{Failed, MeteredWriter, Page, print_graph, print_made, put, put_all};
 use sgb_script::ShellRefusal;
 use sgb_session::{Reply, Session};
 use sgb_text::Saved;
@@ -64,30 +65,49 @@ fn print_reply<W: Write>(writer: &mut MeteredWriter<W>, reply: &Reply) -> Result
 {
     match reply {
         Reply::Done => put(writer, b"ok\n"),
-        Reply::Number(number) => {
-            let mut buffer = Buffer::new();
-            put_all(writer, &[buffer.format(*number).as_bytes(), b"\n"])
-        }
+        Reply::Number(number) => print_number(writer, *number),
         Reply::Made(name, vertices, arcs) => print_made(writer, name.bytes(), *vertices, *arcs),
-        Reply::Arc(number) => {
-            let mut buffer = Buffer::new();
-            put_all(writer, &[b"A", buffer.format(number.0).as_bytes(), b"\n"])
-        }
-        Reply::Edge(first, second) => {
-            let mut first_digits = Buffer::new();
-            let mut second_digits = Buffer::new();
-            put_all(
-                writer,
-                &[
-                    b"A",
-                    first_digits.format(first.0).as_bytes(),
-                    b" A",
-                    second_digits.format(second.0).as_bytes(),
-                    b"\n",
-                ],
-            )
-        }
+        Reply::Arc(number) => print_arc(writer, *number),
+        Reply::Edge(first, second) => print_edge(writer, *first, *second),
     }
+}
+
+fn print_number<W: Write>(writer: &mut MeteredWriter<W>, number: u32) -> Result<(), Failed>
+    ensures { Prints (W.contents writer.old.inner) (W.contents writer.new.inner) writer.old.failed writer.new.failed
+        result (decimal number ++ codes "\n") }
+{
+    let mut page = Page::new();
+    page.prepend(b"\n");
+    page.prepend_number(number as u64);
+    page.print(writer)
+}
+
+fn print_arc<W: Write>(writer: &mut MeteredWriter<W>, number: ArcNo) -> Result<(), Failed>
+    ensures { Prints (W.contents writer.old.inner) (W.contents writer.new.inner) writer.old.failed writer.new.failed
+        result (codes "A" ++ decimal number.0 ++ codes "\n") }
+{
+    let mut page = Page::new();
+    page.prepend(b"\n");
+    page.prepend_number(number.0 as u64);
+    page.prepend(b"A");
+    page.print(writer)
+}
+
+fn print_edge<W: Write>(
+    writer: &mut MeteredWriter<W>,
+    first: ArcNo,
+    second: ArcNo,
+) -> Result<(), Failed>
+    ensures { Prints (W.contents writer.old.inner) (W.contents writer.new.inner) writer.old.failed writer.new.failed
+        result (codes "A" ++ decimal first.0 ++ codes " A" ++ decimal second.0 ++ codes "\n") }
+{
+    let mut page = Page::new();
+    page.prepend(b"\n");
+    page.prepend_number(second.0 as u64);
+    page.prepend(b" A");
+    page.prepend_number(first.0 as u64);
+    page.prepend(b"A");
+    page.print(writer)
 }
 
 // The replies of a group's members, and how many they are.
@@ -125,21 +145,15 @@ fn print_generator<W: Write>(writer: &mut MeteredWriter<W>, session: &Session) -
         result (generator_text session.now) }
 {
     let (seed, draws, unread) = session.generator();
-    let mut seed_digits = Buffer::new();
-    let mut draws_digits = Buffer::new();
-    let mut unread_digits = Buffer::new();
-    put_all(
-        writer,
-        &[
-            b"seed ",
-            seed_digits.format(seed).as_bytes(),
-            b", draws ",
-            draws_digits.format(draws).as_bytes(),
-            b", unread ",
-            unread_digits.format(unread).as_bytes(),
-            b"\n",
-        ],
-    )
+    let mut page = Page::new();
+    page.prepend(b"\n");
+    page.prepend_number(unread as u64);
+    page.prepend(b", unread ");
+    page.prepend_number(draws);
+    page.prepend(b", draws ");
+    page.prepend_number(seed as u64);
+    page.prepend(b"seed ");
+    page.print(writer)
 }
 
 fn print_saved<W: Write>(writer: &mut MeteredWriter<W>, saved: &Saved) -> Result<(), Failed>

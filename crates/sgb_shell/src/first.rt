@@ -1,5 +1,5 @@
 //! How a line begins.
-ghost use Rattle.std.specs.Prelude.{◌≡◌, ◌++◌, ◌∷◌, ◌==◌, ◌&&◌, ◌||◌, [], true, List, ℕ, codes, length, take, drop};
+ghost use Rattle.std.specs.Prelude.{◌≡◌, ◌++◌, ◌∷◌, ◌==◌, ◌&&◌, ◌||◌, [], true, false, List, ℕ, codes, length, take, drop};
 ghost use Rattle.std.specs.List.{list_all};
 ghost use Rattle.std.specs.Str.{bytes_eq};
 ghost use Rattle.sgb_shell.specs.Unit.{takes_text, takes_members, is_end};
@@ -81,6 +81,36 @@ impl FirstBytes {
     {
         is_end(self.bytes.as_slice()) && self.ends
     }
+}
+
+/// Whether a line has no spaces in front, takes no text and begins no group.
+pub(crate) fn is_plain(line: &[u8]) -> bool
+    ensures { result ≡ true → (takes_text line.now ≡ false) × (takes_members line.now ≡ false) }
+{
+    let word = beginning(line);
+    if is_indented(word) {
+        return false;
+    }
+    if is_load(front(word)) {
+        return false;
+    }
+    !is_group(word)
+}
+
+// As many bytes as tell the longest word.
+fn beginning(line: &[u8]) -> &[u8]
+    ensures { result.now ≡ take 6 line.now }
+{
+    let (word, _) = line.split_at(line.len().min(KEPT));
+    word
+}
+
+// A space stands first.
+fn is_indented(bytes: &[u8]) -> bool
+    ensures { result ≡ bytes_eq (take 1 bytes.now) (codes " ") }
+{
+    let (first, _) = bytes.split_at(bytes.len().min(1));
+    first == b" ".as_slice()
 }
 
 // A space behind nothing but spaces.

@@ -1,16 +1,20 @@
 //! Answers a script line by line, as its bytes come.
-ghost use Rattle.std.specs.Prelude.{◌≡◌, ◌<◌, ◌≤◌, ◌+◌, ◌-◌, ◌^◌, ◌++◌, ◌∷◌, [], min, List, ℕ, Option, IfOk, length};
+ghost use Rattle.std.specs.Prelude.{◌≡◌, ◌<◌, ◌≤◌, ◌+◌, ◌-◌, ◌^◌, ◌++◌, ◌∷◌, [], min, List, ℕ, Option, None, IfOk, IfSome, false, length};
 ghost use Rattle.sgb_print.specs.Print.{Prints};
 ghost use Rattle.sgb_shell.specs.Answer.{answer_text};
 ghost use Rattle.sgb_shell.specs.Lines.{lines, whole_lines};
-ghost use Rattle.sgb_shell.specs.Private.Holding.{held_line};
-ghost use Rattle.sgb_shell.specs.Private.Reaching.{Reached, Finishes, Takes, Progress, Concludes};
+ghost use Rattle.sgb_shell.specs.Private.Holding.{held_line, IsFirstLine};
+ghost use Rattle.sgb_shell.specs.Private.Reaching.{Reached, Finishes, Takes, TakesFront, IsUnitAhead, Progress, Concludes};
 ghost use Rattle.sgb_shell.specs.Transcript.{refusals};
+ghost use Rattle.sgb_shell.specs.Unit.{takes_text, takes_members};
 
 use crate::answer::{Answer, print_answer};
 use crate::buffer::LineBuffer;
+use crate::first::is_plain;
 use crate::pending::Pending;
+use crate::perform::perform;
 use crate::unit::take_line;
+use memchr::memchr;
 use sgb_groups::GroupedSession;
 use sgb_print::{Failed, MeteredWriter};
 use sgb_session::Session;
@@ -53,6 +57,85 @@ impl Shell {
 
     /// Takes the next bytes, and answers each unit that they finish.
     pub(crate) fn take<W: Write>(
+        &mut self,
+        writer: &mut MeteredWriter<W>,
+        bytes: &[u8],
+    ) -> Result<(), Failed>
+        ensures { (held : Option (List ℕ)) (script : List ℕ) → length (script ++ bytes.now) < 2 ^ 32
+            → Progress held (W.contents writer.old.inner) script self.old.journal self.old.pending self.old.line self.old.lines self.old.refused
+            → Takes held (W.contents writer.new.inner) writer.old.failed writer.new.failed script (script ++ bytes.now)
+            self.new.journal self.new.pending self.new.line self.new.lines self.new.refused result }
+    {
+        let mut done = 0;
+        while done < bytes.len() {
+            let (_, rest) = bytes.split_at(done);
+            let count = self.take_front(writer, rest)?;
+            done += count;
+        }
+        Ok(())
+    }
+
+    // Takes the next line, or what there is of it, and tells how many bytes that were. A whole line that is a unit of its
+    // own is answered where it lies.
+    fn take_front<W: Write>(
+        &mut self,
+        writer: &mut MeteredWriter<W>,
+        bytes: &[u8],
+    ) -> Result<usize, Failed>
+        requires some { 0 < length bytes.now }
+        ensures count { IfOk result (λ count. (0 < count) × (count ≤ length bytes.now)) }
+        ensures takes { (held : Option (List ℕ)) (script : List ℕ) → length (script ++ bytes.now) < 2 ^ 32
+            → Progress held (W.contents writer.old.inner) script self.old.journal self.old.pending self.old.line self.old.lines self.old.refused
+            → TakesFront held (W.contents writer.new.inner) writer.old.failed writer.new.failed script bytes.now
+            self.new.journal self.new.pending self.new.line self.new.lines self.new.refused result }
+    {
+        let Some(line) = self.unit_ahead(bytes) else {
+            let (front, _) = bytes.split_at(line_size(bytes));
+            self.take_bytes(writer, front)?;
+            return Ok(front.len());
+        };
+        self.answer_unit(writer, line)?;
+        Ok(line.len() + 1)
+    }
+
+    // The line that the bytes begin with, where it is whole and a unit of its own.
+    fn unit_ahead<'a>(&self, bytes: &'a [u8]) -> Option<&'a [u8]>
+        ensures { IfSome result (λ line. IsUnitAhead self.now.pending self.now.line line.now bytes.now) }
+    {
+        if self.pending.is_some() {
+            return None;
+        }
+        let Some(line) = plain_line(bytes) else {
+            return None;
+        };
+        if self.line.is_empty() {
+            return Some(line);
+        }
+        None
+    }
+
+    // Answers a line that is a unit of its own.
+    fn answer_unit<W: Write>(
+        &mut self,
+        writer: &mut MeteredWriter<W>,
+        line: &[u8],
+    ) -> Result<(), Failed>
+        ensures line { self.new.line ≡ self.old.line }
+        ensures finishes { (held : Option (List ℕ)) (ls : List (List ℕ)) → length ls < 2 ^ 32
+            → self.old.pending ≡ None → takes_text line.now ≡ false → takes_members line.now ≡ false
+            → Reached held (W.contents writer.old.inner) ls self.old.journal self.old.pending self.old.lines self.old.refused
+            → Finishes held (W.contents writer.new.inner) writer.old.failed writer.new.failed ls (ls ++ line.now ∷ [])
+            self.new.journal self.new.pending self.new.lines self.new.refused result }
+    {
+        let number = self.lines.saturating_add(1);
+        self.lines = number;
+        let answer = perform(self.alloc, &mut self.journal, line);
+        let session = self.journal.machine().session();
+        tell(writer, &mut self.refused, number, session, &answer)
+    }
+
+    // Takes bytes one by one.
+    fn take_bytes<W: Write>(
         &mut self,
         writer: &mut MeteredWriter<W>,
         bytes: &[u8],
@@ -143,6 +226,41 @@ impl Shell {
         };
         let session = self.journal.machine().session();
         tell(writer, &mut self.refused, number, session, &answer)
+    }
+}
+
+// The line that the bytes begin with, where a newline ends it.
+fn first_line(bytes: &[u8]) -> Option<&[u8]>
+    ensures { IfSome result (λ line. IsFirstLine line.now bytes.now) }
+{
+    let Some(end) = memchr(b'\n', bytes) else {
+        return None;
+    };
+    let (line, _) = bytes.split_at(end);
+    Some(line)
+}
+
+// The line that the bytes begin with, where a newline ends it and no others belong to its unit.
+fn plain_line(bytes: &[u8]) -> Option<&[u8]>
+    ensures { IfSome result (λ line. (takes_text line.now ≡ false) × (takes_members line.now ≡ false) × IsFirstLine line.now bytes.now) }
+{
+    let Some(line) = first_line(bytes) else {
+        return None;
+    };
+    if is_plain(line) {
+        return Some(line);
+    }
+    None
+}
+
+// How many bytes the first line has with its newline, or as much of it as there is.
+fn line_size(bytes: &[u8]) -> usize
+    requires { 0 < length bytes.now }
+    ensures { (0 < result) × (result ≤ length bytes.now) }
+{
+    match first_line(bytes) {
+        Some(line) => line.len() + 1,
+        None => bytes.len(),
     }
 }
 

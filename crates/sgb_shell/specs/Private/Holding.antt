@@ -1,5 +1,5 @@
 -- What is kept of a line while its bytes come.
-use Rattle.std.specs.Prelude.{ℕ, ◌==◌, Bool, nat_lt, List, length, take, drop}
+use Rattle.std.specs.Prelude.{◌≡◌, ℕ, ◌<◌, ◌==◌, Bool, false, nat_lt, slice_index, List, length, take, drop}
 use Rattle.std.specs.List.{list_all}
 use Rattle.sgb_shell.specs.Unit.{unindented}
 
@@ -22,3 +22,10 @@ is_above line = nat_lt 8192 (length line)
 
 unfoldable pub held_line : List ℕ → HeldLine
 held_line line = record { bytes = take 8192 line; is_long = is_above line; first = front_of line }
+
+-- the bytes begin with this line, and a newline behind it
+pub record IsFirstLine (line bytes : List ℕ) : Type 0 where
+  pub within : length line < length bytes
+  pub front : line ≡ take (length line) bytes
+  pub newline : slice_index bytes (length line) ≡ 10
+  pub plain : (k : ℕ) → k < length line → (slice_index bytes k == 10) ≡ false

@@ -1,17 +1,17 @@
 -- How far a run has come, line by line.
-use Rattle.std.specs.Prelude.{◌≡◌, ℕ, ◌+◌, ◌≤◌, ◌==◌, Bool, true, false, if◌then◌else◌, List, length, Option, None, Some, Result, Ok, Err}
+use Rattle.std.specs.Prelude.{◌≡◌, ℕ, ◌+◌, ◌≤◌, ◌==◌, Bool, true, false, if◌then◌else◌, List, ◌++◌, length, take, Option, None, Some, Result, Ok, Err}
 use Rattle.std.specs.List.{list_any}
 use Rattle.std.specs.Io.KnownBytes.{Appends}
 use Rattle.sgb_shell.specs.declared.answer.Answer.{Answer}
 use Rattle.sgb_shell.specs.declared.pending.Pending.{Pending}
 use Rattle.sgb_shell.specs.Lines.{whole_lines, lines, unfinished}
 use Rattle.sgb_shell.specs.Private.Gathering.{IsGathered}
-use Rattle.sgb_shell.specs.Private.Holding.{HeldLine, held_line}
+use Rattle.sgb_shell.specs.Private.Holding.{HeldLine, IsFirstLine, held_line}
 use Rattle.sgb_shell.specs.Private.Performing.{Kept, IsBegun, Does, lists_of, by_unit}
 use Rattle.sgb_shell.specs.Run.{AppendsPast}
 use Rattle.sgb_shell.specs.Transcript.{Course, course, whole_course}
 use Rattle.sgb_shell.specs.Group.{closes}
-use Rattle.sgb_shell.specs.Unit.{ScriptUnit, alone, opened, with_line, closed_by, takes_lines}
+use Rattle.sgb_shell.specs.Unit.{ScriptUnit, alone, opened, with_line, closed_by, takes_text, takes_members, takes_lines}
 
 -- ---- one line
 
@@ -82,6 +82,19 @@ pub record Progress (held now : Option (List ℕ)) (script : List ℕ) (journal 
 abbrev pub Takes : {X E : Type 0} → Option (List ℕ) → Option (List ℕ) → Bool → Bool → List ℕ → List ℕ → Kept → Option Pending → HeldLine → ℕ → ℕ → Result X E → Type 0
 Takes held now failed failed' before script journal pending line lines refused (Ok x) = Progress held now script journal pending line lines refused × (failed' ≡ failed)
 Takes held now failed failed' before script journal pending line lines refused (Err e) = Stopped held now (whole_lines before) (whole_lines script) × (failed' ≡ true)
+
+-- so many of the bytes are taken, or the writer failed in the text of the lines that the bytes end
+abbrev pub TakesFront : {E : Type 0} → Option (List ℕ) → Option (List ℕ) → Bool → Bool → List ℕ → List ℕ → Kept → Option Pending → HeldLine → ℕ → ℕ → Result ℕ E → Type 0
+TakesFront held now failed failed' script bytes journal pending line lines refused (Ok n) = Progress held now (script ++ take n bytes) journal pending line lines refused × (failed' ≡ failed)
+TakesFront held now failed failed' script bytes journal pending line lines refused (Err e) = Stopped held now (whole_lines script) (whole_lines (script ++ bytes)) × (failed' ≡ true)
+
+-- nothing is held or goes on, and the bytes begin with a line that is a unit of its own
+pub record IsUnitAhead (pending : Option Pending) (held : HeldLine) (line bytes : List ℕ) : Type 0 where
+  pub none : pending ≡ None
+  pub fresh : (l : List ℕ) → held ≡ held_line l → (length l == 0) ≡ true
+  pub text : takes_text line ≡ false
+  pub members : takes_members line ≡ false
+  pub first : IsFirstLine line bytes
 
 -- ---- the end of the script
 

@@ -1,19 +1,32 @@
-use Rattle.std.proofs.Common.{ap}
+use Rattle.std.proofs.Common.{◌++◌, codes, ap, sym, ◌∙◌, append-nil}
 use Rattle.std.proofs.lemmas.Result.{err_from_is_err_and}
 use Rattle.sgb_graph.specs.Edit.{entry_at, util_at}
-use Rattle.sgb_print.specs.Show.{arc_head, arc_names, fields_end}
+use Rattle.sgb_print.specs.Show.{arc_head, arc_names, fields_end, arc_line}
 use Rattle.sgb_print.proofs.Printing.{fails_before, fails_same, appends_same, prints_same, prints_behind}
-use Rattle.sgb_print.proofs.Showing.{two_values, arc_two, arc_head_read}
+use Rattle.sgb_print.proofs.Showing.{two_values, arc_two, arc_head_read, zeros_end}
 use Rattle.sgb_print.proofs.show.print_arc.Goals as goal
+
+pub returns-then-are_zeros : goal.returns-then-are_zeros
+unfolding util_at
+returns-then-are_zeros g c =
+    let s = c.args.graph.now in
+    let k = c.args.number.0 in
+    let e = entry_at s k in
+    let read = arc_head_read s k c.in-Some.arc c.in-Some.ensures.graph c.requires.within c.in-Some.ensures.value in
+    let values = two_values e.fields _ _ (arc_two s k c.in-Some.ensures.graph c.requires.within c.requires.live) c.util.ensures c.util-2.ensures in
+    let zeros = zeros_end _ _ (sym c.are_zeros.ensures ∙ c.if-are_zeros.true) in
+    prints_same _ _ _ _ c.print_arc_head.result _ (arc_line k e) c.print_arc_head.ensures
+    (ap (λ t. arc_head k e.tip e.len ++ t) (ap (fields_end arc_names) values ∙ zeros) ∙ ap (λ t. t ++ codes "\n") read)
 
 pub returns-in_err-print_arc_head : goal.returns-in_err-print_arc_head
 returns-in_err-print_arc_head g c =
     let p = err_from_is_err_and c.from_residual.result c.from_residual.ensures.1 in
     let k = c.args.number.0 in
     let e = entry_at c.args.graph.now k in
+    let read = arc_head_read c.args.graph.now k c.in-Some.arc c.in-Some.ensures.graph c.requires.within c.in-Some.ensures.value in
     rw p.1 (
       fails_before _ _ (arc_head k e.tip e.len) (fields_end arc_names e.fields)
-          (fails_same _ _ _ (arc_head k e.tip e.len) c.in_err-print_arc_head.ensures.0 (arc_head_read c.args.graph.now k c.in-Some.arc c.in-Some.ensures.graph c.requires.within c.in-Some.ensures.value)),
+          (fails_same _ _ _ (arc_head k e.tip e.len) c.in_err-print_arc_head.ensures.0 (read ∙ sym (append-nil _))),
       c.in_err-print_arc_head.ensures.1,
     )
 
@@ -23,8 +36,9 @@ returns g c =
     let s = c.args.graph.now in
     let k = c.args.number.0 in
     let e = entry_at s k in
+    let read = arc_head_read s k c.in-Some.arc c.in-Some.ensures.graph c.requires.within c.in-Some.ensures.value in
     prints_behind _ _ _ _ _ _ c.end_with_fields.result (arc_head k e.tip e.len) (fields_end arc_names e.fields)
-    (appends_same _ _ _ _ _ (arc_head k e.tip e.len) c.in_ok-print_arc_head.ensures (arc_head_read s k c.in-Some.arc c.in-Some.ensures.graph c.requires.within c.in-Some.ensures.value))
+    (appends_same _ _ _ _ _ (arc_head k e.tip e.len) c.in_ok-print_arc_head.ensures (read ∙ sym (append-nil _)))
     (prints_same _ _ _ _ c.end_with_fields.result _ (fields_end arc_names e.fields) c.end_with_fields.ensures
     (ap (fields_end arc_names)
     (two_values e.fields _ _ (arc_two s k c.in-Some.ensures.graph c.requires.within c.requires.live) c.util.ensures c.util-2.ensures)))

@@ -1,31 +1,42 @@
-use Rattle.std.proofs.Common.{◌∙◌, subst, take, ◌++◌, ◌+◌}
+use Rattle.std.proofs.Common.{◌<◌, ◌^◌, ◌∙◌, sym, subst, take, length, ◌++◌, arith}
 use Rattle.std.proofs.lemmas.List.{take_all}
 use Rattle.std.proofs.lemmas.Result.{err_from_is_err_and}
-use Rattle.sgb_shell.specs.Lines.{whole_lines}
-use Rattle.sgb_shell.specs.Private.Reaching.{Progress, Stopped}
-use Rattle.sgb_shell.proofs.Bytes.{one_more, front_few, bytes_failed}
+use Rattle.sgb_shell.specs.Private.Reaching.{Progress}
+use Rattle.sgb_shell.proofs.Bytes.{split_script, rest_failed, front_taken}
 use Rattle.sgb_shell.proofs.shell.Shell.take.Goals as goal
 
-pub returns-in_err-take_byte : goal.returns-in_err-take_byte
-returns-in_err-take_byte g c held script few p =
+pub returns-in_err-count : goal.returns-in_err-count
+returns-in_err-count g c held script few p =
     let bytes = c.args.bytes.now in
-    let i = c.loop-byte.byte-index in
-    let so_far = c.loop-byte.invariant held script few p in
-    let failed = c.in_err-take_byte.ensures held (script ++ take i bytes) (front_few script bytes i few) so_far.0 in
+    let i = c.loop-done.done in
+    let rest = c.split_at.ensures.back in
+    let so_far = c.loop-done.invariant.1 held script few p in
+    let whole = split_script script bytes i _ rest in
+    let failed = c.in_err-count.ensures.takes held (script ++ take i bytes) (subst (λ t. length t < 2 ^ 32) (sym whole) few) so_far.0 in
     let r = err_from_is_err_and c.from_residual.result c.from_residual.ensures.1 in
-    rw r.1 (bytes_failed held _ script bytes i (i + 1) (subst (λ s. Stopped held (g.W.Write.contents c.take_byte.new.writer.inner) (whole_lines (script ++ take i bytes)) (whole_lines s)) (one_more script bytes i c.loop-byte-test.true) failed.0), failed.1)
+    rw r.1 (rest_failed held _ script bytes i _ rest failed.0, failed.1)
 
-pub loop-byte-preserved : goal.loop-byte-preserved
-loop-byte-preserved g c held script few p =
+pub loop-done-preserved : goal.loop-done-preserved
+loop-done-preserved g c =
     let bytes = c.args.bytes.now in
-    let i = c.loop-byte.byte-index in
-    let so_far = c.loop-byte.invariant held script few p in
-    let more = c.in_ok-take_byte.ensures held (script ++ take i bytes) (front_few script bytes i few) so_far.0 in
-    let self = c.take_byte.new.self in
-    (subst (λ s. Progress held (g.W.Write.contents c.take_byte.new.writer.inner) s self.journal self.pending self.line self.lines self.refused) (one_more script bytes i c.loop-byte-test.true) more.0, more.1 ∙ so_far.1)
+    let i = c.loop-done.done in
+    let n = c.in_ok-count.count in
+    let rest = c.split_at.ensures.back in
+    let self = c.take_front.new.self in
+    let room = c.split_at.ensures.back_len in
+    let counted = c.in_ok-count.ensures.count in (
+      omega arith,
+      λ held script few p.
+          let so_far = c.loop-done.invariant.1 held script few p in
+          let more = c.in_ok-count.ensures.takes held (script ++ take i bytes) (subst (λ t. length t < 2 ^ 32) (sym (split_script script bytes i _ rest)) few) so_far.0 in
+          (front_taken held _ script bytes i n _ rest self.journal self.pending self.line self.lines self.refused more.0, more.1 ∙ so_far.1),
+    )
 
 pub returns : goal.returns
 returns g c held script few p =
-    let all = c.loop-byte.invariant held script few p in
-    let self = c.loop-byte.self in
-    (subst (λ t. Progress held (g.W.Write.contents c.loop-byte.writer.inner) (script ++ t) self.journal self.pending self.line self.lines self.refused) (take_all c.loop-byte.byte-index c.args.bytes.now c.loop-byte-test.false) all.0, all.1)
+    let all = c.loop-done.invariant.1 held script few p in
+    let self = c.loop-done.self in (
+      subst (λ t. Progress held (g.W.Write.contents c.loop-done.writer.inner) (script ++ t) self.journal self.pending self.line self.lines self.refused)
+          (take_all c.loop-done.done c.args.bytes.now c.loop-done-test.false) all.0,
+      all.1,
+    )
