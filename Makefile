@@ -37,10 +37,12 @@ quick:
 edits:
 	@python3 tests/edits.py $(if $(CRATE),-v $(CRATE))
 
-# Compares the transcripts of each example and of each script of tests/corpus, and those of the language's description.
+# Compares the transcripts of each example and of each script of tests/corpus, and those of the descriptions; and the programs
+# that docs/library.md shows with those that are proved.
 examples: bin/sgb
 	sh tests/examples.sh bin/sgb
-	python3 tests/documents.py bin/sgb docs/language.md docs/combinations.md
+	python3 tests/documents.py bin/sgb README.md docs/language.md docs/combinations.md
+	python3 tests/shown.py docs/library.md crates/sgb_library_tests/src
 
 # Runs scripts with each growth refused in its turn.
 growths: bin/sgb tests/out/refuse_growth.so
@@ -110,6 +112,16 @@ $(PLAIN:%=$(BENCH)/%): $(BENCH)/%: bench/%.rs $(wildcard bench/plain/*.rs)
 	mkdir -p $(BENCH)
 	rustc -O --edition 2021 -C target-cpu=x86-64-v2 -o $@ $<
 
+.PHONY: test-tools pictures
+
+# Hands exported graphs to Graphviz and networkx, which it installs by apt-get where they are missing. No part of the gate.
+test-tools: bin/sgb
+	python3 tests/tools.py bin/sgb
+
+# Draws the pictures of docs/pictures again, by Graphviz.
+pictures: bin/sgb
+	python3 docs/pictures.py bin/sgb
+
 .PHONY: manual uninstall
 
 # Writes the manual page from the description of the language.
@@ -121,21 +133,23 @@ BIN_FOLDER = $(DESTDIR)$(PREFIX)/bin
 MAN_FOLDER = $(DESTDIR)$(PREFIX)/share/man/man1
 DOC_FOLDER = $(DESTDIR)$(PREFIX)/share/doc/nuperako
 DOCUMENTS = $(wildcard docs/*.md)
+PICTURES = $(wildcard docs/pictures/*.svg)
 EXAMPLES = $(wildcard examples/*.sgb examples/*.out)
 
-# The program, its manual page, the descriptions and the examples.
+# The program, its manual page, the descriptions with their pictures, and the examples.
 install: bin/sgb
-	install -d "$(BIN_FOLDER)" "$(MAN_FOLDER)" "$(DOC_FOLDER)/examples"
+	install -d "$(BIN_FOLDER)" "$(MAN_FOLDER)" "$(DOC_FOLDER)/examples" "$(DOC_FOLDER)/pictures"
 	install -m 755 bin/sgb "$(BIN_FOLDER)"
 	install -m 644 sgb.1 "$(MAN_FOLDER)"
 	install -m 644 $(DOCUMENTS) "$(DOC_FOLDER)"
 	install -m 644 $(EXAMPLES) "$(DOC_FOLDER)/examples"
+	install -m 644 $(PICTURES) "$(DOC_FOLDER)/pictures"
 
 # Takes away the files that `make install` puts there, and its own folders where nothing else lies in them.
 uninstall:
 	rm -f "$(BIN_FOLDER)/sgb" "$(MAN_FOLDER)/sgb.1"
-	cd "$(DOC_FOLDER)" && rm -f $(notdir $(DOCUMENTS)) $(EXAMPLES)
-	rmdir --ignore-fail-on-non-empty "$(DOC_FOLDER)/examples" "$(DOC_FOLDER)"
+	cd "$(DOC_FOLDER)" && rm -f $(notdir $(DOCUMENTS)) $(EXAMPLES) $(PICTURES:docs/%=%)
+	rmdir --ignore-fail-on-non-empty "$(DOC_FOLDER)/examples" "$(DOC_FOLDER)/pictures" "$(DOC_FOLDER)"
 
 clean:
 	rm -rf bin tests/out

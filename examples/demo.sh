@@ -14,6 +14,8 @@ and each function that it stands on, in some minutes, and leaves it as bin/sgb. 
 
     bin/sgb queen                           the moves of a queen on a board of 3 by 4
     bin/sgb make board 8 8 0 0 5 0 0        a knight's moves as a saved graph, in one line
+    bin/sgb make board 8 8 0 0 5 0 0 | bin/sgb export --as dot | neato -Tsvg
+                                            the same as a picture, where Graphviz is installed
     bin/sgb run examples/standard.sgb       a tour of the standard graphs and their combinations
     bin/sgb run examples/saved.sgb          a random graph, saved, loaded and found to be the same
     bin/sgb run examples/byhand.sgb         a house, drawn by edges, with labels
@@ -26,6 +28,8 @@ and each function that it stands on, in some minutes, and leaves it as bin/sgb. 
 The transcript of each lies beside it, as examples/cutting.out.
 
     docs/language.md                        the language of scripts
+    docs/graphs.md                          the graphs, with pictures
+    docs/library.md                         short programs that call the library
     crates/sgb_flip/src/flip.rt             the generator, each function with its contract
     crates/sgb_flip/specs/Generator.antt    the definitions that those contracts name
     docs/architecture.md                    the crates, and which clause keeps which promise
