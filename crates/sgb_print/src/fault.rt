@@ -11,7 +11,7 @@ pub enum RunFault {
     /// A write failed.
     #[error("write failed")]
     Write,
-    /// More than 16,777,216 bytes came. Of a script the complete lines within them are answered.
+    /// More bytes came than are taken. Of a script the complete lines within them are answered.
     #[error("too long")]
     TooLong,
     /// There was no room for the work itself, and nothing was written.
