@@ -131,6 +131,20 @@ class Ends:
                 self.tell(met, (*self.plain(EDGE[:at], *words), b''), *words, 'with its end at', at)
         self.try_writes('check', ['check', path], None, *self.plain(EDGE, 'check'))
 
+    def try_export(self):
+        """The export of a text from standard input. A cut text is refused as the check of it is."""
+        words, path = ['export', '--as', 'dot'], self.file('edge', EDGE)
+        status, exported = self.plain(EDGE, *words)
+        self.tell((status, exported[:7]), (0, b'graph "'), *words)
+        for at in range(len(EDGE) + 1):
+            size = SIZES[at % len(SIZES)]
+            met = self.failing(words, path, read_fails_at=at, read_size=size)
+            self.tell(met, (2, b'', b'sgb: read failed\n'), 'export with a read failing at', at)
+            status, told = self.plain(EDGE[:at], 'check')
+            met = self.failing(words, path, read_ends_at=at, read_size=size)
+            self.tell(met, (1, b'', b'sgb: ' + told) if status else (0, exported, b''), 'export with its end at', at)
+        self.try_writes('export', words, path, 0, exported)
+
     def try_queen(self):
         queen = subprocess.run([self.program, 'queen'], stdout=subprocess.PIPE).stdout
         self.try_writes('queen', ['queen'], None, 0, queen)
@@ -146,6 +160,7 @@ def main():
     if ends.plain(b'group\nend\n', 'run')[0] == 0:
         ends.try_script('groups', GROUPS, has_groups=True)
     ends.try_check()
+    ends.try_export()
     ends.try_queen()
     print('ends: %d passed, %d failed' % (ends.passed, ends.failed))
     return 1 if ends.failed else 0

@@ -24,11 +24,26 @@ V0,0,5
 '''
 
 EDGE_TOLD = b'"gb_new_graph(2)"\n2 vertices, 2 arcs, 2 numbers\n'
+EDGE_LISTED = b'# graph 2 1\n0 1 5\n'
+
+# A vertex with an arc to none, as it is saved. Its check number is not compared.
+ASTRAY = b'''* GraphBase graph (util_types ZZZZZZZZZZZZZZ,1V,1A)
+"gb_new_graph(1)",1,1
+* Vertices
+"",A0
+* Arcs
+0,0,5
+* Checksum -1
+'''
 
 # The files of the folder in which the program runs.
 FILES = {'next': b'next\n', 'unfinished': b'next\nnext', 'refused': b'bogus\nnext\n', 'empty': b'',
          '-': b'seed 7\n', '--help': b'unif 1\n', 'edge': EDGE, 'wrong': EDGE.replace(b'22\n', b'23\n'),
-         'large': EDGE.replace(b',2V', b',70000V'), 'longest': b'\n' * 16777216, 'long': b'\n' * 16777217}
+         'large': EDGE.replace(b',2V', b',70000V'), 'longest': b'\n' * 16777216, 'long': b'\n' * 16777217,
+         'astray': ASTRAY}
+
+# Files of so many bytes 0.
+SIZES = {'most': 268435456, 'more': 268435457}
 
 NEXT = b'2029883356\n'
 REFUSED = b'line 1: refused 100 bad command\n'
@@ -36,6 +51,9 @@ BAD_SAVED = b'refused 20 bad saved graph\n'
 BAD_LINE = b'sgb: bad command line\n'
 BAD_WORDS = b'sgb: refused 100 bad command\n'
 BAD_SPECS = b'sgb: refused 30 bad specification\n'
+BAD_TEXT = b'sgb: refused 20 bad saved graph\n'
+BAD_CHECK = b'sgb: refused 11 check number is wrong\n'
+BAD_OPERAND = b'sgb: refused 60 bad operand\n'
 
 # A vertex without arcs, as it is saved.
 VERTEX = b'''* GraphBase graph (util_types ZZZZZZZZZZZZZZ,1V,0A)
@@ -122,12 +140,68 @@ COMMAND_LINES = [
     (['make', '--walk', 'graph', '1'], 2, b'', BAD_LINE),
     (['make', 'graph', '--walk'], 2, b'', BAD_LINE),
     (['make', 'graph', '-w'], 2, b'', BAD_LINE),
+    (['export', '--as', 'edges', 'edge'], 0, EDGE_LISTED, b''),
+    (['export', 'edge', '--as', 'edges'], 0, EDGE_LISTED, b''),
+    (['export', '--as', 'edges', '--any', 'wrong'], 0, EDGE_LISTED, b''),
+    (['export', '--any', '--as', 'edges', '--', 'edge'], 0, EDGE_LISTED, b''),
+    (['export', '--as', 'dimacs', 'edge'], 0, b'c gb_new_graph(2)\np sp 2 2\na 1 2 5\na 2 1 5\n', b''),
+    (['export', '--as', 'dot'], 1, b'', BAD_TEXT),
+    (['export', '--as', 'dot', 'empty'], 1, b'', BAD_TEXT),
+    (['export', '--as', 'dot', '--any', 'empty'], 1, b'', BAD_TEXT),
+    (['export', '--as', 'dot', '-'], 1, b'', BAD_TEXT),
+    (['export', '--as', 'dot', '--', '--help'], 1, b'', BAD_TEXT),
+    (['export', '--as', 'dot', 'large'], 1, b'', b'sgb: refused 40 too large\n'),
+    (['export', '--as', 'graphml', 'wrong'], 1, b'', BAD_CHECK),
+    (['export', '--as', 'dot', 'astray'], 1, b'', BAD_OPERAND),
+    (['export', '--as', 'edges', '--names', 'edge'], 1, b'', BAD_OPERAND),
+    (['export', '--as', 'edges', '--names', '--any', 'wrong'], 1, b'', BAD_OPERAND),
+    # The text itself is refused before its export.
+    (['export', '--as', 'edges', '--names', 'wrong'], 1, b'', BAD_CHECK),
+    # More is read than of a graph that is checked.
+    (['export', '--as', 'dot', 'long'], 1, b'', BAD_TEXT),
+    (['export', '--as', 'dot', 'most'], 1, b'', BAD_TEXT),
+    (['export', '--as', 'dot', 'more'], 2, b'', b'sgb: too long\n'),
+    (['export'], 2, b'', BAD_LINE),
+    (['export', 'edge'], 2, b'', BAD_LINE),
+    (['export', '--as'], 2, b'', BAD_LINE),
+    (['export', '--as', '', 'edge'], 2, b'', BAD_LINE),
+    (['export', '--as', 'svg', 'edge'], 2, b'', BAD_LINE),
+    (['export', '--as', 'DOT', 'edge'], 2, b'', BAD_LINE),
+    (['export', '--as', '--any', 'edge'], 2, b'', BAD_LINE),
+    (['export', '--as', 'dot', '--as', 'dot', 'edge'], 2, b'', BAD_LINE),
+    (['export', '--as', 'dot', '--any', '--any', 'edge'], 2, b'', BAD_LINE),
+    (['export', '--as', 'edges', '--names', '--names', 'edge'], 2, b'', BAD_LINE),
+    (['export', '--as', 'dot', '--names', 'edge'], 2, b'', BAD_LINE),
+    (['export', '--as', 'dimacs', '--names', 'edge'], 2, b'', BAD_LINE),
+    (['export', '--as', 'graphml', '--names', 'edge'], 2, b'', BAD_LINE),
+    (['export', '--as', 'dot', '--walk', 'edge'], 2, b'', BAD_LINE),
+    (['export', '--as', 'dot', 'edge', 'edge'], 2, b'', BAD_LINE),
+    (['export', '--as', 'dot', '--names', 'absent'], 2, b'', BAD_LINE),
+    (['export', '--as', 'dot', 'absent'], 2, b'', b'sgb: cannot open absent\n'),
+    (['export', '--as', 'dot', '--', '--any'], 2, b'', b'sgb: cannot open --any\n'),
+    (['export', '--as', 'dot', '.'], 2, b'', b'sgb: read failed\n'),
 ]
 
 # Words that make graphs: each one alone, and such as begin with a minus.
 MADE = ['graph 0', 'graph 7', 'board 3 4 0 0 -1 0 0', 'board 8 8 0 0 5 0 0', 'simplex 2 2 2 2 0 0 0',
         'subsets 2 1 -4 0 0 0 1 0', 'perms 2 1 1 0 0 0 0', 'binary 4 9 0', 'random 1000 5000 0 0 0 1 100 42',
         'random 10 20 1 1 1 -5 5 -', 'random 10 20 0 0 0 1 1 -7', 'random 10 20 -1 0 0 1 1 0']
+
+# Words that make the Petersen graph, and its id; the names of its vertices, and where their arcs lead, the newest first.
+# Each arc is half of an edge of length 1.
+PETERSEN = 'subsets 2 1 -4 0 0 0 1 0'
+PETERSEN_ID = 'subsets(2,1,-4,0,0,0,0x1,0)'
+PETERSEN_VERTICES = [('0.0.0.1.1', [9, 8, 5]), ('0.0.1.0.1', [9, 7, 4]), ('0.0.1.1.0', [9, 6, 3]), ('0.1.0.0.1', [8, 7, 2]),
+                     ('0.1.0.1.0', [8, 6, 1]), ('0.1.1.0.0', [7, 6, 0]), ('1.0.0.0.1', [5, 4, 2]), ('1.0.0.1.0', [5, 3, 1]),
+                     ('1.0.1.0.0', [4, 3, 0]), ('1.1.0.0.0', [2, 1, 0])]
+
+GRAPHML_HEAD = '''<?xml version="1.0" encoding="UTF-8"?>
+<graphml xmlns="http://graphml.graphdrawing.org/xmlns">
+  <key id="id" for="graph" attr.name="id" attr.type="string"/>
+  <key id="name" for="node" attr.name="name" attr.type="string"/>
+  <key id="len" for="edge" attr.name="len" attr.type="long"/>
+  <graph id="G" edgedefault="undirected">
+    <data key="id">%s</data>''' % PETERSEN_ID
 
 # The front of the queen's moves, which are 110 lines.
 QUEEN = b'''Queen Moves on a 3x4 Board
@@ -150,7 +224,7 @@ gunion(board(3,4,0,0,-1,0,0),board(3,4,0,0,-2,0,0),0,0)
 # Each tells the statuses and where the language is described. What else they say is free.
 HELP = [['--help'], ['-h'], ['help'], ['run', '--help'], ['run', '-h'], ['help', 'run'], ['queen', '--help'],
         ['check', '--help'], ['check', '-h'], ['help', 'check'], ['make', '--help'], ['make', '-h'],
-        ['help', 'make']]
+        ['help', 'make'], ['export', '--help'], ['export', '-h'], ['help', 'export']]
 
 # A script of 16,777,216 bytes, all of them a text of long lines.
 FILLED = b'load g any\n' + (b'x' * 8191 + b'\n') * 2047
@@ -188,6 +262,22 @@ CONVERSATION = [
     (b'show g\n', b'"gb_new_graph(1)" ZZZZZZZZZZZZZZ\n1 vertices, 1 arcs, 1 numbers\nV0 ""\n  A0 V0 5\n'),
     (b'undo\n', b'undone\n'),
 ]
+
+
+def exports():
+    """The Petersen graph in each format: the words behind `--as`, and the lines."""
+    names = [name for name, _ in PETERSEN_VERTICES]
+    arcs = [(v, w) for v, (_, ends) in enumerate(PETERSEN_VERTICES) for w in ends]
+    edges = [(v, w) for v, w in arcs if v < w]
+    yield ['dot'], ['graph "%s" {' % PETERSEN_ID, *['  %d [label="%s"];' % it for it in enumerate(names)],
+                    *['  %d -- %d [label="1"];' % it for it in edges], '}']
+    yield ['dimacs'], ['c ' + PETERSEN_ID, 'p sp 10 30', *['a %d %d 1' % (v + 1, w + 1) for v, w in arcs]]
+    yield ['edges'], ['# graph 10 15', *['%d %d 1' % it for it in edges]]
+    yield ['edges', '--names'], ['# graph 10 15', *['%s %s 1' % (names[v], names[w]) for v, w in edges]]
+    yield ['graphml'], [
+        GRAPHML_HEAD, *['    <node id="v%d"><data key="name">%s</data></node>' % it for it in enumerate(names)],
+        *['    <edge id="e%d" source="v%d" target="v%d"><data key="len">1</data></edge>' % (k, *it)
+          for k, it in enumerate(edges)], '  </graph>', '</graphml>']
 
 
 class Tests:
@@ -237,10 +327,18 @@ class Tests:
             self.expect((0, saved, b''), words, ['make'] + words.split())
             self.expect((0, saved, b''), words + ', in one', ['make', command, rest])
 
+    def try_exported(self):
+        """One program makes what the other writes in each format."""
+        for words, lines in exports():
+            with subprocess.Popen([self.program, 'make', *PETERSEN.split()], stdout=subprocess.PIPE) as made:
+                wanted = ''.join(it + '\n' for it in lines).encode()
+                self.expect((0, wanted, b''), words, ['export', '--as', *words], stdin=made.stdout)
+
     def try_readers(self):
         read_failed = 2, b'', b'sgb: read failed\n'
         opened = os.open(self.folder, os.O_RDONLY)
         self.expect(read_failed, 'a directory as standard input', ['run'], stdin=opened)
+        self.expect(read_failed, 'a directory to export', ['export', '--as', 'dot'], stdin=opened)
         os.close(opened)
         with open(self.folder + '/written', 'wb', buffering=0) as only_written:
             self.expect(read_failed, 'a file that is not to be read', ['run'], stdin=only_written)
@@ -256,6 +354,8 @@ class Tests:
             self.expect(write_failed, 'a full device, queen', ['queen'], stdout=full)
             self.expect(write_failed, 'a full device, an accepted graph', ['check', 'edge'], stdout=full)
             self.expect(write_failed, 'a full device, a refused graph', ['check', 'wrong'], stdout=full)
+            self.expect(write_failed, 'a full device, an export', ['export', '--as', 'dot', 'edge'], stdout=full)
+            self.expect((1, None, BAD_CHECK), 'a full device, no export', ['export', '--as', 'dot', 'wrong'], stdout=full)
             self.expect(write_failed, 'a full device, a made graph', ['make', 'graph', '1'], stdout=full)
             self.expect((1, None, BAD_SPECS), 'a full device, no graph is made', ['make', 'graph', '-1'], stdout=full)
             self.expect((0, None, b''), 'a full device, nothing to write', ['run'], stdout=full)
@@ -294,6 +394,9 @@ def main():
         for name, script in FILES.items():
             with open(os.path.join(folder, name), 'wb') as file:
                 file.write(script)
+        for name, size in SIZES.items():
+            with open(os.path.join(folder, name), 'wb') as file:
+                file.truncate(size)
         tests = Tests(sys.argv[1], folder)
         for words, *wanted in COMMAND_LINES:
             tests.expect(tuple(wanted), words, words)
@@ -302,6 +405,7 @@ def main():
         tests.try_help()
         tests.try_queen()
         tests.try_made()
+        tests.try_exported()
         tests.converse()
         tests.try_writers()
         tests.try_readers()

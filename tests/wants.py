@@ -162,6 +162,10 @@ def main():
             with open(path, 'wb') as file:
                 file.write(text)
             counts.append(wants.try_program('check', path))
+        path = os.path.join(folder, 'named')
+        with open(path, 'wb') as file:
+            file.write(EDGE.replace(b'"",A0', b'"a",A0').replace(b'"",A1', b'"b",A1'))
+        counts.append(wants.try_program('export', '--as', 'edges', '--names', '--any', path))
     counts.append(wants.try_program('queen'))
     print('wants: of %s growths' % ', '.join(map(str, counts)))
     print('wants: %d passed, %d failed' % (wants.passed, wants.failed))

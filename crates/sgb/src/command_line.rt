@@ -2,6 +2,7 @@
 
 use crate::complaint::Complaint;
 use clap::{Arg, ArgAction, ArgMatches, Command};
+use sgb_export::Format;
 use sgb_shell::RunFault;
 use sgb_text::CheckRule;
 use std::alloc::{AllocError, Global};
@@ -10,7 +11,7 @@ use std::alloc::{AllocError, Global};
 const MORE_HELP: &str = "\
 Status:
   0  every line, the saved graph, or the words of a graph were accepted
-  1  a line, the saved graph, or the words of a graph were refused
+  1  a line, the saved graph, its export, or the words of a graph were refused
   2  a fault: a bad command line, a file that cannot be opened, a failed read or write, a script or file that
      is too long, or no room; a line on standard error tells which
 
@@ -24,6 +25,9 @@ static MAKERS: [&str; 7] = [
     "graph", "board", "simplex", "subsets", "perms", "binary", "random",
 ];
 
+// The formats of an export.
+static FORMATS: [&str; 4] = ["dot", "dimacs", "edges", "graphml"];
+
 /// What the command line asks for.
 #[derive(Drop)]
 pub enum Task<'a> {
@@ -35,6 +39,9 @@ pub enum Task<'a> {
     Queen,
     /// `sgb check [--any] FILE`: to check the saved graph of a file by this rule.
     Check(&'a str, CheckRule),
+    /// `sgb export --as FORMAT [--any] [--names] [FILE]`: to write a saved graph, from a file or from standard input, in
+    /// this form, by this rule.
+    Export(Option<&'a str>, CheckRule, Format),
     /// `sgb make COMMAND WORDS..`: to write the graph that a command makes with these words.
     Make(&'a str, Vec<&'a [u8]>),
 }
@@ -57,6 +64,9 @@ pub fn read_task<'a>(rt: &HostRuntime, words: &'a [String]) -> Result<Task<'a>, 
     if let Some(check) = matches.subcommand_matches("check") {
         return task_of_check(check);
     }
+    if let Some(export) = matches.subcommand_matches("export") {
+        return task_of_export(export);
+    }
     if let Some(make) = matches.subcommand_matches("make") {
         return task_of_make(rt.alloc(), make);
     }
@@ -67,14 +77,34 @@ pub fn read_task<'a>(rt: &HostRuntime, words: &'a [String]) -> Result<Task<'a>, 
 }
 
 fn task_of_check<'a>(matches: &ArgMatches<'a>) -> Result<Task<'a>, Complaint<'a>> {
-    let rule = if matches.get_flag("any") {
+    match matches.get_str("FILE") {
+        Some(file) => Ok(Task::Check(file, rule_of(matches))),
+        None => Err(Complaint::CommandLine),
+    }
+}
+
+fn task_of_export<'a>(matches: &ArgMatches<'a>) -> Result<Task<'a>, Complaint<'a>> {
+    let format = format_of(matches)?;
+    Ok(Task::Export(matches.get_str("FILE"), rule_of(matches), format))
+}
+
+fn rule_of(matches: &ArgMatches<'_>) -> CheckRule {
+    if matches.get_flag("any") {
         CheckRule::Any
     } else {
         CheckRule::Match
-    };
-    match matches.get_str("FILE") {
-        Some(file) => Ok(Task::Check(file, rule)),
-        None => Err(Complaint::CommandLine),
+    }
+}
+
+// The format of an export. Only a list of edges has names in place of numbers.
+fn format_of<'a>(matches: &ArgMatches<'a>) -> Result<Format, Complaint<'a>> {
+    match (matches.get_str("as"), matches.get_flag("names")) {
+        (Some("dot"), false) => Ok(Format::Dot),
+        (Some("dimacs"), false) => Ok(Format::Dimacs),
+        (Some("edges"), false) => Ok(Format::Edges),
+        (Some("edges"), true) => Ok(Format::NamedEdges),
+        (Some("graphml"), false) => Ok(Format::Graphml),
+        _ => Err(Complaint::CommandLine),
     }
 }
 
@@ -100,6 +130,7 @@ fn command<'a>(alloc: Global) -> Result<Command<'a>, AllocError> {
         .subcommand(run_command(alloc)?)?
         .subcommand(queen_command(alloc))?
         .subcommand(check_command(alloc)?)?
+        .subcommand(export_command(alloc)?)?
         .subcommand(make_command(alloc)?)
 }
 
@@ -118,17 +149,41 @@ fn queen_command<'a>(alloc: Global) -> Command<'a> {
 }
 
 fn check_command<'a>(alloc: Global) -> Result<Command<'a>, AllocError> {
-    let any = Arg::new(alloc, "any")
-        .long("any")
-        .action(ArgAction::SetTrue)
-        .help("accepts any check number, as a file of the original GraphBase needs");
     let file = Arg::new(alloc, "FILE")
         .required(true)
         .help("the saved graph");
     Command::new(alloc, "check")
         .about("Tells the id and the counts of a saved graph, or why it is refused")
         .after_help(MORE_HELP)
-        .arg(any)?
+        .arg(any_flag(alloc))?
+        .arg(file)
+}
+
+fn any_flag<'a>(alloc: Global) -> Arg<'a> {
+    Arg::new(alloc, "any")
+        .long("any")
+        .action(ArgAction::SetTrue)
+        .help("accepts any check number, as a file of the original GraphBase needs")
+}
+
+fn export_command<'a>(alloc: Global) -> Result<Command<'a>, AllocError> {
+    let format = Arg::new(alloc, "as")
+        .long("as")
+        .value_name("FORMAT")
+        .required(true)
+        .value_parser(FORMATS.as_slice())
+        .help("the form that is written");
+    let names = Arg::new(alloc, "names")
+        .long("names")
+        .action(ArgAction::SetTrue)
+        .help("in a list of edges, names in place of numbers");
+    let file = Arg::new(alloc, "FILE").help("the saved graph; without it, standard input");
+    Command::new(alloc, "export")
+        .about("Writes a saved graph in the form of another tool")
+        .after_help(MORE_HELP)
+        .arg(format)?
+        .arg(any_flag(alloc))?
+        .arg(names)?
         .arg(file)
 }
 

@@ -1,5 +1,5 @@
-//! The program `sgb`, which runs scripts on a session of graphs, writes the queen's moves, checks saved graphs and makes
-//! graphs.
+//! The program `sgb`, which runs scripts on a session of graphs, writes the queen's moves, checks and exports saved graphs,
+//! and makes graphs.
 #![tactic(auto)]
 
 mod command_line;
@@ -9,10 +9,13 @@ mod transcript;
 
 use command_line::{Task, read_task};
 use complaint::Complaint;
-use programs::{print_check, print_made, print_queen};
+use programs::{print_check, print_export, print_made, print_queen};
+use sgb_export::Format;
 use sgb_shell::exit_status;
+use sgb_text::CheckRule;
 use std::env;
 use std::fs::File;
+use std::io::Read;
 use std::process::ExitCode;
 use transcript::print_transcript;
 
@@ -47,10 +50,25 @@ fn perform<'a>(rt: &HostRuntime, words: &'a [String]) -> Result<bool, Complaint<
             Ok(true)
         }
         Task::Check(name, rule) => Ok(print_check(rt, open(rt, name)?, rule)?),
+        Task::Export(None, rule, format) => export(rt, rt.reader(), rule, format),
+        Task::Export(Some(name), rule, format) => export(rt, open(rt, name)?, rule, format),
         Task::Make(command, words) => match print_made(rt, command, words.as_slice())? {
             Ok(()) => Ok(true),
             Err(refusal) => Err(Complaint::Refused(refusal.number(), refusal.text())),
         },
+    }
+}
+
+// Exports a saved graph. A refusal is told in a line on standard error.
+fn export<'a, R: Read + Drop>(
+    rt: &HostRuntime,
+    file: R,
+    rule: CheckRule,
+    format: Format,
+) -> Result<bool, Complaint<'a>> {
+    match print_export(rt, file, rule, format)? {
+        Ok(()) => Ok(true),
+        Err(refusal) => Err(Complaint::Refused(refusal.number(), refusal.text())),
     }
 }
 

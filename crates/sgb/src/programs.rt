@@ -1,6 +1,10 @@
-//! The queen's moves, the check of a saved graph, and graphs that words make, to standard output.
+//! The queen's moves, the check and the export of a saved graph, and graphs that words make, to standard output.
 
-use sgb_programs::{Finished, check, make, queen, read_file};
+use sgb_export::Format;
+use sgb_graph::Refusal;
+use sgb_programs::{
+    EXPORT_LIMIT, FILE_LIMIT, Finished, check, export_text, make, queen, read_file,
+};
 use sgb_shell::{MeteredReader, RunFault, ShellRefusal};
 use sgb_text::CheckRule;
 use std::io::{BufWriter, Read, Write};
@@ -20,9 +24,24 @@ pub fn print_check<R: Read + Drop>(
     rule: CheckRule,
 ) -> Result<bool, RunFault> {
     let mut reader = MeteredReader::new(file);
-    let text = read_file(rt.alloc(), &mut reader)?;
+    let text = read_file(rt.alloc(), &mut reader, FILE_LIMIT)?;
     match BufWriter::new(rt.alloc(), rt.stdout()) {
         Ok(writer) => outcome(check(rt.alloc(), text.as_slice(), rule, writer)),
+        Err(_) => Err(RunFault::NoRoom),
+    }
+}
+
+/// Reads a file to its end, writes the saved graph that it is in this form, and answers why it was refused, if it was.
+pub fn print_export<R: Read + Drop>(
+    rt: &HostRuntime,
+    file: R,
+    rule: CheckRule,
+    format: Format,
+) -> Result<Result<(), Refusal>, RunFault> {
+    let mut reader = MeteredReader::new(file);
+    let text = read_file(rt.alloc(), &mut reader, EXPORT_LIMIT)?;
+    match BufWriter::new(rt.alloc(), rt.stdout()) {
+        Ok(writer) => outcome(export_text(rt.alloc(), text.as_slice(), rule, format, writer)),
         Err(_) => Err(RunFault::NoRoom),
     }
 }

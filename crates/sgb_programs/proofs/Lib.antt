@@ -3,3 +3,4 @@ mod Queens
 mod Reading
 mod Standard
 mod Telling
+mod Written

@@ -3,9 +3,9 @@ use Rattle.std.proofs.Common.{◌≡◌, ◌≤◌, ◌+◌, ℕ, Bool, false, L
 use Rattle.std.specs.Io.KnownBytes.{Consumes}
 
 -- the bytes so far are taken, and so many more may be
-pub record Reading (left left' : Option (List ℕ)) (failed : Bool) (reads : ℕ) (file : List ℕ) (room : ℕ) : Type 0 where
+pub record Reading (limit : ℕ) (left left' : Option (List ℕ)) (failed : Bool) (reads : ℕ) (file : List ℕ) (room : ℕ) : Type 0 where
   pub taken : Consumes left left' file
-  pub rest : length file + room ≡ 16777216
+  pub rest : length file + room ≡ limit
   pub seldom : reads ≤ length file
   pub reader : failed ≡ false
 

@@ -1,37 +1,14 @@
 //! Saved texts, and what is told of them.
 
 use crate::fake::Room;
+use crate::texts::{EDGE, LARGE, WRONG};
 use sgb_print::RunFault;
 use sgb_programs::check;
 use sgb_text::CheckRule;
 use std::alloc::Global;
 use std::test::Fail;
 
-// Two vertices that an edge joins.
-const EDGE: &str = "* GraphBase graph (util_types ZZZZZZZZZZZZZZ,2V,2A)
-\"gb_new_graph(2)\",2,2
-* Vertices
-\"\",A0
-\"\",A1
-* Arcs
-V1,0,5
-V0,0,5
-* Checksum 450523822
-";
-
-// The same with another check number.
-const WRONG: &str = "* GraphBase graph (util_types ZZZZZZZZZZZZZZ,2V,2A)
-\"gb_new_graph(2)\",2,2
-* Vertices
-\"\",A0
-\"\",A1
-* Arcs
-V1,0,5
-V0,0,5
-* Checksum 450523823
-";
-
-// The same vertices without arcs, whose numbers are holes.
+// Two vertices without arcs, whose numbers are holes.
 const HOLES: &str = "* GraphBase graph (util_types ZZZZZZZZZZZZZZ,2V,2A)
 \"gb_new_graph(2)\",2,0
 * Vertices
@@ -41,10 +18,6 @@ const HOLES: &str = "* GraphBase graph (util_types ZZZZZZZZZZZZZZ,2V,2A)
 0,0,0
 0,0,0
 * Checksum 221745784
-";
-
-// A first line whose count of vertices is above the limit.
-const LARGE: &str = "* GraphBase graph (util_types ZZZZZZZZZZZZZZ,70000V,2A)
 ";
 
 const EDGE_TOLD: &str = "\"gb_new_graph(2)\"

@@ -2,16 +2,20 @@
 
 use crate::fake::{Same, Steps};
 use sgb_print::{MeteredReader, RunFault};
-use sgb_programs::{FILE_LIMIT, read_file};
+use sgb_programs::{EXPORT_LIMIT, FILE_LIMIT, read_file};
 use std::alloc::Global;
 use std::io::Read;
 
 const BYTES: &[u8] = b"some bytes\nof a file";
 
 // How many bytes are read, and by how many reads.
-fn count_of<R: Read + Drop>(alloc: Global, reader: R) -> Result<(usize, u64), RunFault> {
+fn count_of<R: Read + Drop>(
+    alloc: Global,
+    reader: R,
+    limit: u32,
+) -> Result<(usize, u64), RunFault> {
     let mut reader = MeteredReader::new(reader);
-    let file = read_file(alloc, &mut reader)?;
+    let file = read_file(alloc, &mut reader, limit)?;
     Ok((file.len(), reader.reads()))
 }
 
@@ -21,11 +25,12 @@ fn of_steps(alloc: Global, step: usize, fails: bool) -> Result<(usize, u64), Run
         step,
         fails,
     };
-    count_of(alloc, reader)
+    count_of(alloc, reader, FILE_LIMIT)
 }
 
-fn of_length(alloc: Global, left: usize) -> Result<(usize, u64), RunFault> {
-    count_of(alloc, Same { byte: b'a', left })
+fn of_length(alloc: Global, left: u32, limit: u32) -> Result<(usize, u64), RunFault> {
+    let left = left as usize;
+    count_of(alloc, Same { byte: b'a', left }, limit)
 }
 
 // Whether a file of these bytes is read as them.
@@ -35,7 +40,7 @@ fn is_kept(alloc: Global, rest: &[u8], step: usize) -> bool {
         step,
         fails: false,
     });
-    match read_file(alloc, &mut reader) {
+    match read_file(alloc, &mut reader, FILE_LIMIT) {
         Ok(file) => file.as_slice() == rest,
         Err(_) => false,
     }
@@ -63,10 +68,19 @@ fn a_failed_read_is_told(rt: HostRuntime) {
 
 #[test]
 fn the_longest_file_is_read(rt: HostRuntime) {
-    assert!(rt; of_length(rt.alloc(), FILE_LIMIT) == Ok((16_777_216, 4097)));
+    assert!(rt; of_length(rt.alloc(), FILE_LIMIT, FILE_LIMIT) == Ok((16_777_216, 4097)));
 }
 
 #[test]
 fn a_longer_file_is_told(rt: HostRuntime) {
-    assert!(rt; of_length(rt.alloc(), FILE_LIMIT + 1) == Err(RunFault::TooLong));
+    assert!(rt; of_length(rt.alloc(), FILE_LIMIT + 1, FILE_LIMIT) == Err(RunFault::TooLong));
+    assert!(rt; of_length(rt.alloc(), FILE_LIMIT + 1, EXPORT_LIMIT) == Ok((16_777_217, 4098)));
+}
+
+#[test]
+fn the_limit_is_the_callers(rt: HostRuntime) {
+    assert!(rt; of_length(rt.alloc(), 0, 0) == Ok((0, 1)));
+    assert!(rt; of_length(rt.alloc(), 1, 0) == Err(RunFault::TooLong));
+    assert!(rt; of_length(rt.alloc(), 5000, 5000) == Ok((5000, 3)));
+    assert!(rt; of_length(rt.alloc(), 5001, 5000) == Err(RunFault::TooLong));
 }

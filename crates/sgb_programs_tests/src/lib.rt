@@ -4,6 +4,8 @@
 #[cfg(test)]
 mod checks;
 #[cfg(test)]
+mod exports;
+#[cfg(test)]
 mod fake;
 #[cfg(test)]
 mod files;
@@ -11,3 +13,5 @@ mod files;
 mod made;
 #[cfg(test)]
 mod moves;
+#[cfg(test)]
+mod texts;
