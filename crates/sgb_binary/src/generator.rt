@@ -10,8 +10,8 @@ use crate::index::index_names;
 use crate::judge::count_trees;
 use crate::lister::list_trees;
 use crate::rotation::insert_rotations;
-use sgb_graph::{Builder, Graph, Label, Refusal, Types, Util};
-use sgb_plan::{Part, id_of, text_of};
+use sgb_graph::{Builder, Graph, Refusal, Types, Util};
+use sgb_plan::{Part, id_of, label_of};
 use std::alloc::Global;
 
 /// The graph `binary` of binary trees: a vertex for each tree with `n` dots and at most the height, named by its text,
@@ -80,6 +80,7 @@ fn name_vertices(builder: &mut Builder, alloc: Global, trees: &[&[u8]]) -> Resul
 {
     builder.reserve_vertices(trees.len())?;
     for tree in trees {
+        let label = label_of(alloc, tree)?;
         let fields = [
             Util::Zero,
             Util::Zero,
@@ -88,7 +89,7 @@ fn name_vertices(builder: &mut Builder, alloc: Global, trees: &[&[u8]]) -> Resul
             Util::Zero,
             Util::Zero,
         ];
-        builder.push_vertex(Label::new(text_of(alloc, tree)?), fields)?;
+        builder.push_vertex(label, fields)?;
     }
     Ok(())
 }

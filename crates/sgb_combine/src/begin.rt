@@ -5,8 +5,8 @@ ghost use Rattle.sgb_plan.specs.Plan.{Names};
 ghost use Rattle.sgb_combine.specs.Combined.{vertices_of};
 ghost use Rattle.sgb_combine.specs.Private.Begin.{Begins};
 
-use sgb_graph::{Builder, Graph, Label, Refusal, Text, Types, Util, VertexNo};
-use sgb_plan::text_of;
+use sgb_graph::{Builder, Graph, Refusal, Text, Types, Util, VertexNo};
+use sgb_plan::label_of;
 use std::alloc::Global;
 
 // A builder with this id and the vertices of the graph, by their names alone, and with room for so many insertions.
@@ -31,8 +31,8 @@ fn name_vertices(builder: &mut Builder, alloc: Global, graph: &Graph) -> Result<
 {
     builder.reserve_vertices(graph.n() as usize)?;
     for v in 0..graph.n() {
-        let label = text_of(alloc, graph.label(VertexNo(v)))?;
-        builder.push_vertex(Label::new(label), no_fields())?;
+        let label = label_of(alloc, graph.label(VertexNo(v)))?;
+        builder.push_vertex(label, no_fields())?;
     }
     Ok(())
 }

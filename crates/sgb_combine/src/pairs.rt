@@ -12,7 +12,7 @@ use crate::begin::{no_fields, room_of};
 use crate::multiply::insert_product;
 use sgb_graph::{Builder, Graph, Label, Refusal, Text, Types, VertexNo};
 use sgb_operand::check_operand;
-use sgb_plan::{Part, id_of_two, text_of};
+use sgb_plan::{Part, id_of_two, label_of};
 use std::alloc::{AllocError, Global};
 
 /// The product of two graphs: a vertex for each pair of theirs, named by both names with a comma between. The
@@ -152,7 +152,7 @@ fn name_row(
 {
     for b in 0..second.n() {
         let label = name_of(bytes, alloc, first, second, a, VertexNo(b))?;
-        builder.push_vertex(Label::new(label), no_fields())?;
+        builder.push_vertex(label, no_fields())?;
     }
     Ok(())
 }
@@ -165,7 +165,7 @@ fn name_of(
     second: &Graph,
     a: VertexNo,
     b: VertexNo,
-) -> Result<Text, Refusal>
+) -> Result<Label, Refusal>
     requires a { a.0 < n_of first.now }
     requires b { b.0 < n_of second.now }
     requires short { length (pair_name first.now second.now a.0 b.0).label ≤ 4095 }
@@ -176,5 +176,5 @@ fn name_of(
     bytes.extend_from_slice(first.label(a))?;
     bytes.push(b',')?;
     bytes.extend_from_slice(second.label(b))?;
-    text_of(alloc, bytes)
+    label_of(alloc, bytes)
 }

@@ -7,6 +7,7 @@ pub mod Exchange
 pub mod Fill
 pub mod Holes
 pub mod Insert
+pub mod Label
 pub mod Lay
 pub mod Link
 pub mod Revert

@@ -1,5 +1,5 @@
 //! Texts: the bytes of ids, labels and fields.
-ghost use Rattle.std.specs.Prelude.{◌≡◌, IfOk, IfErr, ◌⊎◌, []};
+ghost use Rattle.std.specs.Prelude.{◌≡◌, ◌<◌, ◌≤◌, length, IfOk, IfErr, ◌⊎◌, []};
 ghost use Rattle.std.specs.Result.{IsErrOf};
 ghost use Rattle.std.specs.List.{list_all};
 ghost use Rattle.sgb_graph.specs.Text.{IsText, is_text_byte};
@@ -96,21 +96,31 @@ fn are_text_bytes(bytes: &[u8]) -> bool
     bytes.iter().all(|byte| is_text_byte(*byte))
 }
 
-/// A vertex's name, where the empty one takes no memory.
+/// The most bytes of a name that takes no memory.
+const SHORT: usize = 14;
+
+/// A vertex's name. One of at most 14 bytes takes no memory.
 #[derive(Debug, Drop)]
 pub struct Label {
-    text: Option<Text>,
+    kept: Kept,
+}
+
+// The bytes of a name: in place, behind how many they are, where they are few.
+#[derive(Debug, Drop)]
+enum Kept {
+    Short(u8, [u8; SHORT]),
+    Long(Text),
 }
 
 impl Model for Label {
-    ghost use Rattle.std.specs.Prelude.{List, ℕ, unwrap_or, []};
-    ghost use Rattle.sgb_graph.specs.Text.{IsText};
+    ghost use Rattle.std.specs.Prelude.{List, ℕ};
+    ghost use Rattle.sgb_graph.specs.Private.Label.{bytes_of, IsKept};
 
     ghost Value = { List ℕ };
 
-    ghost view = { λ l. unwrap_or l.text [] };
+    ghost view = { λ l. bytes_of l.kept };
 
-    ghost invariant = { λ l. IsText (unwrap_or l.text []) };
+    ghost invariant = { λ l. IsKept l.kept };
 }
 
 impl PartialEq for Label {
@@ -141,7 +151,9 @@ impl Label {
     pub fn empty() -> Label
         ensures { result ≡ [] }
     {
-        Label { text: None }
+        Label {
+            kept: Kept::Short(0, [0; SHORT]),
+        }
     }
 
     /// The label of this text.
@@ -151,7 +163,40 @@ impl Label {
         ensures text { IsText text }
     {
         let _ = text.bytes();
-        Label { text: Some(text) }
+        Label {
+            kept: Kept::Long(text),
+        }
+    }
+
+    /// The label of these bytes, copied, which takes memory where they are more than 14. Refused `BadOperand` where they
+    /// are no text.
+    pub fn from_bytes(alloc: Global, bytes: &[u8]) -> Result<Label, Refusal>
+        ensures ok { IfOk result (λ l. (l ≡ bytes.now) × IsText bytes.now) }
+        ensures err { IfErr result
+            (λ e. (e ≡ Refusal.NoRoom) ⊎ ((e ≡ Refusal.BadOperand) × ¬ IsText bytes.now)) }
+        ensures room { IsErrOf result Refusal.NoRoom → IsText bytes.now × (14 < length bytes.now) }
+    {
+        if bytes.len() > SHORT {
+            return Ok(Label::new(Text::new(alloc, bytes)?));
+        }
+        if !are_text_bytes(bytes) {
+            return Err(Refusal::BadOperand);
+        }
+        Ok(Label::short(bytes))
+    }
+
+    // The label of these bytes, which are few.
+    fn short(bytes: &[u8]) -> Label
+        requires text { IsText bytes.now }
+        requires few { length bytes.now ≤ 14 }
+        ensures { result ≡ bytes.now }
+    {
+        let mut kept = [0; SHORT];
+        let (front, _) = kept.split_at_mut(bytes.len());
+        front.copy_from_slice(bytes);
+        Label {
+            kept: Kept::Short(bytes.len() as u8, kept),
+        }
     }
 
     /// The bytes.
@@ -160,9 +205,12 @@ impl Label {
         ensures value { result.now ≡ self.now }
         ensures text { IsText self.now }
     {
-        match &self.text {
-            Some(text) => text.bytes(),
-            None => &[],
+        match &self.kept {
+            Kept::Short(len, bytes) => {
+                let (front, _) = bytes.split_at(*len as usize);
+                front
+            }
+            Kept::Long(text) => text.bytes(),
         }
     }
 }

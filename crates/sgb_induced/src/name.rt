@@ -11,8 +11,8 @@ ghost use Rattle.sgb_induced.specs.Private.Run.{image_of};
 use crate::fate::Fate;
 use crate::image::Image;
 use itoa::Buffer;
-use sgb_graph::{Builder, Graph, Label, Refusal, Util, VertexNo};
-use sgb_plan::text_of;
+use sgb_graph::{Builder, Graph, Refusal, Util, VertexNo};
+use sgb_plan::label_of;
 use std::alloc::{AllocError, Global};
 
 // The name of each copy has at most 4,095 bytes.
@@ -78,7 +78,7 @@ fn name_copies(
     let alloc = *name.allocator();
     for j in 0..count {
         write_copy_name(name, label, j + 1)?;
-        let text = text_of(alloc, name)?;
+        let label = label_of(alloc, name)?;
         let fields = [
             Util::Zero,
             Util::Zero,
@@ -87,7 +87,7 @@ fn name_copies(
             Util::Zero,
             Util::Zero,
         ];
-        builder.push_vertex(Label::new(text), fields)?;
+        builder.push_vertex(label, fields)?;
     }
     Ok(())
 }

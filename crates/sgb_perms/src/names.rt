@@ -7,8 +7,8 @@ ghost use Rattle.sgb_perms.specs.Perms.{name_of, perms_id, row_vertex, row_at};
 use crate::PermsSpec;
 use crate::counts::numbers_of;
 use crate::rows::Rows;
-use sgb_graph::{Builder, Label, Refusal, Text, Util};
-use sgb_plan::{Part, id_of, shown_at, text_of};
+use sgb_graph::{Builder, Refusal, Text, Util};
+use sgb_plan::{Part, id_of, label_of, shown_at};
 use std::alloc::Global;
 
 // A character for each kind.
@@ -46,7 +46,7 @@ pub(crate) fn name_vertices(
     let mut name = Vec::with_capacity(alloc, rows.width())?;
     for v in 0..rows.len() {
         write_name(&mut name, rows.row(v))?;
-        let label = text_of(alloc, &name)?;
+        let label = label_of(alloc, &name)?;
         let fields = [
             Util::Zero,
             Util::Zero,
@@ -55,7 +55,7 @@ pub(crate) fn name_vertices(
             Util::Zero,
             Util::Zero,
         ];
-        builder.push_vertex(Label::new(label), fields)?;
+        builder.push_vertex(label, fields)?;
     }
     Ok(())
 }

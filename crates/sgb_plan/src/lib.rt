@@ -14,4 +14,4 @@ pub use length::{DrawnLength, LengthRange};
 pub use listing::{list_of, shown_at};
 pub use name::{append_dotted, dotted};
 pub use part::{Part, Seed};
-pub use text::text_of;
+pub use text::{label_of, text_of};

@@ -10,8 +10,8 @@ ghost use Rattle.sgb_random.specs.Private.Progress.{IsWithin, insertion_of};
 use crate::RandomSpec;
 use crate::progress::Edge;
 use crate::spec::wanted;
-use sgb_graph::{Builder, Graph, Label, Refusal, Text, Types, Util, VertexNo};
-use sgb_plan::{Part, Seed, dotted, id_of};
+use sgb_graph::{Builder, Graph, Refusal, Text, Types, Util, VertexNo};
+use sgb_plan::{Part, Seed, append_dotted, id_of, label_of};
 use std::alloc::Global;
 
 // Builds the graph of `n` vertices with these arcs or edges.
@@ -61,8 +61,11 @@ fn random_id(alloc: Global, spec: &RandomSpec, seed: Seed, n: u32, m: u32) -> Re
 fn name_vertices(builder: &mut Builder, alloc: Global, n: u32) -> Result<(), Refusal>
     ensures { Names builder.old builder.new (map numbered (range_with_len 0 n)) result }
 {
+    let mut name = Vec::new(alloc);
     for v in 0..n {
-        let label = dotted(alloc, &[v])?;
+        name.clear();
+        append_dotted(&mut name, &[v])?;
+        let label = label_of(alloc, &name)?;
         let fields = [
             Util::Zero,
             Util::Zero,
@@ -71,7 +74,7 @@ fn name_vertices(builder: &mut Builder, alloc: Global, n: u32) -> Result<(), Ref
             Util::Zero,
             Util::Zero,
         ];
-        builder.push_vertex(Label::new(label), fields)?;
+        builder.push_vertex(label, fields)?;
     }
     Ok(())
 }

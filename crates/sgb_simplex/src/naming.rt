@@ -4,8 +4,8 @@ ghost use Rattle.sgb_plan.specs.Plan.{Names};
 ghost use Rattle.sgb_simplex.specs.Points.{points, point_vertex, coordinate_field, point_types};
 
 use crate::list::PointList;
-use sgb_graph::{Builder, Label, Refusal, Types, Util};
-use sgb_plan::{append_dotted, text_of};
+use sgb_graph::{Builder, Refusal, Types, Util};
+use sgb_plan::{append_dotted, label_of};
 use std::alloc::Global;
 
 /// The letters of graphs of points: three numbers for each vertex.
@@ -31,7 +31,7 @@ pub fn push_point(
 {
     name.clear();
     append_dotted(name, point)?;
-    let label = text_of(alloc, name)?;
+    let label = label_of(alloc, name)?;
     let fields = [
         Util::Zero,
         Util::Zero,
@@ -40,7 +40,7 @@ pub fn push_point(
         coordinate_field(point, 1),
         coordinate_field(point, 2),
     ];
-    builder.push_vertex(Label::new(label), fields)
+    builder.push_vertex(label, fields)
 }
 
 /// Makes a vertex of each point.

@@ -21,8 +21,8 @@ loop-tree-init c =
     subst (λ b. NamesOf c.args.builder.now (map tree_vertex (names_of trees)) b tree_vertex (names_of trees) 0) (sym c.in_ok-reserve_vertices.ensures.same)
     (names_of_start c.args.builder.now tree_vertex (names_of trees))
 
-pub text_of-requires : goal.text_of-requires
-text_of-requires c =
+pub label_of-requires : goal.label_of-requires
+label_of-requires c =
     let trees : List (Bor (List ℕ)) = c.args.trees.now in
     let i : ℕ = c.loop-tree.tree-index in
     let h : i < length trees = c.loop-tree-test.true in
@@ -34,8 +34,8 @@ returns-in_err-push_vertex c =
     let trees : List (Bor (List ℕ)) = c.args.trees.now in
     let i : ℕ = c.loop-tree.tree-index in
     let h : i < length trees = c.loop-tree-test.true in
-    let x : List ℕ = c.new.result in
-    let is : x ≡ get_or (names_of trees) i x = c.new.ensures.value ∙ (c.in_ok-text_of.ensures.value ∙ name_at trees i _ x h) in
+    let x : List ℕ = c.in_ok-label.label in
+    let is : x ≡ get_or (names_of trees) i x = c.in_ok-label.ensures.value ∙ name_at trees i _ x h in
     rw (p.1, p.2)
     (names_of_refused x (below trees i h) is c.loop-tree.invariant (push_refused c.loop-tree.builder x six_zeros c.in_err-push_vertex.ensures.err))
 
@@ -44,8 +44,8 @@ loop-tree-preserved c =
     let trees : List (Bor (List ℕ)) = c.args.trees.now in
     let i : ℕ = c.loop-tree.tree-index in
     let h : i < length trees = c.loop-tree-test.true in
-    let x : List ℕ = c.new.result in
-    let is : x ≡ get_or (names_of trees) i x = c.new.ensures.value ∙ (c.in_ok-text_of.ensures.value ∙ name_at trees i _ x h) in
+    let x : List ℕ = c.in_ok-label.label in
+    let is : x ≡ get_or (names_of trees) i x = c.in_ok-label.ensures.value ∙ name_at trees i _ x h in
     names_of_some x (below trees i h) is c.loop-tree.invariant
     (c.in_ok-push_vertex.ensures.ok ∙ pushed c.loop-tree.builder x six_zeros)
 

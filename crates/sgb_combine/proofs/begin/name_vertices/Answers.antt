@@ -25,8 +25,8 @@ loop-v-preserved c =
     let builder = c.loop-v.builder in
     names_from_some (omega arith) c.loop-v.invariant
     (c.in_ok-push_vertex.ensures.ok
-    ∙ (pushed builder c.new.result c.no_fields.result
-    ∙ (ap (λ label. with_named builder (record { label = label; fields = c.no_fields.result } ∷ [])) (c.new.ensures.value ∙ (c.in_ok-label.ensures.value ∙ c.label.ensures.value))
+    ∙ (pushed builder c.in_ok-label.label c.no_fields.result
+    ∙ (ap (λ label. with_named builder (record { label = label; fields = c.no_fields.result } ∷ [])) (c.in_ok-label.ensures.value ∙ c.label.ensures.value)
     ∙ ap (λ fs. with_named builder (record { label = label_of c.args.graph.now c.loop-v.v; fields = fs } ∷ [])) c.no_fields.ensures)))
 
 pub returns : goal.returns

@@ -22,8 +22,8 @@ loop-b-preserved c =
     let name = pair_name c.args.first.now c.args.second.now c.args.a.0 c.loop-b.b in
     names_from_some (omega arith) c.loop-b.invariant
     (c.in_ok-push_vertex.ensures.ok
-    ∙ (pushed builder c.new.result c.no_fields.result
-    ∙ (ap (λ label. with_named builder (record { label = label; fields = c.no_fields.result } ∷ [])) (c.new.ensures.value ∙ c.in_ok-label.ensures.value)
+    ∙ (pushed builder c.in_ok-label.label c.no_fields.result
+    ∙ (ap (λ label. with_named builder (record { label = label; fields = c.no_fields.result } ∷ [])) (c.in_ok-label.ensures.value)
     ∙ ap (λ fs. with_named builder (record { label = name.label; fields = fs } ∷ [])) c.no_fields.ensures)))
 
 pub returns : goal.returns

@@ -11,8 +11,8 @@ use Rattle.sgb_induced.proofs.name.name_copies.Goals as goal
 pub loop-j-init : goal.loop-j-init
 loop-j-init c = copies_start c.args.builder.now c.args.label.now c.args.count
 
-pub text_of-requires : goal.text_of-requires
-text_of-requires c = subst IsText (sym (c.deref.ensures.value ∙ c.in_ok-write_copy_name.ensures)) (name_is_text c.args.label.now (c.loop-j.j + 1) c.args.count c.requires.text (omega arith) (omega arith) c.requires.short)
+pub label_of-requires : goal.label_of-requires
+label_of-requires c = subst IsText (sym (c.deref.ensures.value ∙ c.in_ok-write_copy_name.ensures)) (name_is_text c.args.label.now (c.loop-j.j + 1) c.args.count c.requires.text (omega arith) (omega arith) c.requires.short)
 
 pub returns-in_err-push_vertex : goal.returns-in_err-push_vertex
 returns-in_err-push_vertex c =
@@ -25,8 +25,8 @@ loop-j-preserved c =
     let builder = c.loop-j.builder in
     names_from_some (omega arith) c.loop-j.invariant
     (c.in_ok-push_vertex.ensures.ok
-    ∙ (pushed builder c.new.result six_zeros
-    ∙ ap (λ label. with_named builder (record { label = label; fields = six_zeros } ∷ [])) (c.new.ensures.value ∙ (c.in_ok-text.ensures.value ∙ (c.deref.ensures.value ∙ c.in_ok-write_copy_name.ensures)))))
+    ∙ (pushed builder c.in_ok-label.label six_zeros
+    ∙ ap (λ label. with_named builder (record { label = label; fields = six_zeros } ∷ [])) (c.in_ok-label.ensures.value ∙ (c.deref.ensures.value ∙ c.in_ok-write_copy_name.ensures))))
 
 pub returns : goal.returns
 returns c = names_from_end (omega arith) c.loop-j.invariant

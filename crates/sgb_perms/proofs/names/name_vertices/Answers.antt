@@ -31,8 +31,8 @@ loop-v-init c =
     subst (λ b. NamesOf c.args.builder.now (map row_vertex rows) b row_vertex rows 0) (sym c.in_ok-reserve_vertices.ensures.same)
     (names_of_start c.args.builder.now row_vertex rows)
 
-pub text_of-requires : goal.text_of-requires
-text_of-requires c =
+pub label_of-requires : goal.label_of-requires
+label_of-requires c =
     let rows = c.args.rows.now.rows in
     let less : c.loop-v.v < length rows = omega (arith, c.len-v-end.ensures.value) in
     let long = ap length c.row.ensures.value in
@@ -47,10 +47,10 @@ returns-in_err-push_vertex c =
     let row = c.row.result.now in
     let less : c.loop-v.v < length rows = omega (arith, c.len-v-end.ensures.value) in
     let is : row ≡ get_or rows c.loop-v.v row = c.row.ensures.value ∙ get_or_default rows c.loop-v.v [] row less in
-    let named : c.new.result ≡ name_of row = c.new.ensures.value ∙ (c.in_ok-label.ensures.value ∙ (c.deref.ensures.value ∙ c.in_ok-write_name.ensures.ok)) in
+    let named : c.in_ok-label.label ≡ name_of row = c.in_ok-label.ensures.value ∙ (c.deref.ensures.value ∙ c.in_ok-write_name.ensures.ok) in
     let refused : RefusesNames c.loop-v.builder (row_vertex row ∷ []) c.in_err-push_vertex.field-0.0 =
     subst (λ label. RefusesNames c.loop-v.builder (record { label = label; fields = six_zeros } ∷ []) c.in_err-push_vertex.field-0.0) named
-    (push_refused c.loop-v.builder c.new.result six_zeros c.in_err-push_vertex.ensures.err) in
+    (push_refused c.loop-v.builder c.in_ok-label.label six_zeros c.in_err-push_vertex.ensures.err) in
     rw (p.1, p.2) (names_of_refused row less is c.loop-v.invariant refused)
 
 pub loop-v-preserved : goal.loop-v-preserved
@@ -59,10 +59,10 @@ loop-v-preserved c =
     let row = c.row.result.now in
     let less : c.loop-v.v < length rows = omega (arith, c.len-v-end.ensures.value) in
     let is : row ≡ get_or rows c.loop-v.v row = c.row.ensures.value ∙ get_or_default rows c.loop-v.v [] row less in
-    let named : c.new.result ≡ name_of row = c.new.ensures.value ∙ (c.in_ok-label.ensures.value ∙ (c.deref.ensures.value ∙ c.in_ok-write_name.ensures.ok)) in
+    let named : c.in_ok-label.label ≡ name_of row = c.in_ok-label.ensures.value ∙ (c.deref.ensures.value ∙ c.in_ok-write_name.ensures.ok) in
     names_of_some row less is c.loop-v.invariant
     (c.in_ok-push_vertex.ensures.ok
-    ∙ (pushed c.loop-v.builder c.new.result six_zeros
+    ∙ (pushed c.loop-v.builder c.in_ok-label.label six_zeros
     ∙ ap (λ label. with_named c.loop-v.builder (record { label = label; fields = six_zeros } ∷ [])) named))
 
 pub returns : goal.returns

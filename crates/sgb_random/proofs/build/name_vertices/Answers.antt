@@ -1,4 +1,4 @@
-use Rattle.std.proofs.Common.{◌∷◌, [], ap, ◌∙◌, arith}
+use Rattle.std.proofs.Common.{◌∷◌, ◌++◌, [], ap, ◌∙◌, arith}
 use Rattle.std.proofs.lemmas.Result.{err_from_is_err_and}
 use Rattle.sgb_graph.specs.New.{six_zeros}
 use Rattle.sgb_plan.specs.Name.{dotted}
@@ -17,8 +17,8 @@ loop-v-preserved c =
     let builder = c.loop-v.builder in
     names_from_some (omega arith) c.loop-v.invariant
     (c.in_ok-push_vertex.ensures.ok
-    ∙ (pushed builder c.new.result six_zeros
-    ∙ ap (λ label. with_named builder (record { label = label; fields = six_zeros } ∷ [])) (c.new.ensures.value ∙ c.in_ok-label.ensures.value)))
+    ∙ (pushed builder c.in_ok-label.label six_zeros
+    ∙ ap (λ label. with_named builder (record { label = label; fields = six_zeros } ∷ [])) (c.in_ok-label.ensures.value ∙ (c.deref.ensures.value ∙ (c.in_ok-append_dotted.ensures.ok ∙ ap (λ l. l ++ dotted (c.loop-v.v ∷ [])) c.clear.ensures.items)))))
 
 pub returns : goal.returns
 returns c = names_from_end (omega arith) c.loop-v.invariant

@@ -14,5 +14,5 @@ returns c =
     let f2 = c.coordinate_field-3.ensures in
     let fields : List Util = Zero ∷ Zero ∷ Zero ∷ c.coordinate_field.result ∷ c.coordinate_field-2.result ∷ c.coordinate_field-3.result ∷ [] in
     let same : fields ≡ (point_vertex c.args.point.now).fields = cc in
-    names_one c.args.builder.now c.push_vertex.new.self c.args.point.now c.new.result fields c.push_vertex.result
-    (c.new.ensures.value ∙ (c.in_ok-label.ensures.value ∙ (c.deref.ensures.value ∙ written))) same c.push_vertex.ensures.ok c.push_vertex.ensures.err
+    names_one c.args.builder.now c.push_vertex.new.self c.args.point.now c.in_ok-label.label fields c.push_vertex.result
+    (c.in_ok-label.ensures.value ∙ (c.deref.ensures.value ∙ written)) same c.push_vertex.ensures.ok c.push_vertex.ensures.err
