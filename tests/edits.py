@@ -2,12 +2,16 @@
 """Tries the edits of crates/NAME/edits/: each turns what a function does, and the prover has to refuse it there.
 
     edits.py [-v] [NAME | FILE ..]
+    edits.py --as-proved
 
 An edit is written as those in must-fail/ are. Many are tried at a time, at most one for a function: they are laid on one
 copy of the crate, the copy is checked over the work that `rt check` kept, and each edit must be refused at a function
 whose body it edits. Where no refusal names an edit, or the copy cannot be read, the edit is tried again alone; so is
 one that edits no body, which any refusal may meet. The crates themselves must be proved. With names it tries the
 edits of those crates alone, with files those edits, also of must-fail/, and with -v it tells what refused each.
+
+With --as-proved it reads names of crates, one a line, as another run proves them and leaves their libraries, and tries
+the edits of each from then on; those of a crate that was not named in the end fail.
 """
 import importlib.machinery
 import importlib.util
@@ -17,6 +21,7 @@ import shutil
 import subprocess
 import sys
 import tempfile
+import threading
 import time
 from concurrent.futures import ThreadPoolExecutor
 
@@ -225,17 +230,30 @@ class Said:
         return True, '%s, %s' % (path, goal)
 
 
+def kept(crate):
+    """Where the work of the proved crate is kept."""
+    return '%s/out/incremental' % crate.folder
+
+
+def call(words, folder):
+    """Runs a command, and returns its status and what it said."""
+    ran = subprocess.run(words, cwd=folder, stdin=subprocess.DEVNULL, stdout=subprocess.PIPE, stderr=subprocess.STDOUT,
+                         errors='replace')
+    return ran.returncode, ran.stdout
+
+
+def rattle(crate, folder, flags):
+    return call([*GUARD, rtlib.RATTLE, 'check', *crate.words(['--jobs', '1'], keeps=False), *flags], folder)
+
+
 def check(crate, edits):
     """What the check says of the crate with these edits, and those that are not in it."""
     with tempfile.TemporaryDirectory(prefix='sgb-edits-') as room:
         left = lay(crate, edits, room)
         changed = {path for it in edits for path in it.texts}
         # Each check begins with the work of the proved crate, so no edit meets what another one left.
-        shutil.copytree('%s/out/incremental' % crate.folder, '%s/kept' % room)
-        words = [rtlib.RATTLE, 'check', *crate.words(['--jobs', '1'], keeps=False)]
-        ran = subprocess.run([*GUARD, *words, '--incremental', 'kept', '--allow-holes'], cwd=room, errors='replace',
-                             stdin=subprocess.DEVNULL, stdout=subprocess.PIPE, stderr=subprocess.STDOUT)
-        return Said(ran.stdout, changed), left
+        shutil.copytree(kept(crate), '%s/kept' % room)
+        return Said(rattle(crate, room, ['--incremental', 'kept', '--allow-holes'])[1], changed), left
 
 
 def try_alone(edit):
@@ -272,20 +290,46 @@ def try_group(edits):
     return found, checks
 
 
-def prove(crate):
-    """Proves a crate over its kept work, and returns whether it is proved."""
-    ran = subprocess.run(['rt', 'check'], cwd=crate.folder, stdin=subprocess.DEVNULL, stdout=subprocess.PIPE,
-                         stderr=subprocess.STDOUT, errors='replace')
-    is_proved = ran.returncode == 0 and re.search(r'(?m)^logic=proved ', ran.stdout)
+def prove(crate, has_libraries):
+    """Proves a crate over its kept work, with the libraries below it if they are not there, and returns whether it is proved."""
+    if has_libraries:
+        status, said = rattle(crate, crate.folder, ['--incremental', kept(crate)])
+    else:
+        status, said = call(['rt', 'check'], crate.folder)
+    is_proved = status == 0 and re.search(r'(?m)^logic=proved ', said)
     if not is_proved:
-        print('\n'.join(re.findall(r'(?m)^.*(?:\berror(?:\[|:)|: not proved|: no proof|: could not tell).*$', ran.stdout)[:6]))
+        print('\n'.join(re.findall(r'(?m)^.*(?:\berror(?:\[|:)|: not proved|: no proof|: could not tell).*$', said)[:6]))
     return bool(is_proved)
 
 
+class Named:
+    """Names that come on a file, one a line."""
+
+    def __init__(self, file):
+        self.names, self.has_ended, self.more = set(), False, threading.Condition()
+        threading.Thread(target=self.read, args=[file], daemon=True).start()
+
+    def read(self, file):
+        for line in file:
+            with self.more:
+                self.names.add(line.strip())
+                self.more.notify_all()
+        with self.more:
+            self.has_ended = True
+            self.more.notify_all()
+
+    def await_name(self, name):
+        """Whether the name comes."""
+        with self.more:
+            self.more.wait_for(lambda: self.has_ended or name in self.names)
+            return name in self.names
+
+
 def workers():
-    """How many checks run side by side, RT_JOBS where it is set: one processor of many is left to the proofs."""
-    jobs, most = os.environ.get('RT_JOBS', ''), rt.processors()
-    return int(jobs) if jobs.isdigit() and int(jobs) else max(1, min(most if most < 3 else most - 1, rt.free() // MEMORY))
+    """How many checks run side by side, RT_JOBS where it is set: one a processor, in half of the memory, since the gate
+    proves all crates beside them."""
+    jobs = os.environ.get('RT_JOBS', '')
+    return int(jobs) if jobs.isdigit() and int(jobs) else max(1, min(rt.processors(), rt.free() // 2 // MEMORY))
 
 
 def timed(call, *given):
@@ -294,56 +338,75 @@ def timed(call, *given):
 
 
 class Tally:
-    def __init__(self, tells_all):
-        self.tells_all, self.passed, self.failed = tells_all, 0, 0
+    """How many edits were refused as they must be, told a line a crate."""
+
+    def __init__(self, tells_all, pool, proved):
+        self.tells_all, self.pool, self.proved = tells_all, pool, proved
+        self.passed, self.failed, self.telling, self.proving = 0, 0, threading.Lock(), threading.Lock()
 
     def tell(self, well, label, why):
-        self.passed, self.failed = self.passed + well, self.failed + (not well)
-        if self.tells_all or not well:
-            print('%s: %s%s' % (label, 'refused, as it must be: ' if well else '', why), flush=True)
+        with self.telling:
+            self.passed, self.failed = self.passed + well, self.failed + (not well)
+            if self.tells_all or not well:
+                print('%s: %s%s' % (label, 'refused, as it must be: ' if well else '', why), flush=True)
 
-    def try_all(self, pool, crates, files):
-        """Proves the crates, lowest first, and tries the edits of each; one line a crate."""
-        running = []
+    def prove(self, crate):
+        """Proves a crate, as soon as another run has, or else alone; returns whether it is proved, and the seconds it took."""
+        if not self.proved:
+            with self.proving:
+                return timed(prove, crate, False)
+        if self.proved.await_name(crate.name):
+            return self.pool.submit(timed, prove, crate, True).result()
+        return False, 0
+
+    def try_crate(self, crate, files):
+        """Proves a crate and tries its edits."""
+        edits, unread = edits_of(crate, files)
+        for it in unread:
+            self.tell(False, it, 'no edit: those are named FUNCTION-what_is_wrong.edit')
+        for it in [it for it in edits if it.why]:
+            self.tell(False, it.label, it.why)
+        good = [it for it in edits if not it.why]
+        is_proved, took = self.prove(crate) if good else (True, 0)
+        if not is_proved:
+            self.tell(False, crate.name, 'the crate is not proved, so none of its %d edits was tried' % len(good))
+            return
+        tried = [self.pool.submit(timed, try_group, it) for it in groups_of(good)]
+        checks, spent, refused = 0, 0, 0
+        for (found, more), time_taken in [it.result() for it in tried]:
+            checks, spent = checks + more, spent + time_taken
+            for edit, (well, why) in sorted(found.items(), key=lambda it: it[0].label):
+                self.tell(well, edit.label, why)
+                refused += well
+        if edits or unread:
+            with self.telling:
+                print('%s: %d of %d edits refused, %d checks of %.0f s in all, after %.0f s for its proof'
+                      % (crate.name, refused, len(edits) + len(unread), checks, spent, took), flush=True)
+
+    def try_all(self, crates, files):
+        """Tries the edits of the crates, lowest first, or as they are proved."""
+        started = []
         for crate in crates:
-            edits, unread = edits_of(crate, [it for it in files if it.startswith(crate.folder + '/')])
-            for it in unread:
-                self.tell(False, it, 'no edit: those are named FUNCTION-what_is_wrong.edit')
-            for it in [it for it in edits if it.why]:
-                self.tell(False, it.label, it.why)
-            good, is_proved, took = [it for it in edits if not it.why], True, 0
-            if good:
-                is_proved, took = timed(prove, crate)
-            if not is_proved:
-                self.tell(False, crate.name, 'the crate is not proved, so none of its %d edits was tried' % len(good))
-                continue
-            if edits or unread:
-                # The edits of a crate are tried while the next one is proved.
-                tried = [pool.submit(timed, try_group, it) for it in groups_of(good)]
-                running.append((crate, len(edits) + len(unread), took, tried))
-        for crate, count, took, tried in running:
-            checks, spent, before = 0, 0, self.passed
-            for (found, more), seconds in [it.result() for it in tried]:
-                checks, spent = checks + more, spent + seconds
-                for edit, (well, why) in sorted(found.items(), key=lambda it: it[0].label):
-                    self.tell(well, edit.label, why)
-            print('%s: %d of %d edits refused, %d checks of %.0f s in all, after %.0f s for its proof'
-                  % (crate.name, self.passed - before, count, checks, spent, took), flush=True)
+            given = [it for it in files if it.startswith(crate.folder + '/')]
+            started.append(threading.Thread(target=self.try_crate, args=[crate, given]))
+            started[-1].start()
+        for it in started:
+            it.join()
 
 
 def main():
-    words = [it for it in sys.argv[1:] if it != '-v']
+    words = [it for it in sys.argv[1:] if it not in ('-v', '--as-proved')]
     files = [os.path.abspath(it) for it in words if it.endswith('.edit')]
     names = [it for it in words if not it.endswith('.edit')]
     global GUARD
     GUARD = rtlib.guarded()
     crates = sorted(rtlib.crates_below(os.getcwd()), key=lambda it: len(it.below()))
-    tally = Tally('-v' in sys.argv)
-    for it in sorted({*names} - {it.name for it in crates}):
-        tally.tell(False, it, 'no crate has this name')
-    wanted = [it for it in crates if not words or it.name in names or any(file.startswith(it.folder + '/') for file in files)]
     with ThreadPoolExecutor(workers()) as pool:
-        tally.try_all(pool, wanted, files)
+        tally = Tally('-v' in sys.argv, pool, Named(sys.stdin) if '--as-proved' in sys.argv else None)
+        for it in sorted({*names} - {it.name for it in crates}):
+            tally.tell(False, it, 'no crate has this name')
+        tally.try_all([it for it in crates if not words or it.name in names
+                       or any(file.startswith(it.folder + '/') for file in files)], files)
     print('edits: %d passed, %d failed' % (tally.passed, tally.failed))
     return 1 if tally.failed else 0
 

@@ -11,6 +11,7 @@ import resource
 import shutil
 import subprocess
 import sys
+import tempfile
 import threading
 import time
 from concurrent.futures import FIRST_COMPLETED, ThreadPoolExecutor, wait
@@ -19,6 +20,8 @@ from edits import rt, rtlib
 
 PROGRAM = 'bin/sgb'
 REFUSING, FAILING = 'tests/out/refuse_growth.so', 'tests/out/fail_io.so'
+# What stands before a command that takes only the processors that others leave.
+GENTLY = ['nice', '-n', '10']
 # How many lines of a part, and of those that explain a failure, are printed.
 SHOWN = 30
 
@@ -32,9 +35,8 @@ def clock(seconds):
     return '%d:%02d' % (seconds // 60, seconds % 60)
 
 
-def processor_time():
-    """The seconds of processor that the ended commands took, and all that they started."""
-    used = resource.getrusage(resource.RUSAGE_CHILDREN)
+def seconds(used):
+    """The seconds of processor that are told of the commands that ended, and of all that they started."""
     return used.ru_utime + used.ru_stime
 
 
@@ -48,10 +50,11 @@ class Log:
         self.start, self.writing = time.time(), threading.Lock()
         print('what the prover says goes to %s' % self.path, flush=True)
 
-    def call(self, words, folder='.', tell=None):
-        """Runs a command and returns its status and its lines; `tell` gets each line as it comes."""
+    def call(self, words, folder='.', tell=None, given=subprocess.DEVNULL):
+        """Runs a command on what is given, and returns its status, its lines and its seconds of processor; `tell` gets
+        each line as it comes."""
         lines = []
-        with subprocess.Popen(words, cwd=folder, stdin=subprocess.DEVNULL, stdout=subprocess.PIPE,
+        with subprocess.Popen(words, cwd=folder, stdin=given, stdout=subprocess.PIPE,
                               stderr=subprocess.STDOUT, encoding='utf-8', errors='replace') as ran:
             for line in ran.stdout:
                 lines.append(line.rstrip('\n'))
@@ -60,7 +63,9 @@ class Log:
                     self.file.flush()
                 if tell:
                     tell(lines[-1])
-        return ran.returncode, lines
+            _, status, used = os.wait4(ran.pid, 0)
+            ran.returncode = os.waitstatus_to_exitcode(status)
+        return ran.returncode, lines, seconds(used)
 
     def explain(self, lines):
         """Prints the lines that tell what failed."""
@@ -87,7 +92,7 @@ def prove_crate(log, crate):
         print('%-12s was proved before' % crate.name, flush=True)
         return True
     words = ['rt', 'lib'] if crate.makes_rlib() else ['rt', 'run', '--', '--version']
-    status, lines = log.call(words, crate.folder)
+    status, lines, _ = log.call(words, crate.folder)
     counts = re.findall(r'(?m)^logic=proved .*functions=(\d+)', '\n'.join(lines))
     is_proved = status == 0 and (bool(counts) or not crate.makes_rlib())
     what = '%s functions proved' % counts[-1] if counts else 'was proved before' if is_proved else 'NOT PROVED'
@@ -158,7 +163,7 @@ def quick():
             continue
         for what, words in steps:
             start = time.time()
-            status, lines = log.call(words, crate.folder)
+            status, lines, _ = log.call(words, crate.folder)
             print('%-12s %s: %s, %d s' % (crate.name, what, 'well' if status == 0 else 'FAILED', time.time() - start), flush=True)
             if status:
                 failed.append(crate.name)
@@ -173,39 +178,66 @@ class Gate:
     """The parts of the merge gate, and what came of them."""
 
     def __init__(self):
-        self.log, self.passed, self.failed = Log('test'), 0, 0
+        self.log, self.passed, self.failed, self.telling = Log('test'), 0, 0, threading.Lock()
 
     def tell(self, line):
+        """Prints what `rt ci` says of its way, and hands the crates that it proved on to those who try their edits."""
         if PROGRESS.match(line):
             self.say(line[len('rt: '):])
+        proved = re.match(r'rt: (\w+) proved$', line)
+        if proved:
+            library = 'crates/%s/out/rlib' % proved[1]
+            if os.path.isdir(library):
+                shutil.copytree(library, '%s/%s' % (self.copy, library))
+            self.names.write(proved[1] + '\n')
 
     def say(self, line):
-        print('%6s  %s' % (clock(time.time() - self.log.start), line[:160]), flush=True)
+        with self.telling:
+            print('%6s  %s' % (clock(time.time() - self.log.start), line[:160]), flush=True)
 
-    def part(self, name, words, tell=None):
+    def part(self, name, words, tell=None, folder='.', given=subprocess.DEVNULL):
         """Runs a part, whose last line counts what passed and failed. Its first lines are printed, or those that `tell` picks."""
-        start, used, told = time.time(), processor_time(), []
+        start, told = time.time(), []
 
         def say(line):
             told.append(line)
             if len(told) <= SHOWN and not counted([line]):
                 self.say(line)
 
-        status, lines = self.log.call(words, tell=tell or say)
+        status, lines, used = self.log.call(words, folder, tell or say, given)
         passed, failed = counted(lines) or (0, 1)
         failed += status != 0 and failed == 0
-        self.passed, self.failed = self.passed + passed, self.failed + failed
+        with self.telling:
+            self.passed, self.failed = self.passed + passed, self.failed + failed
         if tell and failed:
             self.log.explain(lines)
         elif len(told) > SHOWN:
             self.say('.. more in %s' % self.log.path)
-        self.say('%s: %d passed, %d failed, in %s, %s of processor' % (name, passed, failed, clock(time.time() - start),
-                                                                      clock(processor_time() - used)))
+        self.say('%s: %d passed, %d failed, in %s, %s of processor' % (name, passed, failed, clock(time.time() - start), clock(used)))
 
     def run(self):
+        """Runs all parts. The edits are tried beside the others, in a copy, by the processors that the others leave."""
+        with tempfile.TemporaryDirectory(prefix='sgb-beside-') as room, ThreadPoolExecutor(1) as pool:
+            self.copy = '%s/repository' % room
+            shutil.copytree('.', self.copy, symlinks=True, ignore=shutil.ignore_patterns('.git', 'out', 'bin'))
+            proved, told = os.pipe()
+            with os.fdopen(told, 'w', buffering=1) as self.names:
+                beside = pool.submit(self.try_edits, proved)
+                self.part('rt ci', ['rt', 'ci'], self.tell)
+            self.run_program()
+            beside.result()
+        used, start = seconds(resource.getrusage(resource.RUSAGE_CHILDREN)), self.log.start
+        print('%.1f minutes of processor time, %.1f minutes by the clock' % (used / 60, (time.time() - start) / 60))
+        print('%d passed, %d failed' % (self.passed, self.failed))
+        return 1 if self.failed else 0
+
+    def try_edits(self, proved):
+        self.part('the tests of tests/edits.py', [*GENTLY, sys.executable, 'tests/test_edits.py'], folder=self.copy)
+        self.part('edits', [*GENTLY, sys.executable, 'tests/edits.py', '--as-proved'], folder=self.copy, given=proved)
+
+    def run_program(self):
         program = next(it for it in crates() if it.is_program)
         made = '%s/out/%s' % (program.folder, program.name)
-        self.part('rt ci', ['rt', 'ci'], self.tell)
         # rt ci sets aside all that was in out/, so what lies there is what LLVM made of the crate that it proved.
         is_new = os.path.isfile(made) and os.path.getmtime(made) >= self.log.start
         if is_new:
@@ -215,12 +247,6 @@ class Gate:
             self.say('no proved program, so none of its examples and tests is run')
         for name, words in self.parts_of_program() if is_new else []:
             self.part(name, words)
-        self.part('the tests of tests/edits.py', [sys.executable, 'tests/test_edits.py'])
-        self.part('edits', [sys.executable, 'tests/edits.py'])
-        used, start = processor_time(), self.log.start
-        print('%.1f minutes of processor time, %.1f minutes by the clock' % (used / 60, (time.time() - start) / 60))
-        print('%d passed, %d failed' % (self.passed, self.failed))
-        return 1 if self.failed else 0
 
     def parts_of_program(self):
         self.log.call(['make', REFUSING, FAILING])

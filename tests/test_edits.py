@@ -3,7 +3,7 @@
 
     test_edits.py
 
-It runs edits.py twice, which has to say the same both times.
+It runs edits.py twice, which has to say the same both times, and once more on crates that another run is said to have proved.
 """
 import os
 import re
@@ -113,27 +113,26 @@ def make(room):
     write(room + '/crates/tiny/edits/notes.txt', 'This is no edit.\n')
 
 
-def run(room):
-    """What a run prints, without its times, and whether it passed."""
-    ran = subprocess.run([sys.executable, EDITS, '-v'], cwd=room, stdin=subprocess.DEVNULL, stdout=subprocess.PIPE,
-                         stderr=subprocess.STDOUT, errors='replace')
-    return re.sub(r'\d+ s\b', '_ s', ran.stdout), ran.returncode == 0
+def run(room, *flags):
+    """The lines of a run, without its times, and whether it passed. The crate `tiny` is named to it as one that is proved."""
+    ran = subprocess.run([sys.executable, EDITS, '-v', *flags], cwd=room, input='tiny\n', stdout=subprocess.PIPE,
+                         stderr=subprocess.STDOUT, errors='replace', encoding='utf-8')
+    return re.sub(r'\d+ s\b', '_ s', ran.stdout).splitlines(), ran.returncode == 0
 
 
 def main():
     with tempfile.TemporaryDirectory(prefix='sgb-test-edits-') as room:
         make(room)
-        (first, is_well), (second, _) = run(room), run(room)
+        (first, is_well), (second, _), (third, _) = run(room), run(room), run(room, '--as-proved')
     wanted = TOLD + ['crates/%s/edits/%s.edit: %s' % (crate, name, told) for crate, name, _, _, told in EDITS_TRIED if told]
-    lines = first.splitlines()
-    found = [any(line.startswith(it) for line in lines) for it in wanted] + [not is_well, first == second]
-    for it, is_there in zip(wanted + ['a status of failure', 'the second run as the first'], found):
-        if not is_there:
-            print('test_edits: not told: %s' % it)
-    if not all(found):
-        print(first)
-    print('test_edits: %d passed, %d failed' % (sum(found), len(found) - sum(found)))
-    return 0 if all(found) else 1
+    lacking = [(it, lines) for lines in (first, third) for it in wanted if not any(line.startswith(it) for line in lines)]
+    lacking += [('a status of failure', first)] * is_well
+    # (the lines of one crate may come before those of another)
+    lacking += [('the second run as the first', second)] * (sorted(first) != sorted(second))
+    for it, lines in lacking:
+        print('test_edits: not told: %s' % it, *lines, sep='\n')
+    print('test_edits: %d passed, %d failed' % (2 * len(wanted) + 2 - len(lacking), len(lacking)))
+    return 1 if lacking else 0
 
 
 if __name__ == '__main__':
