@@ -27,6 +27,8 @@ from concurrent.futures import ThreadPoolExecutor
 
 # What one check takes, at most.
 MEMORY = 3_000_000_000
+# One check is started at a time.
+STARTING = threading.Lock()
 
 NAME = re.compile(r'\w+-[\w-]+\.edit')
 FUNCTION = re.compile(r'( *)(?:pub(?:\([^)]*\))? )?(?:\w+ )*fn (\w+)')
@@ -242,7 +244,16 @@ def call(words, folder):
     return ran.returncode, ran.stdout
 
 
+def await_memory():
+    """Waits until twice the memory of a check is free, since the gate proves all crates beside these checks; ten minutes at most."""
+    with STARTING:
+        end = time.time() + 600
+        while rt.free() < 2 * MEMORY and time.time() < end:
+            time.sleep(1)
+
+
 def rattle(crate, folder, flags):
+    await_memory()
     return call([*GUARD, rtlib.RATTLE, 'check', *crate.words(['--jobs', '1'], keeps=False), *flags], folder)
 
 
@@ -326,10 +337,9 @@ class Named:
 
 
 def workers():
-    """How many checks run side by side, RT_JOBS where it is set: one a processor, in half of the memory, since the gate
-    proves all crates beside them."""
+    """How many checks run side by side: RT_JOBS where it is set, else one a processor."""
     jobs = os.environ.get('RT_JOBS', '')
-    return int(jobs) if jobs.isdigit() and int(jobs) else max(1, min(rt.processors(), rt.free() // 2 // MEMORY))
+    return int(jobs) if jobs.isdigit() and int(jobs) else rt.processors()
 
 
 def timed(call, *given):
