@@ -10,18 +10,20 @@ use Rattle.sgb_graph.specs.declared.parts.VertexPart.{VertexPart}
 use Rattle.sgb_graph.specs.declared.parts.Parts.{Parts}
 use Rattle.sgb_graph.specs.declared.refusal.Refusal.{Refusal}
 use Rattle.sgb_graph.specs.declared.refusal.Refusal.TheVariants.{NoRoom, TooLarge, BadOperand}
-use Rattle.sgb_graph.specs.Graph.{GraphOf, VertexOf, ArcOf, IsGraph, IsArc, IsValue, n_of, made_of, vertex_at, no_vertex, arcs_of, arc_at, has_arc}
+use Rattle.sgb_graph.specs.Graph.{GraphOf, VertexOf, ArcOf, IsGraph, IsArc, IsTip, IsValue, n_of, made_of, vertex_at, no_vertex, arcs_of, arc_at, has_arc}
 use Rattle.sgb_graph.specs.Edit.{stored, can_name, arc_or, no_arc, refusal_of_new, refusal_unless, refusal_of_id}
 use Rattle.sgb_graph.specs.New.{new_graph, blank_vertex}
 use Rattle.sgb_graph.specs.Private.Holes.{with_hole, blank_graph}
 use Rattle.sgb_graph.specs.Parts.{vertex_part, arc_part, IsVertexOf, IsArcOf, Builds}
-use Rattle.sgb_graph.specs.Private.Lay.{IsLaid, Lays, Laying, RefusesToLay}
-use Rattle.sgb_graph.specs.Private.Fill.{SameNames, can_name_each, can_name_at, can_name_vertices, can_name_arcs, can_name_all, filled_vertex, filled_entry, FillsVertices, FillsArcs}
+use Rattle.sgb_graph.specs.Private.Lay.{links_of, Lays, Laying, RefusesToLay}
+use Rattle.sgb_graph.specs.Private.Fill.{SameNames, can_name_each, can_name_part, can_name_at, can_name_vertices, can_name_arcs, can_name_all, filled_vertex, filled_entry, FillsVertices, FillsArcs}
 use Rattle.std.proofs.lemmas.List.{same_lists, get_or_default}
 use Rattle.sgb_graph.proofs.Graphs.{made_of_live, same_graph, same_vertex}
 use Rattle.sgb_graph.proofs.TakeOut.{some_entry}
-use Rattle.sgb_graph.proofs.Chaining.{lays_same, lists_same}
-use Rattle.sgb_graph.proofs.Filling.{each-same}
+use Rattle.sgb_graph.proofs.Chaining.{links_count, over_links, over_parts, lays_same, lists_same}
+use Rattle.sgb_graph.proofs.Filling.{each-same, part-same}
+use Rattle.sgb_graph.proofs.Aiming.{leads_so}
+use Rattle.sgb_graph.specs.Private.Aim.{can_lead}
 
 -- blank graphs
 pub blank_begins : (n : ℕ) → new_graph n ≡ blank_graph n 0
@@ -48,40 +50,23 @@ blank_arcs n m w =
       | inr high ↦ ap (λ (x : VertexOf). x.arcs) (get_or_past (replicate n blank_vertex) w no_vertex (omega (arith, length-replicate n blank_vertex)))
     ]
 
-none_there : (m k : ℕ) → get_or {A = Option ArcOf} (replicate m None) k None ≡ None
-none_there m k =
-    elim (cases_lt k m) [
-      | inl low ↦ get_or-replicate m k None None low
-      | inr high ↦ get_or_past (replicate m None) k None (omega (arith, length-replicate {A = Option ArcOf} m None))
-    ]
-
-blank_entries : (n m k : ℕ) → arc_at (blank_graph n m) k ≡ None
-unfolding blank_graph
-blank_entries n m k = none_there m k
-
-pub blank_lays : (vs : List VertexPart) (rs : List ArcPart) (g : GraphOf) (n m : ℕ) → g ≡ blank_graph n m → n ≡ length vs → m ≡ length rs → IsGraph g → Laying vs rs 0 g
+pub blank_lays : (vs : List VertexPart) (rs : List ArcPart) (g : GraphOf) (n m : ℕ) → g ≡ blank_graph n m → n ≡ length vs → m ≡ length rs → IsGraph g → Laying vs (links_of rs) 0 g
 blank_lays vs rs g n m is ns ms sound =
     record {
       n = ap n_of is ∙ (blank_n n m ∙ ns);
-      made = ap made_of is ∙ (blank_made n m ∙ ms);
+      made = ap made_of is ∙ (blank_made n m ∙ (ms ∙ sym (links_count rs)));
       lists = λ w low. absurd (omega arith);
       empty = λ w _. ap (λ h. arcs_of h w) is ∙ blank_arcs n m w;
-      arcs = λ k. subst (λ o. IfSome o (IsLaid (arc_part rs k))) (sym (ap (λ h. arc_at h k) is ∙ blank_entries n m k)) tt;
       graph = sound;
     }
 
 -- a graph of the parts lays their chains
-laid_of : (part : ArcPart) (o : Option ArcOf) → IfSome o (IsArcOf part) → IfSome o (IsLaid part)
-laid_of part None x = tt
-laid_of part (Some e) x = record { tip = x.tip; len = x.len }
-
-pub lays_of : (p : Parts) (h : GraphOf) → Builds p h → Lays p.vertices p.arcs h
+pub lays_of : (p : Parts) (h : GraphOf) → Builds p h → Lays p.vertices (links_of p.arcs) h
 lays_of p h b =
     record {
       n = b.n;
-      made = b.made;
-      lists = λ w low. (b.vertices w low).arcs;
-      arcs = λ k. laid_of (arc_part p.arcs k) (arc_at h k) (b.arcs k);
+      made = b.made ∙ sym (links_count p.arcs);
+      lists = λ w low. over_links p.arcs (vertex_part p.vertices w).first (arcs_of h w) (b.vertices w low).arcs;
       graph = b.graph;
     }
 
@@ -119,14 +104,17 @@ record_named p g h k same b =
           let entry : arc_at h k ≡ Some e = some_entry (arc_at h k) alive in
           let part : IsArcOf (arc_part p.arcs k) e = subst (λ o. IfSome o (IsArcOf (arc_part p.arcs k))) entry (b.arcs k) in
           let arc : IsArc (n_of h) h.entries e = subst (λ o. IfSome o (IsArc (n_of h) h.entries)) entry (b.graph.arcs k None (made_of_live h k alive)) in
-          ap (λ x. cond x (can_name_each g (arc_part p.arcs k).fields) true) live
-          ∙ each_there g h (arc_part p.arcs k).fields e.fields same part.fields arc.values
-      | inr hole ↦ ap (λ x. cond x (can_name_each g (arc_part p.arcs k).fields) true) hole
+          let tip : can_lead (n_of g) (arc_part p.arcs k).tip ≡ true =
+          leads_so (n_of g) (arc_part p.arcs k).tip (subst (λ n. IsTip n (arc_part p.arcs k).tip) same.n (subst (IsTip (n_of h)) part.tip arc.tip)) in
+          ap (λ x. cond x (can_name_part g (arc_part p.arcs k)) true) live
+          ∙ and_from (can_lead (n_of g) (arc_part p.arcs k).tip) (can_name_each g (arc_part p.arcs k).fields) tip
+          (each_there g h (arc_part p.arcs k).fields e.fields same part.fields arc.values)
+      | inr hole ↦ ap (λ x. cond x (can_name_part g (arc_part p.arcs k)) true) hole
     ]
 
-pub all_named : (p : Parts) (g h : GraphOf) → Lays p.vertices p.arcs g → Builds p h → can_name_all g p.fields p.vertices p.arcs ≡ true
+pub all_named : (p : Parts) (g h : GraphOf) → Lays p.vertices (links_of p.arcs) g → Builds p h → can_name_all g p.fields p.vertices p.arcs ≡ true
 all_named p g h x b =
-    let same : SameNames g h = lays_same p.vertices p.arcs g h x (lays_of p h b) in
+    let same : SameNames g h = lays_same p.vertices (links_of p.arcs) g h x (lays_of p h b) in
     let own : can_name_each g p.fields ≡ true = each_there g h p.fields h.fields same b.fields b.graph.values in
     let vertices : can_name_vertices g p.vertices ≡ true =
     all_parts g p.vertices
@@ -138,14 +126,14 @@ all_named p g h x b =
     ∙ (ap (λ a. true && a && can_name_arcs g p.arcs) vertices ∙ ap (λ a. true && true && a) arcs)
 
 -- what the steps leave is the graph of the parts
-part_filled : (part : ArcPart) (o : Option ArcOf) → IfSome o (IsLaid part) → IfSome (filled_entry part.fields o) (IsArcOf part)
-part_filled part None x = tt
-part_filled part (Some e) x = record { tip = x.tip; len = x.len; fields = refl }
+part_filled : (part : ArcPart) (o : Option ArcOf) → IfSome (filled_entry part o) (IsArcOf part)
+part_filled part None = tt
+part_filled part (Some e) = record { tip = refl; len = refl; fields = refl }
 
 abbrev whole : Parts → GraphOf → GraphOf
 whole p g = record g { id = p.id; types = p.types; fields = map stored p.fields }
 
-pub builds : (p : Parts) (g1 g2 g3 g4 g5 g6 : GraphOf) → Lays p.vertices p.arcs g1 → FillsVertices p.vertices g1 g2 → FillsArcs p.arcs g2 g3
+pub builds : (p : Parts) (g1 g2 g3 g4 g5 g6 : GraphOf) → Lays p.vertices (links_of p.arcs) g1 → FillsVertices p.vertices g1 g2 → FillsArcs p.arcs g2 g3
     → g4 ≡ record g3 { fields = map stored p.fields } → g5 ≡ record g4 { types = p.types } → g6 ≡ record g5 { id = p.id } → IsGraph g6 → Builds p g6
 builds p g1 g2 g3 g4 g5 g6 x y z e4 e5 e6 sound =
     let vs = p.vertices in
@@ -162,11 +150,11 @@ builds p g1 g2 g3 g4 g5 g6 x y z e4 e5 e6 sound =
       vertices = λ v low.
           let there : v < n_of g1 = omega (arith, n) in
           let at : vertex_at (whole p g3) v ≡ filled_vertex (vertex_part vs v) (vertex_at g1 v) = ap (λ ws. get_or ws v no_vertex) z.vertices ∙ y.vertices v there in
-          subst (IsVertexOf rs (vertex_part vs v)) (sym at) (record { label = refl; fields = refl; arcs = x.lists v there });
-      made = z.made ∙ (ap length y.entries ∙ x.made);
+          subst (IsVertexOf rs (vertex_part vs v)) (sym at) (record { label = refl; fields = refl; arcs = over_parts rs (vertex_part vs v).first (arcs_of g1 v) (x.lists v there) });
+      made = z.made ∙ (ap length y.entries ∙ (x.made ∙ links_count rs));
       arcs = λ k.
-          let at : arc_at g3 k ≡ filled_entry (arc_part rs k).fields (arc_at g1 k) = z.entries k ∙ ap (λ es. filled_entry (arc_part rs k).fields (get_or es k None)) y.entries in
-          subst (λ o. IfSome o (IsArcOf (arc_part rs k))) (sym at) (part_filled (arc_part rs k) (arc_at g1 k) (x.arcs k));
+          let at : arc_at g3 k ≡ filled_entry (arc_part rs k) (arc_at g1 k) = z.entries k ∙ ap (λ es. filled_entry (arc_part rs k) (get_or es k None)) y.entries in
+          subst (λ o. IfSome o (IsArcOf (arc_part rs k))) (sym at) (part_filled (arc_part rs k) (arc_at g1 k));
       graph = subst IsGraph all sound;
     })
 
@@ -183,7 +171,7 @@ too_many p n m e ns ms (inr bad) =
       ],
     )
 
-pub not_laid : (p : Parts) (e : Refusal) → RefusesToLay p.vertices p.arcs e → (e ≡ NoRoom) ⊎ ((e ≡ BadOperand) × ((g : GraphOf) → Builds p g → ⊥))
+pub not_laid : (p : Parts) (e : Refusal) → RefusesToLay p.vertices (links_of p.arcs) e → (e ≡ NoRoom) ⊎ ((e ≡ BadOperand) × ((g : GraphOf) → Builds p g → ⊥))
 not_laid p e (inl room) = inl room
 not_laid p e (inr bad) = inr (bad.0, λ g b. bad.1 g (lays_of p g b))
 
@@ -202,15 +190,15 @@ new_refused n e few (inr refused) =
     absurd (let none = sym (ap (λ b. refusal_unless b TooLarge None) (le-leb n 65535 few)) ∙ refused in cc)
 
 -- the same parts under other names
-pub lays_moved : (vs ws : List VertexPart) (rs ts : List ArcPart) (g : GraphOf) → vs ≡ ws → rs ≡ ts → Lays vs rs g → Lays ws ts g
-lays_moved vs ws rs ts g vertices arcs x = subst (λ l. Lays ws l g) arcs (subst (λ l. Lays l rs g) vertices x)
+pub lays_moved : (vs ws : List VertexPart) (rs ts : List ArcPart) (g : GraphOf) → vs ≡ ws → rs ≡ ts → Lays vs (links_of rs) g → Lays ws (links_of ts) g
+lays_moved vs ws rs ts g vertices arcs x = subst (λ l. Lays ws (links_of l) g) arcs (subst (λ l. Lays l (links_of rs) g) vertices x)
 
 named_moved : (g : GraphOf) (us : List Util) (vs ws : List VertexPart) (rs ts : List ArcPart) (r b : Bool) → vs ≡ ws → rs ≡ ts → r ≡ can_name_all g us vs rs → r ≡ b → can_name_all g us ws ts ≡ b
 named_moved g us vs ws rs ts r b vertices arcs is now =
     ap (λ l. can_name_all g us l ts) (sym vertices) ∙ (ap (can_name_all g us vs) (sym arcs) ∙ (sym is ∙ now))
 
 -- a value that names nothing there is in no graph of the parts
-pub unnamed_refused : (p : Parts) (g : GraphOf) (vs : List VertexPart) (rs : List ArcPart) (r : Bool) → Lays p.vertices p.arcs g → vs ≡ p.vertices → rs ≡ p.arcs → r ≡ can_name_all g p.fields vs rs → r ≡ false
+pub unnamed_refused : (p : Parts) (g : GraphOf) (vs : List VertexPart) (rs : List ArcPart) (r : Bool) → Lays p.vertices (links_of p.arcs) g → vs ≡ p.vertices → rs ≡ p.arcs → r ≡ can_name_all g p.fields vs rs → r ≡ false
     → (h : GraphOf) → Builds p h → ⊥
 unnamed_refused p g vs rs r x vertices arcs is bad h b =
     let no' = named_moved g p.fields vs p.vertices rs p.arcs r false vertices arcs is bad in
@@ -239,19 +227,19 @@ list_all-same p q (k ∷ ks) same = ap (λ b. b && list_all p ks) (same k) ∙ a
 pub arcs-same : (g h : GraphOf) (rs : List ArcPart) → SameNames g h → can_name_arcs h rs ≡ can_name_arcs g rs
 arcs-same g h rs same =
     list_all-same (can_name_at h rs) (can_name_at g rs) (range_with_len 0 (length rs))
-    (λ k. ap (λ b. cond b (can_name_each h (arc_part rs k).fields) true) (same.live k)
-    ∙ ap (λ b. cond (has_arc g k) b true) (each-same g h (arc_part rs k).fields same))
+    (λ k. ap (λ b. cond b (can_name_part h (arc_part rs k)) true) (same.live k)
+    ∙ ap (λ b. cond (has_arc g k) b true) (part-same g h (arc_part rs k) same))
 
 pub filled_names : (vs : List VertexPart) (g h : GraphOf) → FillsVertices vs g h → SameNames g h
 filled_names vs g h x = record { n = x.n; live = λ k. ap (λ es. is_some (get_or es k None)) x.entries }
 
-filled_lives : (us : List Util) (o : Option ArcOf) → is_some (filled_entry us o) ≡ is_some o
-filled_lives us None = refl
-filled_lives us (Some e) = refl
+filled_lives : (part : ArcPart) (o : Option ArcOf) → is_some (filled_entry part o) ≡ is_some o
+filled_lives part None = refl
+filled_lives part (Some e) = refl
 
 pub arcs_filled_names : (rs : List ArcPart) (g h : GraphOf) → FillsArcs rs g h → SameNames g h
 arcs_filled_names rs g h x =
-    record { n = ap length x.vertices; live = λ k. ap is_some (x.entries k) ∙ filled_lives (arc_part rs k).fields (arc_at g k) }
+    record { n = ap length x.vertices; live = λ k. ap is_some (x.entries k) ∙ filled_lives (arc_part rs k) (arc_at g k) }
 
 -- the parts have one graph
 same_arc : (part : ArcPart) (o q : Option ArcOf) → is_some o ≡ is_some q → IfSome o (IsArcOf part) → IfSome q (IsArcOf part) → o ≡ q
@@ -267,7 +255,7 @@ pub builds_one : (p : Parts) (g h : GraphOf) → Builds p g → Builds p h → g
 builds_one p g h b c =
     let x = lays_of p g b in
     let y = lays_of p h c in
-    let same = lays_same p.vertices p.arcs g h x y in
+    let same = lays_same p.vertices (links_of p.arcs) g h x y in
     same_graph g h (b.id ∙ sym c.id) (b.types ∙ sym c.types) (b.fields ∙ sym c.fields)
     (same_lists g.vertices h.vertices (b.n ∙ sym c.n)
     (λ v d low.
@@ -275,7 +263,7 @@ builds_one p g h b c =
     let k = b.vertices v low in
     let l = c.vertices v there in
     get_or_default g.vertices v d no_vertex low
-    ∙ (same_vertex (vertex_at g v) (vertex_at h v) (k.label ∙ sym l.label) (k.fields ∙ sym l.fields) (lists_same p.vertices p.arcs g h v x y low)
+    ∙ (same_vertex (vertex_at g v) (vertex_at h v) (k.label ∙ sym l.label) (k.fields ∙ sym l.fields) (lists_same p.vertices (links_of p.arcs) g h v x y low)
     ∙ get_or_default h.vertices v no_vertex d there)))
     (same_lists g.entries h.entries (b.made ∙ sym c.made)
     (λ k d low.

@@ -18,8 +18,10 @@ use Rattle.sgb_graph.specs.declared.field.VertexField.{VertexField}
 use Rattle.sgb_graph.specs.declared.field.VertexField.TheVariants as fields
 use Rattle.sgb_graph.specs.declared.field.GraphField.TheVariants as own
 use Rattle.sgb_graph.specs.declared.field.ArcField.TheVariants as arcs
-use Rattle.sgb_graph.specs.Private.Fill.{SameNames, can_name_each, with_filled_vertex, with_filled_arc, filled_entry}
+use Rattle.sgb_graph.specs.Private.Fill.{SameNames, can_name_each, can_name_part, with_filled_vertex, with_filled_arc, filled_entry}
+use Rattle.sgb_graph.specs.Private.Aim.{can_lead, with_aim}
 use Rattle.sgb_graph.specs.Private.Cells.{is_zero}
+use Rattle.sgb_graph.specs.declared.parts.ArcPart.{ArcPart}
 use Rattle.sgb_graph.proofs.Graphs.{made_of_live}
 use Rattle.sgb_graph.proofs.Sound.{entry_same, entry_other}
 
@@ -212,14 +214,10 @@ two_set (u ∷ []) a b h = absurd (omega arith)
 two_set (u ∷ (v ∷ [])) a b h = refl
 two_set (u ∷ (v ∷ (w ∷ ws))) a b h = absurd (omega arith)
 
-filled_live : (o : Option ArcOf) (us : List Util) → is_some o ≡ true → filled_entry us o ≡ Some (record (arc_or no_arc o) { fields = map stored us })
-filled_live None us live = absurd cc
-filled_live (Some e) us live = refl
-
-pub arc_filled : (g g1 g2 : GraphOf) (k : ArcNo) (us : List Util) (a b : Util) → has_arc g k.0 ≡ true → length (entry_at g k.0).fields ≡ 2 → us ≡ a ∷ b ∷ []
-    → g1 ≡ with_util g (places.Arc k arcs.A) (stored a) → g2 ≡ with_util g1 (places.Arc k arcs.B) (stored b) → g2 ≡ with_filled_arc g k.0 us
-unfolding with_util with_filled_arc
-arc_filled g g1 g2 k us a b live two is e1 e2 =
+fields_put : (g g1 g2 : GraphOf) (k : ArcNo) (us : List Util) (a b : Util) → has_arc g k.0 ≡ true → length (entry_at g k.0).fields ≡ 2 → us ≡ a ∷ b ∷ []
+    → g1 ≡ with_util g (places.Arc k arcs.A) (stored a) → g2 ≡ with_util g1 (places.Arc k arcs.B) (stored b) → g2 ≡ with_entry g k.0 (Some (record (entry_at g k.0) { fields = map stored us }))
+unfolding with_util
+fields_put g g1 g2 k us a b live two is e1 e2 =
     let e = entry_at g k.0 in
     let y : ArcOf = record e { fields = set e.fields 0 (stored a) } in
     let h = with_entry g k.0 (Some y) in
@@ -228,13 +226,42 @@ arc_filled g g1 g2 k us a b live two is e1 e2 =
     ∙ (ap (λ x. with_entry x k.0 (Some (record (entry_at x k.0) { fields = set (entry_at x k.0).fields 1 (stored b) }))) e1
     ∙ (ap (λ o. with_entry h k.0 (Some (record (arc_or no_arc o) { fields = set (arc_or no_arc o).fields 1 (stored b) }))) at
     ∙ (ap (λ es. record g { entries = es }) (set-set g.entries k.0 (Some y) (Some (record e { fields = set y.fields 1 (stored b) })))
-    ∙ (ap (λ xs. with_entry g k.0 (Some (record e { fields = xs }))) (two_set e.fields (stored a) (stored b) two ∙ ap (map stored) (sym is))
-    ∙ ap (with_entry g k.0) (sym (filled_live (arc_at g k.0) us live))))))
+    ∙ ap (λ xs. with_entry g k.0 (Some (record e { fields = xs }))) (two_set e.fields (stored a) (stored b) two ∙ ap (map stored) (sym is)))))
+
+-- a tip and a length, and then two values, put into an arc
+filled_live : (part : ArcPart) (o : Option ArcOf) → is_some o ≡ true → filled_entry part o ≡ Some (record { tip = part.tip; len = part.len; fields = map stored part.fields })
+filled_live part None live = absurd cc
+filled_live part (Some e) live = refl
+
+pub arc_filled : (g g1 g2 g3 : GraphOf) (k : ArcNo) (part : ArcPart) (a b : Util) → has_arc g k.0 ≡ true → length (entry_at g1 k.0).fields ≡ 2 → part.fields ≡ a ∷ b ∷ []
+    → g1 ≡ with_aim g k.0 part.tip part.len → g2 ≡ with_util g1 (places.Arc k arcs.A) (stored a) → g3 ≡ with_util g2 (places.Arc k arcs.B) (stored b) → g3 ≡ with_filled_arc g k.0 part
+unfolding with_aim with_filled_arc
+arc_filled g g1 g2 g3 k part a b live two is e1 e2 e3 =
+    let e = entry_at g k.0 in
+    let y : ArcOf = record e { tip = part.tip; len = part.len } in
+    let z : ArcOf = record { tip = part.tip; len = part.len; fields = map stored part.fields } in
+    let at : arc_at g1 k.0 ≡ Some y = ap (λ x. arc_at x k.0) e1 ∙ entry_same g.entries k.0 (Some y) (made_of_live g k.0 live) in
+    fields_put g1 g2 g3 k part.fields a b (ap is_some at) two is e2 e3
+    ∙ (ap (λ o. with_entry g1 k.0 (Some (record (arc_or no_arc o) { fields = map stored part.fields }))) at
+    ∙ (ap (λ x. with_entry x k.0 (Some z)) e1
+    ∙ (ap (λ es. record g { entries = es }) (set-set g.entries k.0 (Some y) (Some z))
+    ∙ ap (with_entry g k.0) (sym (filled_live part (arc_at g k.0) live)))))
 
 pub two_named : (g : GraphOf) (us : List Util) (a b : Util) → us ≡ a ∷ b ∷ [] → can_name_each g us ≡ true → (can_name g a ≡ true) × (can_name g b ≡ true)
 two_named g us a b is all =
     let one : can_name_each g (a ∷ b ∷ []) ≡ true = subst (λ x. can_name_each g x ≡ true) is all in
     (each_first g a (b ∷ []) one, each_first g b [] (each_rest g a (b ∷ []) one))
+
+-- what a part of a live arc names
+pub part_leads : (g : GraphOf) (part : ArcPart) → can_name_part g part ≡ true → can_lead (n_of g) part.tip ≡ true
+part_leads g part all = (and_parts (can_lead (n_of g) part.tip) (can_name_each g part.fields) all).0
+
+pub part_values : (g : GraphOf) (part : ArcPart) → can_name_part g part ≡ true → can_name_each g part.fields ≡ true
+part_values g part all = (and_parts (can_lead (n_of g) part.tip) (can_name_each g part.fields) all).1
+
+pub part-same : (g h : GraphOf) (part : ArcPart) → SameNames g h → can_name_part h part ≡ can_name_part g part
+part-same g h part s =
+    ap (λ b. b && can_name_each h part.fields) (ap (λ n. can_lead n part.tip) s.n) ∙ ap (λ b. can_lead (n_of g) part.tip && b) (each-same g h part.fields s)
 
 pub arc_two : (g : GraphOf) (k : ℕ) → IsGraph g → has_arc g k ≡ true → length (entry_at g k).fields ≡ 2
 arc_two g k sound live =

@@ -2,17 +2,16 @@
 use Rattle.std.proofs.Common.{◌≡◌, ◌≢◌, ◌<◌, ◌≤◌, ◌+◌, ℕ, zero, suc, List, [], ◌∷◌, ◌++◌, length, get_or, set, map, Option, Some, None, is_some, true, false, refl, sym, ap, ◌∙◌, arith, cond, inl, inr}
 use Rattle.std.proofs.lemmas.Bool.{cases_lt, cases_eq, and_parts}
 use Rattle.std.proofs.lemmas.List.{append-nil, get_or-set_same, get_or-set_other, set-set, length-set, get_or_at, length_push, append_assoc, length-append}
-use Rattle.sgb_graph.specs.declared.field.Util.{Util}
 use Rattle.sgb_graph.specs.declared.parts.ArcPart.{ArcPart}
 use Rattle.sgb_graph.specs.declared.parts.VertexPart.{VertexPart}
 use Rattle.sgb_graph.specs.Graph.{GraphOf, VertexOf, ArcOf, IsGraph, n_of, made_of, vertex_at, no_vertex, arc_at, has_arc}
 use Rattle.sgb_graph.specs.Edit.{with_label, stored}
 use Rattle.sgb_graph.specs.Parts.{vertex_part, arc_part, any_vertex_part, any_arc_part}
-use Rattle.sgb_graph.specs.Private.Fill.{SameNames, can_name_each, can_name_vertices, can_name_at, can_name_arcs, filled_vertex, filled_entry, with_filled_vertex, with_filled_arc, FillsVertices, FillsArcs}
+use Rattle.sgb_graph.specs.Private.Fill.{SameNames, can_name_each, can_name_part, can_name_vertices, can_name_at, can_name_arcs, filled_vertex, filled_entry, with_filled_vertex, with_filled_arc, FillsVertices, FillsArcs}
 use Rattle.sgb_graph.proofs.Graphs.{no_arc_past}
 use Rattle.sgb_graph.proofs.PairedLemmas.{below_all}
 use Rattle.sgb_graph.proofs.Sound.{entry_same, entry_other}
-use Rattle.sgb_graph.proofs.Filling.{each-same, names_then}
+use Rattle.sgb_graph.proofs.Filling.{each-same, part-same, names_then}
 
 -- the vertices from the number of those left on are filled, and the others are as they were
 pub record FilledFrom (vs left : List VertexPart) (g h : GraphOf) : Type 0 where
@@ -113,7 +112,7 @@ pub record ArcsFilledFrom (rs left : List ArcPart) (g h : GraphOf) : Type 0 wher
   pub all : rs ≡ left ++ done
   pub vertices : h.vertices ≡ g.vertices
   pub made : made_of h ≡ made_of g
-  pub filled : (k : ℕ) → length left ≤ k → arc_at h k ≡ filled_entry (arc_part rs k).fields (arc_at g k)
+  pub filled : (k : ℕ) → length left ≤ k → arc_at h k ≡ filled_entry (arc_part rs k) (arc_at g k)
   pub others : (k : ℕ) → k < length left → arc_at h k ≡ arc_at g k
   pub graph : IsGraph h
 
@@ -129,10 +128,10 @@ last_record rs left rest done part all is =
       at = ap (λ l. get_or l (length rest) any_arc_part) whole ∙ get_or_at rest part done any_arc_part (length rest) refl;
     }
 
-nothing_filled : (us : List Util) (g : GraphOf) (k : ℕ) → made_of g ≤ k → arc_at g k ≡ filled_entry us (arc_at g k)
-nothing_filled us g k past =
+nothing_filled : (part : ArcPart) (g : GraphOf) (k : ℕ) → made_of g ≤ k → arc_at g k ≡ filled_entry part (arc_at g k)
+nothing_filled part g k past =
     let none : arc_at g k ≡ None = no_arc_past g k past in
-    none ∙ ap (filled_entry us) (sym none)
+    none ∙ ap (filled_entry part) (sym none)
 
 pub arcs_filling_begins : (rs : List ArcPart) (g : GraphOf) → made_of g ≡ length rs → IsGraph g → ArcsFilledFrom rs rs g g
 arcs_filling_begins rs g made sound =
@@ -141,14 +140,14 @@ arcs_filling_begins rs g made sound =
       all = sym (append-nil rs);
       vertices = refl;
       made = refl;
-      filled = λ k past. nothing_filled (arc_part rs k).fields g k (omega arith);
+      filled = λ k past. nothing_filled (arc_part rs k) g k (omega arith);
       others = λ k a. refl;
       graph = sound;
     }
 
-filled_lives : (us : List Util) (o : Option ArcOf) → is_some (filled_entry us o) ≡ is_some o
-filled_lives us None = refl
-filled_lives us (Some e) = refl
+filled_lives : (part : ArcPart) (o : Option ArcOf) → is_some (filled_entry part o) ≡ is_some o
+filled_lives part None = refl
+filled_lives part (Some e) = refl
 
 pub arcs_filling_names : (rs left : List ArcPart) (g h : GraphOf) → ArcsFilledFrom rs left g h → SameNames g h
 arcs_filling_names rs left g h x =
@@ -156,30 +155,30 @@ arcs_filling_names rs left g h x =
       n = ap length x.vertices;
       live = λ k. elim (cases_lt k (length left)) [
         | inl low ↦ ap is_some (x.others k low)
-        | inr high ↦ ap is_some (x.filled k high) ∙ filled_lives (arc_part rs k).fields (arc_at g k)
+        | inr high ↦ ap is_some (x.filled k high) ∙ filled_lives (arc_part rs k) (arc_at g k)
       ];
     }
 
 -- the values of a live record can be named when its turn comes
-pub arc_turn_names : (rs left rest : List ArcPart) (part : ArcPart) (g h : GraphOf) → ArcsFilledFrom rs left g h → left ≡ rest ++ part ∷ [] → can_name_arcs g rs ≡ true → has_arc h (length rest) ≡ true → can_name_each h part.fields ≡ true
+pub arc_turn_names : (rs left rest : List ArcPart) (part : ArcPart) (g h : GraphOf) → ArcsFilledFrom rs left g h → left ≡ rest ++ part ∷ [] → can_name_arcs g rs ≡ true → has_arc h (length rest) ≡ true → can_name_part h part ≡ true
 arc_turn_names rs left rest part g h x is all live =
     let l = last_record rs left rest x.done part x.all is in
     let k = length rest in
     let same = arcs_filling_names rs left g h x in
     let one : can_name_at g rs k ≡ true = below_all (can_name_at g rs) (length rs) k all l.low in
     let alive : has_arc g k ≡ true = sym (same.live k) ∙ live in
-    each-same g h part.fields same
-    ∙ (ap (λ (p : ArcPart). can_name_each g p.fields) (sym l.at) ∙ (ap (λ b. cond b (can_name_each g (arc_part rs k).fields) true) (sym alive) ∙ one))
+    part-same g h part same
+    ∙ (ap (can_name_part g) (sym l.at) ∙ (ap (λ b. cond b (can_name_part g (arc_part rs k)) true) (sym alive) ∙ one))
 
 -- an arc gets its values, or is a hole
 pub arc_filled_more : (rs left rest : List ArcPart) (part : ArcPart) (g h i : GraphOf) → ArcsFilledFrom rs left g h → left ≡ rest ++ part ∷ [] → made_of g ≡ length rs
-    → i ≡ with_filled_arc h (length rest) part.fields → IsGraph i → ArcsFilledFrom rs rest g i
+    → i ≡ with_filled_arc h (length rest) part → IsGraph i → ArcsFilledFrom rs rest g i
 unfolding with_filled_arc
 arc_filled_more rs left rest part g h i x is made filled sound =
     let l = last_record rs left rest x.done part x.all is in
     let k = length rest in
     let size : length left ≡ k + 1 = ap length is ∙ length_push rest part in
-    let o = filled_entry part.fields (arc_at h k) in
+    let o = filled_entry part (arc_at h k) in
     let entries : i.entries ≡ set h.entries k o = ap (λ y. y.entries) filled in
     let low : k < made_of h = omega (arith, l.low, made, x.made) in
     record {
@@ -192,8 +191,8 @@ arc_filled_more rs left rest part g h i x is made filled sound =
             ap (arc_at i) same
             ∙ (ap (λ es. get_or es k None) entries
             ∙ (entry_same h.entries k o low
-            ∙ (ap (filled_entry part.fields) (x.others k (omega arith))
-            ∙ (ap (λ (p : ArcPart). filled_entry p.fields (arc_at g k)) (sym l.at) ∙ ap (λ y. filled_entry (arc_part rs y).fields (arc_at g y)) (sym same)))))
+            ∙ (ap (filled_entry part) (x.others k (omega arith))
+            ∙ (ap (λ (p : ArcPart). filled_entry p (arc_at g k)) (sym l.at) ∙ ap (λ y. filled_entry (arc_part rs y) (arc_at g y)) (sym same)))))
         | inr ne ↦
             let other : j ≢ k = ne in
             ap (λ es. get_or es j None) entries ∙ (entry_other h.entries k j o ne ∙ x.filled j (omega arith))
@@ -204,9 +203,9 @@ arc_filled_more rs left rest part g h i x is made filled sound =
       graph = sound;
     }
 
-hole_filled : (us : List Util) (o : Option ArcOf) → is_some o ≡ false → o ≡ filled_entry us o
-hole_filled us None hole = refl
-hole_filled us (Some e) hole = absurd cc
+hole_filled : (part : ArcPart) (o : Option ArcOf) → is_some o ≡ false → o ≡ filled_entry part o
+hole_filled part None hole = refl
+hole_filled part (Some e) hole = absurd cc
 
 pub arc_passed : (rs left rest : List ArcPart) (part : ArcPart) (g h : GraphOf) → ArcsFilledFrom rs left g h → left ≡ rest ++ part ∷ [] → has_arc h (length rest) ≡ false → ArcsFilledFrom rs rest g h
 arc_passed rs left rest part g h x is hole =
@@ -219,10 +218,9 @@ arc_passed rs left rest part g h x is hole =
       made = x.made;
       filled = λ j high. elim (cases_eq j k) [
         | inl same ↦
-            let us = (arc_part rs j).fields in
             let here : arc_at h j ≡ arc_at g j = x.others j (omega arith) in
             let none : is_some (arc_at g j) ≡ false = ap is_some (sym here) ∙ (ap (has_arc h) same ∙ hole) in
-            here ∙ hole_filled us (arc_at g j) none
+            here ∙ hole_filled (arc_part rs j) (arc_at g j) none
         | inr ne ↦ let other : j ≢ k = ne in x.filled j (omega arith)
       ];
       others = λ j under. x.others j (omega arith);

@@ -1,3 +1,4 @@
+pub mod Aiming
 pub mod Building
 pub mod Cells
 pub mod Chaining

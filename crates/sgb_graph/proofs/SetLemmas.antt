@@ -1,5 +1,5 @@
 -- Lemmas on what setting a length, a label, the id or the letters leaves.
-use Rattle.std.proofs.Common.{◌≡◌, ◌<◌, ℕ, ℤ, List, get_or, set, Option, Some, None, is_some, IsSome, IfSome, Bool, true, false, refl, sym, ap, subst, ◌∙◌, arith, cond, inl, inr, FitsSigned, to_z, of_z}
+use Rattle.std.proofs.Common.{◌≡◌, ◌<◌, ℕ, ℤ, List, get_or, set, Option, Some, None, is_some, IsSome, IfSome, Bool, true, false, refl, sym, ap, subst, ◌∙◌, arith, inl, inr, FitsSigned, to_z, of_z}
 use Rattle.std.specs.Int.{w64}
 use Rattle.std.proofs.lemmas.Bool.{cases_eq, ltb-true, lt-ltb}
 use Rattle.std.proofs.lemmas.Int.{to_z-of_z}
@@ -11,15 +11,15 @@ use Rattle.sgb_graph.specs.declared.graph.Vertex as vertex
 use Rattle.sgb_graph.specs.declared.graph.arena.Slot.{Slot}
 use Rattle.sgb_graph.specs.declared.graph.Graph.TheInside.{Inside}
 use Rattle.sgb_graph.specs.Text.{IsText}
-use Rattle.sgb_graph.specs.Graph.{GraphOf, VertexOf, ArcOf, IsGraph, IsVertex, IsArc, n_of, made_of, vertex_at, no_vertex, arcs_of, arc_at, has_arc, has_vertex, occurrences, listings, names_in, names_in_entry, names_of}
+use Rattle.sgb_graph.specs.Graph.{GraphOf, VertexOf, ArcOf, IsGraph, IsVertex, IsArc, n_of, vertex_at, no_vertex, arcs_of, arc_at, has_arc, has_vertex, occurrences, listings, names_in, names_of}
 use Rattle.sgb_graph.specs.Edit.{with_len, with_label, entry_at, arc_or, no_arc}
-use Rattle.sgb_graph.specs.Private.Arena.{Slots, Shows, ShowsVertex, IsArena, graph_of, slot_at, next_of, next_at, entry_of, owner_in, names_counted}
+use Rattle.sgb_graph.specs.Private.Arena.{Slots, Shows, ShowsVertex, IsArena, graph_of, slot_at, entry_of, owner_in, names_counted}
 use Rattle.sgb_graph.specs.Private.Link.{any_vertex, vertex_in}
 use Rattle.sgb_graph.specs.Private.Arena.{len_in, with_len_in}
-use Rattle.sgb_graph.proofs.Chains.{Leads-agree}
+use Rattle.sgb_graph.specs.Private.Aim.{with_aim, with_aim_in}
+use Rattle.sgb_graph.proofs.Aiming.{aim_opened}
 use Rattle.sgb_graph.proofs.Graphs.{same_graph, made_of_live}
-use Rattle.sgb_graph.proofs.Slots.{slot_same, slot_other, slot_unseen}
-use Rattle.sgb_graph.proofs.Sound.{Keeps, IsValue-keeps, IsVertex-keeps, IsArc-keeps, IsEntry-keeps, All-set, entry_same, entry_other}
+use Rattle.sgb_graph.proofs.Sound.{Keeps, IsValue-keeps, IsVertex-keeps, IsEntry-keeps, All-set, entry_same}
 use Rattle.sgb_graph.proofs.Shows.{Opened, opened, closed, closed_arena}
 use Rattle.sgb_graph.proofs.TakeOut.{some_entry}
 use Rattle.sgb_graph.proofs.ExchangeLemmas.{owned_as, vertex_six, graph_six, fields_of_entry}
@@ -104,23 +104,11 @@ label_opened a b g v t o low text id types fields live slots vertices =
     }
 
 -- a length
-len_blind_next : (z : ℤ) (o : Option Slot) → next_of (with_len_in z o) ≡ next_of o
-len_blind_next z None = refl
-len_blind_next z (Some s) = refl
-
-len_blind_owner : (z : ℤ) (o : Option Slot) → owner_in (with_len_in z o) ≡ owner_in o
-len_blind_owner z None = refl
-len_blind_owner z (Some s) = refl
-
-len_blind_names : (z : ℤ) (o : Option Slot) → names_counted (with_len_in z o) ≡ names_counted o
-len_blind_names z None = refl
-len_blind_names z (Some s) = refl
-
-entry_len : (z : ℤ) (o : Option Slot) (e : Option ArcOf) → entry_of o ≡ e → is_some e ≡ true → entry_of (with_len_in z o) ≡ Some (record (arc_or no_arc e) { len = z })
-entry_len z None None same live = absurd cc
-entry_len z None (Some e) same live = absurd cc
-entry_len z (Some s) None same live = absurd cc
-entry_len z (Some s) (Some e) same live = ap (λ o. Some (record (arc_or no_arc o) { len = z })) same
+len_is_aim : (z : ℤ) (o : Option Slot) (e : Option ArcOf) → entry_of o ≡ e → is_some e ≡ true → with_len_in z o ≡ with_aim_in (arc_or no_arc e).tip z o
+len_is_aim z None None same live = absurd cc
+len_is_aim z None (Some e) same live = absurd cc
+len_is_aim z (Some s) None same live = absurd cc
+len_is_aim z (Some s) (Some e) same live = ap (λ o. with_aim_in (arc_or no_arc o).tip z (Some s)) same
 
 pub len_of_entry : (o : Option Slot) (e : Option ArcOf) → entry_of o ≡ e → is_some e ≡ true → len_in o ≡ (arc_or no_arc e).len
 len_of_entry None None same live = absurd cc
@@ -131,77 +119,13 @@ len_of_entry (Some s) (Some e) same live = ap (λ o. (arc_or no_arc o).len) same
 pub len_opened : (a b : Inside) (g : GraphOf) (k : ℕ) (z : ℤ) → Opened a g → has_arc g k ≡ true → FitsSigned w64 z
     → b.id ≡ a.id → b.types ≡ a.types → b.fields ≡ a.fields → b.live ≡ a.live → b.vertices.items ≡ a.vertices.items
     → b.slots ≡ set a.slots k (with_len_in z (slot_at a.slots k)) → Opened b (with_len g k z)
-unfolding with_len
+unfolding with_len with_aim
 len_opened a b g k z o there fits id types fields live vertices slots =
-    let h = with_len g k z in
-    let sound = o.graph in
-    let low : k < made_of g = made_of_live g k there in
     let e = entry_at g k in
     let entry : arc_at g k ≡ Some e = some_entry (arc_at g k) there in
-    let arc : IsArc (n_of g) g.entries e = subst (λ r. IfSome r (IsArc (n_of g) g.entries)) entry (sound.arcs k None low) in
-    let y : ArcOf = record e { len = z } in
-    let made : made_of h ≡ made_of g = length-set g.entries k (Some y) in
-    let still : (j : ℕ) → has_arc h j ≡ has_arc g j = λ j.
-    elim (cases_eq j k) [
-      | inl same ↦ ap (has_arc h) same ∙ (ap is_some (entry_same g.entries k (Some y) low) ∙ (sym there ∙ ap (has_arc g) (sym same)))
-      | inr ne ↦ ap is_some (entry_other g.entries k j (Some y) ne)
-    ] in
-    let keeps : Keeps (n_of g) g.entries (n_of h) h.entries = record { vertices = omega arith; arcs = λ j l. still j ∙ l } in
-    let arc' : IsArc (n_of h) h.entries e = IsArc-keeps (n_of g) (n_of h) g.entries h.entries e keeps arc in
-    let one : Option ArcOf → ℕ = λ r. cond (is_some r) 1 0 in
-    let vs = a.vertices.items in
-    let ss = a.slots in
-    let p = with_len_in z (slot_at ss k) in
-    let ts = set ss k p in
-    let shown : Shows vs ts h = record {
-      n = o.shows.n;
-      vertices = λ w d l.
-          let v = o.shows.vertices w d l in
-          record {
-            label = v.label;
-            fields = v.fields;
-            arcs = Leads-agree (next_at ss) (next_at ts) (get_or vs w d).first (arcs_of g w) None (λ j _. slot_unseen next_of ss k j p (len_blind_next z (slot_at ss k))) v.arcs;
-          };
-      made = length-set ss k p ∙ (o.shows.made ∙ sym made);
-      entries = λ j. elim (cases_eq j k) [
-        | inl same ↦
-            ap (λ i. entry_of (slot_at ts i)) same
-            ∙ (ap entry_of (slot_same ss k p (omega (arith, o.shows.made)))
-            ∙ (entry_len z (slot_at ss k) (arc_at g k) (o.shows.entries k) there
-            ∙ (sym (entry_same g.entries k (Some y) low) ∙ ap (arc_at h) (sym same))))
-        | inr ne ↦ ap entry_of (slot_other ss k j p ne) ∙ (o.shows.entries j ∙ sym (entry_other g.entries k j (Some y) ne))
-      ];
-      owners = λ j. subst (λ r. IfSome r (λ v. occurrences j (arcs_of g v.0) ≡ 1)) (sym (slot_unseen owner_in ss k j p (len_blind_owner z (slot_at ss k)))) (o.shows.owners j);
-      names = λ j.
-          let s = sum_by-set (names_in_entry j) g.entries k (Some y) None low in
-          let was : names_in_entry j (get_or g.entries k None) ≡ names_in j e.fields = ap (names_in_entry j) entry in
-          let same : names_of h j ≡ names_of g j = omega (arith, s, was) in
-          subst (λ r. IfSome r (λ m. m ≡ names_of h j)) (sym (slot_unseen names_counted ss k j p (len_blind_names z (slot_at ss k))))
-          (subst (λ n. IfSome (names_counted (slot_at ss j)) (λ m. m ≡ n)) (sym same) (o.shows.names j));
-    } in
-    record {
-      graph = record {
-        listed = λ j. sound.listed j ∙ ap (λ b. cond b 1 0) (sym (still j));
-        id = sound.id;
-        types = sound.types;
-        six = sound.six;
-        values = λ j d l. IsValue-keeps (n_of g) (n_of h) g.entries h.entries (get_or g.fields j d) keeps (sound.values j d l);
-        vertices = λ j d l. IsVertex-keeps (n_of g) (n_of h) g.entries h.entries (get_or g.vertices j d) keeps (sound.vertices j d l);
-        arcs = All-set (λ r. IfSome r (IsArc (n_of h) h.entries)) g.entries k (Some y)
-            (λ j d l. IsEntry-keeps (n_of g) (n_of h) g.entries h.entries (get_or g.entries j d) keeps (sound.arcs j d l))
-            (record { tip = arc'.tip; len = fits; two = arc'.two; values = arc'.values });
-        few_vertices = sound.few_vertices;
-        few_arcs = omega (arith, made, sound.few_arcs);
-      };
-      shows = rw (vertices, slots) shown;
-      live =
-          (let s = sum_by-set one g.entries k (Some y) None low in
-          let was : one (get_or g.entries k None) ≡ 1 = ap one entry in
-          omega (arith, live, o.live, s, was));
-      id = id ∙ o.id;
-      types = types ∙ o.types;
-      fields = fields ∙ o.fields;
-    }
+    let arc : IsArc (n_of g) g.entries e = subst (λ r. IfSome r (IsArc (n_of g) g.entries)) entry (o.graph.arcs k None (made_of_live g k there)) in
+    aim_opened a b g k e.tip z o there arc.tip fits id types fields live vertices
+    (slots ∙ ap (set a.slots k) (len_is_aim z (slot_at a.slots k) (arc_at g k) (o.shows.entries k) there))
 
 -- what `set_len` leaves, clause by clause
 pub record LenDone (b : Inside) (g : GraphOf) (k : ArcNo) (z old : ℤ) : Type 0 where

@@ -1,3 +1,4 @@
+pub mod Aim
 pub mod Arena
 pub mod Blank
 pub mod Cells

@@ -7,6 +7,7 @@ use Rattle.sgb_graph.specs.declared.parts.VertexPart.{VertexPart}
 use Rattle.sgb_graph.specs.Edit.{with_vertex, with_entry, can_name, stored}
 use Rattle.sgb_graph.specs.Graph.{GraphOf, VertexOf, ArcOf, IsGraph, n_of, made_of, vertex_at, arc_at, has_arc}
 use Rattle.sgb_graph.specs.Parts.{vertex_part, arc_part}
+use Rattle.sgb_graph.specs.Private.Aim.{can_lead}
 
 -- the same vertices and arcs can be named
 pub record SameNames (g h : GraphOf) : Type 0 where
@@ -17,9 +18,13 @@ pub record SameNames (g h : GraphOf) : Type 0 where
 abbrev pub can_name_each : GraphOf → List Util → Bool
 can_name_each g us = list_all (can_name g) us
 
--- the record's values, where its arc lives
+-- the record's tip and its values
+abbrev pub can_name_part : GraphOf → ArcPart → Bool
+can_name_part g part = can_lead (n_of g) part.tip && can_name_each g part.fields
+
+-- the same, where its arc lives
 abbrev pub can_name_at : GraphOf → List ArcPart → ℕ → Bool
-can_name_at g rs k = if has_arc g k then can_name_each g (arc_part rs k).fields else true
+can_name_at g rs k = if has_arc g k then can_name_part g (arc_part rs k) else true
 
 abbrev pub can_name_vertices : GraphOf → List VertexPart → Bool
 can_name_vertices g vs = list_all (λ part. can_name_each g part.fields) vs
@@ -38,12 +43,13 @@ with_filled_vertex g v us = with_vertex g v (record (vertex_at g v) { fields = m
 abbrev pub filled_vertex : VertexPart → VertexOf → VertexOf
 filled_vertex part x = record x { label = part.label; fields = map stored part.fields }
 
-abbrev pub filled_entry : List Util → Option ArcOf → Option ArcOf
-filled_entry us None = None
-filled_entry us (Some e) = Some (record e { fields = map stored us })
+-- a live arc as its record says
+abbrev pub filled_entry : ArcPart → Option ArcOf → Option ArcOf
+filled_entry part None = None
+filled_entry part (Some e) = Some (record { tip = part.tip; len = part.len; fields = map stored part.fields })
 
-unfoldable pub with_filled_arc : GraphOf → ℕ → List Util → GraphOf
-with_filled_arc g k us = with_entry g k (filled_entry us (arc_at g k))
+unfoldable pub with_filled_arc : GraphOf → ℕ → ArcPart → GraphOf
+with_filled_arc g k part = with_entry g k (filled_entry part (arc_at g k))
 
 -- all vertices have the names and the values of their parts
 pub record FillsVertices (vs : List VertexPart) (g h : GraphOf) : Type 0 where
@@ -52,9 +58,9 @@ pub record FillsVertices (vs : List VertexPart) (g h : GraphOf) : Type 0 where
   pub entries : h.entries ≡ g.entries
   pub graph : IsGraph h
 
--- all live arcs have the values of their records
+-- all live arcs are as their records say
 pub record FillsArcs (rs : List ArcPart) (g h : GraphOf) : Type 0 where
   pub vertices : h.vertices ≡ g.vertices
   pub made : made_of h ≡ made_of g
-  pub entries : (k : ℕ) → arc_at h k ≡ filled_entry (arc_part rs k).fields (arc_at g k)
+  pub entries : (k : ℕ) → arc_at h k ≡ filled_entry (arc_part rs k) (arc_at g k)
   pub graph : IsGraph h

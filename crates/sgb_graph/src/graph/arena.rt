@@ -3,6 +3,7 @@ ghost use Rattle.std.specs.Prelude.{◌≡◌, ◌<◌, ◌≤◌, ◌^◌, ◌-
 ghost use Rattle.std.specs.List.{list_all, zip};
 ghost use Rattle.sgb_graph.specs.declared.field.Util.TheVariants as utils;
 ghost use Rattle.sgb_graph.specs.Honest.{are_allowed};
+ghost use Rattle.sgb_graph.specs.Private.Aim.{with_aim_in};
 ghost use Rattle.sgb_graph.specs.Private.Arena.{slot_at, next_at, owner_in, names_counted, view_in, len_in, with_len_in};
 ghost use Rattle.sgb_graph.specs.Private.Cells.{two_zeros, slot_with, kept_at, SameFields, PutsFields, new_cell, unnamed_slot, owned_allowed, is_zero};
 ghost use Rattle.sgb_graph.specs.Private.Exchange.{fields_in, with_field};
@@ -362,6 +363,18 @@ impl Arena {
         let old = mem::replace(&mut cell.len, len);
         self.set_cell(number.0 as usize, cell);
         old
+    }
+
+    /// Gives a live arc another tip and another length.
+    #[inline]
+    pub fn aim(&mut self, number: ArcNo, tip: TipCode, len: i64)
+        requires { IsSome (slot_at self.old number.0) }
+        ensures { self.new ≡ slice_set self.old number.0 (with_aim_in tip len (slot_at self.old number.0)) }
+    {
+        let mut cell = self.cell(number.0 as usize);
+        cell.tip = tip;
+        cell.len = len;
+        self.set_cell(number.0 as usize, cell);
     }
 
     /// The fields of a live arc.

@@ -1,19 +1,23 @@
-//! Putting the names and the values of saved parts into a graph.
+//! Putting the names, tips, lengths and values of saved parts into a graph.
 ghost use Rattle.std.specs.Prelude.{◌≡◌, ◌<◌, ◌∷◌, ◌&&◌, [], length, slice_index_or, map, true, IsTrue, None};
 ghost use Rattle.std.specs.List.{list_all, range_with_len};
 ghost use Rattle.sgb_graph.specs.Graph.{IsGraph, n_of, made_of, has_arc};
 ghost use Rattle.sgb_graph.specs.Edit.{with_util, with_label, util_at, has_place, can_name, stored, refusal_of_util};
+ghost use Rattle.sgb_graph.specs.Private.Aim.{can_lead, with_aim};
 ghost use Rattle.sgb_graph.specs.Private.Cells.{is_zero};
-ghost use Rattle.sgb_graph.specs.Private.Fill.{SameNames, can_name_each, can_name_at, can_name_vertices, can_name_arcs, can_name_all, with_filled_vertex, with_filled_arc, FillsVertices, FillsArcs};
+ghost use Rattle.sgb_graph.specs.Private.Fill.{SameNames, can_name_each, can_name_part, can_name_at, can_name_vertices, can_name_arcs, can_name_all, with_filled_vertex, with_filled_arc, FillsVertices, FillsArcs};
 
 use super::Graph;
 use super::arena::is_zero;
+use super::codes::TipCode;
 use crate::{
-    ArcField, ArcNo, ArcPart, GraphField, Label, Place, Util, VertexField, VertexNo, VertexPart,
+    ArcField, ArcNo, ArcPart, GraphField, Label, Place, Tip, Util, VertexField, VertexNo,
+    VertexPart,
 };
 
 impl Graph {
-    // Each value of the graph, of the vertices and of the live arcs names what is there, if anything.
+    // Each value of the graph, of the vertices and of the live arcs names what is there, if anything, and so does each
+    // live arc's tip.
     pub(super) fn can_name_all(
         &self,
         fields: &[Util],
@@ -50,16 +54,22 @@ impl Graph {
         true
     }
 
-    // The values of the record, where its arc lives.
+    // The tip and the values of the record, where its arc lives.
     fn can_name_at(&self, arcs: &[ArcPart], number: ArcNo) -> bool
         requires { number.0 < length arcs.now }
         ensures { result ≡ can_name_at self.now arcs.now number.0 }
     {
         if self.has_arc(number) {
-            self.can_name_each(&arcs[number.0 as usize].fields)
+            self.can_name_part(&arcs[number.0 as usize])
         } else {
             true
         }
+    }
+
+    fn can_name_part(&self, part: &ArcPart) -> bool
+        ensures { result ≡ can_name_part self.now part.now }
+    {
+        can_lead(self.n(), part.tip) && self.can_name_each(&part.fields)
     }
 
     // Gives each vertex the name and the values of its part.
@@ -76,7 +86,7 @@ impl Graph {
         }
     }
 
-    // Gives each live arc the values of its record.
+    // Gives each live arc the tip, the length and the values of its record.
     pub(super) fn fill_arcs(&mut self, mut arcs: Vec<ArcPart>)
         requires made { made_of self.old ≡ length arcs.items }
         requires names { can_name_arcs self.old arcs.items ≡ true }
@@ -86,7 +96,7 @@ impl Graph {
         while let Some(part) = arcs.pop() {
             let number = ArcNo(arcs.len() as u32);
             if self.has_arc(number) {
-                self.fill_arc(number, part.fields);
+                self.fill_arc(number, part);
             }
         }
     }
@@ -120,15 +130,28 @@ impl Graph {
         self.fill(Place::Vertex(vertex, VertexField::Z), z);
     }
 
-    fn fill_arc(&mut self, number: ArcNo, fields: [Util; 2])
+    fn fill_arc(&mut self, number: ArcNo, part: ArcPart)
         requires live { has_arc self.old number.0 ≡ true }
-        requires names { can_name_each self.old fields ≡ true }
-        ensures filled { self.new ≡ with_filled_arc self.old number.0 fields }
+        requires names { can_name_part self.old part ≡ true }
+        ensures filled { self.new ≡ with_filled_arc self.old number.0 part }
         ensures sound { IsGraph self.new }
     {
-        let (a, b) = two(fields);
+        self.aim(number, part.tip, part.len);
+        let (a, b) = two(part.fields);
         self.fill(Place::Arc(number, ArcField::A), a);
         self.fill(Place::Arc(number, ArcField::B), b);
+    }
+
+    // Gives a live arc this tip and this length.
+    #[inline]
+    fn aim(&mut self, number: ArcNo, tip: Tip, len: i64)
+        requires live { has_arc self.old number.0 ≡ true }
+        requires tip { can_lead (n_of self.old) tip ≡ true }
+        ensures value { self.new ≡ with_aim self.old number.0 tip len }
+        ensures names { SameNames self.old self.new }
+        ensures sound { IsGraph self.new }
+    {
+        self.slots.aim(number, TipCode::new(tip), len);
     }
 
     fn fill_label(&mut self, vertex: VertexNo, label: Label)
@@ -173,6 +196,17 @@ impl Graph {
     {
         let done = self.set_util(place, value);
         prove!(done.is_ok());
+    }
+}
+
+// A tip that names a vertex names one of so many.
+#[inline]
+fn can_lead(n: u32, tip: Tip) -> bool
+    ensures { result ≡ can_lead n tip }
+{
+    match tip {
+        Tip::Zero | Tip::One => true,
+        Tip::To(vertex) => vertex.0 < n,
     }
 }
 

@@ -1,5 +1,5 @@
 //! New vertices, and room for vertices and arcs.
-ghost use Rattle.std.specs.Prelude.{◌≡◌, ◌≤◌, ◌<◌, ◌⊎◌, length, map, All, IfErr, OnOk, OnErr};
+ghost use Rattle.std.specs.Prelude.{◌≡◌, true, ◌≤◌, ◌<◌, ◌⊎◌, length, map, All, IfErr, OnOk, OnErr};
 ghost use Rattle.std.specs.Result.{IsErrOf};
 ghost use Rattle.sgb_graph.specs.Graph.{n_of};
 ghost use Rattle.sgb_graph.specs.Edit.{stored};
@@ -12,6 +12,7 @@ use crate::{Label, Refusal, Util};
 
 impl Graph {
     // Adds a vertex, last. Its fields name nothing.
+    #[inline]
     pub(crate) fn push_vertex(&mut self, label: Label, fields: [Util; 6]) -> Result<(), Refusal>
         requires { All NamesNothing fields }
         ensures ok { OnOk result (self.new ≡ with_vertex_last self.old (new_vertex label fields)) }
@@ -23,12 +24,13 @@ impl Graph {
             return Err(Refusal::TooLarge);
         }
         let _ = label.bytes();
+        self.vertices.reserve(1)?;
         let fields = stored_six(fields);
-        self.vertices.push(Vertex {
+        self.vertices.push_reserved(Vertex {
             label,
             fields,
             first: Link::none(),
-        })?;
+        });
         Ok(())
     }
 
@@ -53,8 +55,46 @@ impl Graph {
     }
 }
 
-// The values as they are stored.
+// The values as they are stored. Most come that way, and are then not taken apart.
+#[inline]
 fn stored_six(fields: [Util; 6]) -> [Util; 6]
+    ensures value { result ≡ map stored fields }
+    ensures storable { All IsStorable result }
+    ensures six { length result ≡ 6 }
+{
+    if are_stored(&fields) {
+        fields
+    } else {
+        stored_each(fields)
+    }
+}
+
+// Each value is stored as it stands.
+#[inline]
+fn are_stored(fields: &[Util; 6]) -> bool
+    ensures value { result ≡ true → map stored fields.now ≡ fields.now }
+    ensures storable { result ≡ true → All IsStorable fields.now }
+    ensures six { length fields.now ≡ 6 }
+{
+    let [u, v, w, x, y, z] = fields;
+    is_stored(u) && is_stored(v) && is_stored(w) && is_stored(x) && is_stored(y) && is_stored(z)
+}
+
+// The value is stored as it stands: it is neither the number 0 nor the empty text.
+#[inline]
+fn is_stored(value: &Util) -> bool
+    ensures value { result ≡ true → stored value.now ≡ value.now }
+    ensures storable { result ≡ true → IsStorable value.now }
+{
+    match value {
+        Util::Int(number) => *number != 0,
+        Util::Text(text) => !text.bytes().is_empty(),
+        Util::Zero | Util::Vertex(_) | Util::Arc(_) => true,
+    }
+}
+
+// The values as they are stored, each by itself.
+fn stored_each(fields: [Util; 6]) -> [Util; 6]
     ensures value { result ≡ map stored fields }
     ensures storable { All IsStorable result }
     ensures six { length result ≡ 6 }

@@ -1,10 +1,11 @@
-//! Laying the chains of saved records into the lists of a graph.
+//! Laying the chains of saved records into the lists of a graph. What a record tells beside its link is put in later,
+//! in the order of the records.
 ghost use Rattle.std.specs.Prelude.{◌≡◌, ◌<◌, ◌≤◌, ◌+◌, ◌⊎◌, ℕ, List, length, true, false, IfOk, IfErr, OnOk};
-ghost use Rattle.sgb_graph.specs.Graph.{IsGraph, n_of, made_of};
+ghost use Rattle.sgb_graph.specs.Graph.{IsGraph, n_of, made_of, has_arc};
 ghost use Rattle.sgb_graph.specs.Edit.{with_cut_arc};
 ghost use Rattle.sgb_graph.specs.Private.Holes.{with_hole};
 ghost use Rattle.sgb_graph.specs.Private.Link.{CanPutBack};
-ghost use Rattle.sgb_graph.specs.Private.Lay.{IsChain, Lays, Laying, RefusesToLay, links_of, laid_arc, can_lead, can_lay};
+ghost use Rattle.sgb_graph.specs.Private.Lay.{IsChain, Lays, Laying, RefusesToLay, links_of, laid_arc};
 
 use super::Graph;
 use super::link::put_back;
@@ -19,14 +20,28 @@ impl Graph {
         vertices: &[VertexPart],
         arcs: &[ArcPart],
     ) -> Result<(), Refusal>
-        requires { Laying vertices.now arcs.now 0 self.old }
-        ensures ok { OnOk result (Lays vertices.now arcs.now self.new) }
-        ensures err { IfErr result (RefusesToLay vertices.now arcs.now) }
+        requires { Laying vertices.now (links_of arcs.now) 0 self.old }
+        ensures ok { OnOk result (Lays vertices.now (links_of arcs.now) self.new) }
+        ensures err { IfErr result (RefusesToLay vertices.now (links_of arcs.now)) }
     {
         let links = links_of(alloc, arcs)?;
+        self.lay_chains(alloc, vertices, &links)
+    }
+
+    // Lays the chain of each vertex along these links.
+    fn lay_chains(
+        &mut self,
+        alloc: Global,
+        vertices: &[VertexPart],
+        links: &[Option<ArcNo>],
+    ) -> Result<(), Refusal>
+        requires { Laying vertices.now links.now 0 self.old }
+        ensures ok { OnOk result (Lays vertices.now links.now self.new) }
+        ensures err { IfErr result (RefusesToLay vertices.now links.now) }
+    {
         let mut numbers = Vec::new(alloc);
         for vertex in 0..self.n() {
-            self.lay_vertex(VertexNo(vertex), vertices, arcs, &links, &mut numbers)?;
+            self.lay_vertex(VertexNo(vertex), vertices, links, &mut numbers)?;
         }
         Ok(())
     }
@@ -36,51 +51,43 @@ impl Graph {
         &mut self,
         vertex: VertexNo,
         vertices: &[VertexPart],
-        arcs: &[ArcPart],
         links: &[Option<ArcNo>],
         numbers: &mut Vec<u32>,
     ) -> Result<(), Refusal>
         requires vertex { vertex.0 < length vertices.now }
-        requires links { links.now ≡ links_of arcs.now }
-        requires laying { Laying vertices.now arcs.now vertex.0 self.old }
-        ensures ok { OnOk result (Laying vertices.now arcs.now (vertex.0 + 1) self.new) }
-        ensures err { IfErr result (RefusesToLay vertices.now arcs.now) }
+        requires laying { Laying vertices.now links.now vertex.0 self.old }
+        ensures ok { OnOk result (Laying vertices.now links.now (vertex.0 + 1) self.new) }
+        ensures err { IfErr result (RefusesToLay vertices.now links.now) }
     {
         collect_chain(links, vertices[vertex.0 as usize].first, numbers)?;
         while let Some(number) = numbers.pop() {
-            self.lay(vertex, ArcNo(number), &arcs[number as usize])?;
+            self.lay(vertex, ArcNo(number))?;
         }
         Ok(())
     }
 
-    // Lays the arc of this record first in the vertex's list, with its fields Zero. Refused where the number is no
-    // hole, or the tip names no vertex.
-    fn lay(&mut self, vertex: VertexNo, number: ArcNo, part: &ArcPart) -> Result<(), Refusal>
+    // Lays an arc first in the vertex's list. It leads nowhere yet, and its fields are Zero. Refused where the number
+    // is no hole.
+    fn lay(&mut self, vertex: VertexNo, number: ArcNo) -> Result<(), Refusal>
         requires vertex { vertex.0 < n_of self.old }
         requires number { number.0 < made_of self.old }
-        ensures can { OnOk result (CanPutBack self.old (laid_arc number vertex part.now)) }
-        ensures laid { OnOk result (self.new ≡ with_cut_arc self.old (laid_arc number vertex part.now)) }
+        ensures can { OnOk result (CanPutBack self.old (laid_arc number vertex)) }
+        ensures laid { OnOk result (self.new ≡ with_cut_arc self.old (laid_arc number vertex)) }
         ensures sound { OnOk result (IsGraph self.new) }
-        ensures err { IfErr result (λ e. (e ≡ Refusal.BadOperand) × (can_lay self.old number.0 part.now.tip ≡ false)) }
+        ensures err { IfErr result (λ e. (e ≡ Refusal.BadOperand) × (has_arc self.old number.0 ≡ true)) }
     {
-        if !self.can_lay(number, part.tip) {
+        if self.has_arc(number) {
             return Err(Refusal::BadOperand);
         }
         self.put_arc(CutArc {
             number,
             owner: vertex,
             place: 0,
-            tip: part.tip,
-            len: part.len,
+            tip: Tip::Zero,
+            len: 0,
             fields: [Util::Zero, Util::Zero],
         });
         Ok(())
-    }
-
-    fn can_lay(&self, number: ArcNo, tip: Tip) -> bool
-        ensures { result ≡ can_lay self.now number.0 tip }
-    {
-        !self.has_arc(number) && can_lead(self.n(), tip)
     }
 
     // Links an arc whose number is a hole.
@@ -102,15 +109,6 @@ impl Graph {
     {
         self.slots.push_hole()?;
         Ok(())
-    }
-}
-
-fn can_lead(n: u32, tip: Tip) -> bool
-    ensures { result ≡ can_lead n tip }
-{
-    match tip {
-        Tip::Zero | Tip::One => true,
-        Tip::To(vertex) => vertex.0 < n,
     }
 }
 

@@ -18,7 +18,7 @@ pub loop-part-preserved-then-has_arc : goal.loop-part-preserved-then-has_arc
 loop-part-preserved-then-has_arc c =
     let at : c.len.result ≡ length c.pop.new.self.items = c.len.ensures ∙ c.pop.new.self.ok.0 in
     arc_filled_more c.args.arcs.items c.loop-part.arcs.items c.pop.new.self.items c.in-Some.part c.args.self.now c.loop-part.self c.fill_arc.new.self c.loop-part.invariant c.in-Some.ensures.items c.requires.made
-    (c.fill_arc.ensures.filled ∙ ap (λ k. with_filled_arc c.loop-part.self k c.in-Some.part.fields) at) c.fill_arc.ensures.sound
+    (c.fill_arc.ensures.filled ∙ ap (λ k. with_filled_arc c.loop-part.self k c.in-Some.part) at) c.fill_arc.ensures.sound
 
 pub loop-part-preserved : goal.loop-part-preserved
 loop-part-preserved c =
