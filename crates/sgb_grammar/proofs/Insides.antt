@@ -6,7 +6,6 @@ use Rattle.std.proofs.lemmas.List.{append-nil}
 use Rattle.sgb_graph.specs.Text.{is_text_byte}
 use Rattle.sgb_grammar.specs.Reading.{after, behind}
 use Rattle.sgb_grammar.specs.String.{inside_at, within, text_at}
-use Rattle.sgb_grammar.proofs.Words.{after-sound}
 
 pub behind_nothing : {A : Type 0} (m : Option (List A × List ℕ)) → behind [] m ≡ m
 behind_nothing None = refl
@@ -137,10 +136,6 @@ text_none limit bs inside e f = rw (e, f) refl
 pub no_text : (limit : ℕ) (bs : List ℕ) → after (34 ∷ []) bs ≡ None → text_at limit bs ≡ None
 unfolding text_at
 no_text limit bs e = rw e refl
-
-pub empty_text : (limit : ℕ) (bs rest : List ℕ) → after (34 ∷ 34 ∷ []) bs ≡ Some rest → text_at limit bs ≡ Some ([], rest)
-unfolding text_at after inside_at
-empty_text limit bs rest e = rw (after-sound (34 ∷ 34 ∷ []) bs rest e) (rw (le-leb 0 limit (omega arith)) refl)
 
 pub short : (limit : ℕ) (t rest : List ℕ) → length t ≤ limit → within limit (t, rest) ≡ Some (t, rest)
 short limit t rest h = rw (le-leb (length t) limit h) refl

@@ -1,27 +1,13 @@
 -- What digits spell.
-use Rattle.std.proofs.Common.{◌≡◌, ◌≢◌, ℕ, suc, ◌+◌, ◌-◌, ◌*◌, ◌^◌, ◌<◌, ◌≤◌, min, true, nat_lt, nat_le, List, [], ◌∷◌, take, drop, Option, Some, None, pos, neg_ℤ, refl, sym, ap, ◌∙◌, inl, inr, arith}
+use Rattle.std.proofs.Common.{◌≡◌, ◌≢◌, ℕ, ◌+◌, ◌-◌, ◌*◌, ◌^◌, ◌<◌, ◌≤◌, min, true, nat_lt, nat_le, List, take, drop, Option, Some, None, pos, neg_ℤ, refl, sym, ap, ◌∙◌, arith}
 use Rattle.std.specs.Option.{option_and_then}
-use Rattle.std.specs.Char.{is_ascii_digit, digit_value}
-use Rattle.std.specs.Str.Parse.{AllDigits, digits_value}
-use Rattle.std.proofs.lemmas.Bool.{cases_Bool, and_parts, lt-ltb, le-ltb, le-leb, lt-leb, leb-true, eq-eqb, ne_eqb}
+use Rattle.std.specs.Char.{digit_value}
+use Rattle.std.specs.Str.Parse.{digits_value}
+use Rattle.std.proofs.lemmas.Bool.{lt-ltb, le-ltb, le-leb, lt-leb, eq-eqb, ne_eqb}
 use Rattle.sgb_grammar.specs.Number.{digits_in, digits_at, count_of, positive_of, negative_of}
 
 pub digit_is : (c : ℕ) → 48 ≤ c → c ≤ 57 → digit_value c ≡ c - 48
 digit_is c low high = rw (le-ltb c 48 low, lt-ltb c 58 (omega arith)) refl
-
-digit_below : (c : ℕ) → is_ascii_digit c ≡ true → digit_value c < 10
-digit_below c h =
-    let p = and_parts (nat_le 48 c) (nat_le c 57) h in
-    let low = leb-true 48 c p.0 in
-    let high = leb-true c 57 p.1 in
-    rw (digit_is c low high) (omega arith)
-
-pub front_digits : (bs : List ℕ) → AllDigits 10 (take (digits_in bs) bs)
-front_digits [] = tt
-front_digits (c ∷ cs) = elim (cases_Bool (is_ascii_digit c)) [
-  | inl digit ↦ let more : 1 + digits_in cs ≡ suc (digits_in cs) = omega arith in rw (digit, more) (digit_below c digit, front_digits cs)
-  | inr other ↦ rw other tt
-]
 
 -- one digit more, each number cut off
 pub worth_more : (top n v p q d : ℕ) → v ≡ min n top → p ≡ min (v * 10) top → q ≡ min (p + d) top → q ≡ min (n * 10 + d) top

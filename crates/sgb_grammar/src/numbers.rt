@@ -1,8 +1,8 @@
 //! Numbers in a saved text.
-ghost use Rattle.std.specs.Prelude.{◌≡◌, ◌<◌, ◌≤◌, ◌-◌, ◌^◌, min, length, IfOk, FitsSigned};
+ghost use Rattle.std.specs.Prelude.{◌≡◌, ◌<◌, ◌≤◌, ◌-◌, ◌^◌, min, take, length, IfOk, FitsSigned};
 ghost use Rattle.std.specs.Int.{w64};
 ghost use Rattle.std.specs.Option.{option_and_then};
-ghost use Rattle.std.specs.Str.Parse.{AllDigits, digits_value};
+ghost use Rattle.std.specs.Str.Parse.{digits_value};
 ghost use Rattle.sgb_grammar.specs.Reading.{Spells};
 ghost use Rattle.sgb_grammar.specs.Private.Reading.{Capped};
 ghost use Rattle.sgb_grammar.specs.Number.{digits_in, digits_at, count_at, number_at, positive_of, negative_of};
@@ -82,31 +82,28 @@ fn negative(digits: &[u8]) -> Result<(i64, &[u8]), Fault>
 fn magnitude(bytes: &[u8]) -> Option<(u64, &[u8])>
     ensures { Capped result (digits_at bytes.now) }
 {
-    let (digits, rest) = bytes.split_at(count_digits(bytes));
-    if digits.is_empty() {
-        None
-    } else {
-        Some((worth(digits), rest))
+    let (count, value) = digits_of(bytes);
+    if count == 0 {
+        return None;
     }
+    let (_, rest) = bytes.split_at(count);
+    Some((value, rest))
 }
 
-fn count_digits(bytes: &[u8]) -> usize
-    ensures count { result ≡ digits_in bytes.now }
-    ensures within { result ≤ length bytes.now }
-{
-    bytes.iter().take_while(|b| b.is_ascii_digit()).count()
-}
-
-// The number that the digits spell, at most 2^64 - 1.
-fn worth(digits: &[u8]) -> u64
-    requires { AllDigits 10 digits.now }
-    ensures { result ≡ min (digits_value 10 digits.now) (2 ^ 64 - 1) }
+// How many digits there are at the front, and the number that they spell, at most 2^64 - 1.
+fn digits_of(bytes: &[u8]) -> (usize, u64)
+    ensures count { result.0 ≡ digits_in bytes.now }
+    ensures within { result.0 ≤ length bytes.now }
+    ensures value { result.1 ≡ min (digits_value 10 (take result.0 bytes.now)) (2 ^ 64 - 1) }
 {
     let mut value = 0u64;
-    for digit in digits {
+    'digits: for (i, byte) in bytes.iter().enumerate() {
+        if !byte.is_ascii_digit() {
+            return (i, value);
+        }
         value = value
             .saturating_mul(10)
-            .saturating_add(u64::from(digit.saturating_sub(b'0')));
+            .saturating_add(u64::from(*byte - b'0'));
     }
-    value
+    (bytes.len(), value)
 }

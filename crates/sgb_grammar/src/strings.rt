@@ -34,16 +34,31 @@ enum Ending<'a> {
     Line(&'a [u8]),
 }
 
-/// A name between quotes, and what follows it. The empty one takes no memory.
+/// A name between quotes, and what follows it. One that stands on one line is copied out of it, and takes no memory
+/// where it is short.
+#[tactic(auto, unfolding(crate::specs::String::text_at))]
 pub(crate) fn label(alloc: Global, bytes: &[u8]) -> Result<(Label, &[u8]), Fault>
     ensures { Reads result (text_at 4095 bytes.now) }
 {
-    match after(b"\"\"", bytes) {
-        Ok(rest) => Ok((Label::empty(), rest)),
-        Err(_) => {
+    let inside = after(b"\"", bytes)?;
+    match split_piece(inside) {
+        Some(Piece::Last(run, rest)) => short_label(alloc, run, rest),
+        _ => {
             let (name, rest) = text(alloc, TEXT_LIMIT, bytes)?;
             Ok((Label::new(name), rest))
         }
+    }
+}
+
+// The label of these bytes, where they are not too many.
+fn short_label<'a>(alloc: Global, bytes: &[u8], rest: &'a [u8]) -> Result<(Label, &'a [u8]), Fault>
+    requires { IsTrue (list_all is_text_byte bytes.now) }
+    ensures { Reads result (within 4095 (bytes.now, rest.now)) }
+{
+    match Label::from_bytes(alloc, bytes) {
+        Ok(name) => Ok((name, rest)),
+        Err(Refusal::NoRoom) => Err(Fault::NoRoom),
+        Err(_) => Err(Fault::Syntax),
     }
 }
 

@@ -6,9 +6,9 @@ use sgb_text::{CheckRule, Saved, restore, save};
 use std::alloc::{AllocError, Global};
 use std::test::Fail;
 
-// Memory is taken for records, names, texts in fields, and a text of several lines.
+// Memory is taken for records, a name that is not short, texts in fields, and a text of several lines.
 const TEXT: &[u8] =
-    b"* GraphBase graph (util_types IVASZZZAVISAIV,3V,3A)\n\"aaaaaaaaaaaaaaaaaaaaaaaaaaaaaaaaaaaaaaaaaaaaaaaaaaaaaaaaaaaaaaaaaaaaaaaaaaaaa\\\naaaaaaaaaaaaaaaaaaaaaaaaaaaaaaaaaaaaaaaaaaaaaaaaaaaaaaaaaaaaaaaaaaaaaaaaaaaaaa\\\naaaaa\",3,2,V1,77,\"text\",A0,-9223372036854775808,V0\n* Vertices\n\"first\",A0,-12,V2,A2,\"\"\n\"\",A2,0,1,0,\"a name, with a comma\"\n\"\",0,0,0,0,\"\"\n* Arcs\nV1,0,5,A2\n0,0,0,0\nV1,0,9223372036854775807,0\n* Checksum 971538260\n";
+    b"* GraphBase graph (util_types IVASZZZAVISAIV,3V,3A)\n\"aaaaaaaaaaaaaaaaaaaaaaaaaaaaaaaaaaaaaaaaaaaaaaaaaaaaaaaaaaaaaaaaaaaaaaaaaaaaa\\\naaaaaaaaaaaaaaaaaaaaaaaaaaaaaaaaaaaaaaaaaaaaaaaaaaaaaaaaaaaaaaaaaaaaaaaaaaaaaa\\\naaaaa\",3,2,V1,77,\"text\",A0,-9223372036854775808,V0\n* Vertices\n\"the first of all names\",A0,-12,V2,A2,\"\"\n\"\",A2,0,1,0,\"a name, with a comma\"\n\"\",0,0,0,0,\"\"\n* Arcs\nV1,0,5,A2\n0,0,0,0\nV1,0,9223372036854775807,0\n* Checksum 10032239\n";
 
 // The graph of the text. Where a growth is refused, it is asked for once more.
 fn restored(alloc: Global) -> Result<Graph, Refusal> {

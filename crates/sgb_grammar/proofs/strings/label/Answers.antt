@@ -1,8 +1,7 @@
-use Rattle.std.proofs.Common.{Some, ap, sym, ◌∙◌}
-use Rattle.sgb_grammar.proofs.Insides.{empty_text}
+use Rattle.std.proofs.Common.{false}
+use Rattle.sgb_grammar.proofs.Insides.{inside_texts}
 use Rattle.sgb_grammar.proofs.strings.label.Goals as goal
 
-pub returns-in-Ok : goal.returns-in-Ok
-returns-in-Ok c =
-    let rest = c.in-Ok.rest.now in
-    empty_text 4095 c.args.bytes.now rest c.in-Ok.ensures ∙ ap (λ l. Some (l, rest)) (sym c.empty.ensures)
+pub short_label-requires : goal.short_label-requires
+short_label-requires c =
+    inside_texts false c.in_ok-inside.inside.now (c.in-Some-Last.run'.now, c.in-Some-Last.rest.now) (rw c.in-Some-Last.field-0-is at c.in-Some-Last.ensures)
