@@ -41,7 +41,7 @@ impl Builder {
 
     /// Adds a vertex, last. Its fields name nothing; the number 0 and the empty text are stored as `Zero`. Refused
     /// `TooLarge` where there are 65,535 vertices.
-    #[inline]
+    #[inline(always)]
     pub fn push_vertex(&mut self, label: Label, fields: [Util; 6]) -> Result<(), Refusal>
         requires { All NamesNothing fields }
         ensures ok { OnOk result

@@ -6,13 +6,14 @@ ghost use Rattle.sgb_graph.specs.Edit.{stored};
 ghost use Rattle.sgb_graph.specs.Set.{IsStorable};
 ghost use Rattle.sgb_graph.specs.Vertex.{NamesNothing, new_vertex, with_vertex_last};
 
+use super::arena::is_zero;
 use super::set::stored;
 use super::{Graph, Link, MOST_ARCS, MOST_VERTICES, Vertex};
 use crate::{Label, Refusal, Util};
 
 impl Graph {
     // Adds a vertex, last. Its fields name nothing.
-    #[inline]
+    #[inline(always)]
     pub(crate) fn push_vertex(&mut self, label: Label, fields: [Util; 6]) -> Result<(), Refusal>
         requires { All NamesNothing fields }
         ensures ok { OnOk result (self.new ≡ with_vertex_last self.old (new_vertex label fields)) }
@@ -56,7 +57,7 @@ impl Graph {
 }
 
 // The values as they are stored. Most come that way, and are then not taken apart.
-#[inline]
+#[inline(always)]
 fn stored_six(fields: [Util; 6]) -> [Util; 6]
     ensures value { result ≡ map stored fields }
     ensures storable { All IsStorable result }
@@ -69,8 +70,8 @@ fn stored_six(fields: [Util; 6]) -> [Util; 6]
     }
 }
 
-// Each value is stored as it stands.
-#[inline]
+// Each value is stored as it stands. A call, so that the array stays in memory and moves as a whole.
+#[inline(never)]
 fn are_stored(fields: &[Util; 6]) -> bool
     ensures value { result ≡ true → map stored fields.now ≡ fields.now }
     ensures storable { result ≡ true → All IsStorable fields.now }
@@ -80,20 +81,25 @@ fn are_stored(fields: &[Util; 6]) -> bool
     is_stored(u) && is_stored(v) && is_stored(w) && is_stored(x) && is_stored(y) && is_stored(z)
 }
 
-// The value is stored as it stands: it is neither the number 0 nor the empty text.
+// The value is stored as it stands: it is neither the number 0 nor the empty text. Most are Zero.
 #[inline]
 fn is_stored(value: &Util) -> bool
     ensures value { result ≡ true → stored value.now ≡ value.now }
     ensures storable { result ≡ true → IsStorable value.now }
 {
+    if is_zero(value) {
+        return true;
+    }
     match value {
         Util::Int(number) => *number != 0,
         Util::Text(text) => !text.bytes().is_empty(),
-        Util::Zero | Util::Vertex(_) | Util::Arc(_) => true,
+        _ => true,
     }
 }
 
 // The values as they are stored, each by itself.
+#[cold]
+#[inline(never)]
 fn stored_each(fields: [Util; 6]) -> [Util; 6]
     ensures value { result ≡ map stored fields }
     ensures storable { All IsStorable result }
