@@ -395,13 +395,12 @@ class Tally:
 
     def try_all(self, crates, files):
         """Tries the edits of the crates, lowest first, or as they are proved."""
-        started = []
-        for crate in crates:
-            given = [it for it in files if it.startswith(crate.folder + '/')]
-            started.append(threading.Thread(target=self.try_crate, args=[crate, given]))
-            started[-1].start()
-        for it in started:
-            it.join()
+        with ThreadPoolExecutor(max(1, len(crates))) as each:
+            started = [each.submit(self.try_crate, crate, [it for it in files if it.startswith(crate.folder + '/')])
+                       for crate in crates]
+            # What stops one of them stops the run, so that no crate is passed over.
+            for it in started:
+                it.result()
 
 
 def main():
