@@ -27,6 +27,8 @@ from concurrent.futures import ThreadPoolExecutor
 
 # What one check takes, at most.
 MEMORY = 3_000_000_000
+# How many edits a check takes, at most: one that takes all of a large crate would run alone, long after the others.
+AT_ONCE = 20
 # One check is started at a time.
 STARTING = threading.Lock()
 
@@ -156,16 +158,16 @@ def edits_of(crate, files):
 
 
 def groups_of(edits):
-    """The edits in groups with at most one edit a function, and each that edits no body in one of its own."""
+    """The edits in groups with at most one edit a function and AT_ONCE in all, and each that edits no body in one of its own."""
     groups = []
     for edit in edits:
         keys = {it.key for it in edit.functions}
-        fit = next((keys_of for keys_of, _ in groups if keys and keys_of and not keys & keys_of), None)
+        fit = next((it for it in groups if keys and it[0] and not keys & it[0] and len(it[1]) < AT_ONCE), None)
         if fit is None:
             groups.append((keys, [edit]))
         else:
-            next(edits for keys_of, edits in groups if keys_of is fit).append(edit)
-            fit |= keys
+            fit[0].update(keys)
+            fit[1].append(edit)
     return [edits for _, edits in groups]
 
 
