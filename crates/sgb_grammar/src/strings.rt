@@ -15,7 +15,7 @@ use std::alloc::Global;
 /// The most bytes of a label and of a text in a field.
 pub(crate) const TEXT_LIMIT: usize = 4095;
 
-/// Room for the lines of a text, of which most are of two.
+/// Room for two lines of a text. Few have more.
 const ROOM: usize = 160;
 
 /// A run of a text. Its bytes are looked at when they become one.
