@@ -3,8 +3,8 @@ use Rattle.std.proofs.Common.{◌≡◌, ℕ, suc, ◌+◌, ◌-◌, ◌*◌, �
 use Rattle.std.specs.List.{prefix_len}
 use Rattle.std.proofs.lemmas.Bool.{cases_Bool, cases_eq, and_parts, eqb-true}
 use Rattle.std.proofs.lemmas.List.{take_more, take-append-drop}
-use Rattle.std.proofs.lemmas.Nat.{pow-add}
-use Rattle.std.proofs.Math.Nat.{add-mul-mod_self_right, mod-add-div', mod-eq_of_lt}
+use Rattle.std.proofs.lemmas.Nat.{pow-add, shl_whole, shl_below}
+use Rattle.std.proofs.Math.Nat.{pow-le-pow_right, add-mul-mod_self_right, mod-add-div', mod-eq_of_lt}
 use Rattle.sgb_grammar.specs.Check.{code_of, lines_of, with_first, covered, weighed, check_of}
 
 -- ---- weights
@@ -38,24 +38,37 @@ reduced a b c p =
     ap (λ k. k % p) (parts_of_sum a (a % p) (a / p) b c p (mod-add-div' a p))
     ∙ add-mul-mod_self_right (a % p * b + c) (a / p * b) p
 
-pub byte_adds : (s v code : ℕ) (xs : List ℕ) (i : ℕ) → i < length xs → v ≡ s * 2 ^ i + weighed (take i xs) → code ≡ code_of (get_or xs i 0)
-    → v * 2 + code ≡ s * 2 ^ (i + 1) + weighed (take (i + 1) xs)
-byte_adds s v code xs i h e f =
-    let c = code_of (get_or xs i 0) in
-    let w = weighed (take i xs) in
-    let doubled : v * 2 + code ≡ s * (2 ^ i * 2) + (w * 2 + c) = omega (arith, e, f) in
-    doubled ∙ ap (λ k. s * k + (w * 2 + c)) (sym (pow-add 2 i 1)) ∙ ap (λ k. s * 2 ^ (i + 1) + k) (sym (weighed_more xs i h))
+pub byte_adds : (v code : ℕ) (xs : List ℕ) (i : ℕ) → i < length xs → v ≡ weighed (take i xs) → code ≡ code_of (get_or xs i 0)
+    → v * 2 + code ≡ weighed (take (i + 1) xs)
+byte_adds v code xs i h e f =
+    ap (λ k. k * 2 + code) e ∙ ap (λ k. weighed (take i xs) * 2 + k) f ∙ sym (weighed_more xs i h)
 
--- a sum of few bytes has a place in 64 bits
-pub byte_fits : (v code i : ℕ) → code < 256 → v + 255 ≤ (2 ^ 30 + 172) * 2 ^ i → v * 2 + code + 255 ≤ (2 ^ 30 + 172) * 2 ^ (i + 1)
+-- what a block weighs is small
+pub byte_fits : (v code i : ℕ) → code < 256 → v + 255 ≤ 255 * 2 ^ i → v * 2 + code + 255 ≤ 255 * 2 ^ (i + 1)
 byte_fits v code i h e =
     let power : 2 ^ (i + 1) ≡ 2 ^ i * 2 = pow-add 2 i 1 in
-    let doubled : v * 2 + code + 255 ≤ (2 ^ 30 + 172) * (2 ^ i * 2) = omega (arith, h, e) in
-    subst (λ k. v * 2 + code + 255 ≤ (2 ^ 30 + 172) * k) (sym power) doubled
+    let doubled : v * 2 + code + 255 ≤ 255 * (2 ^ i * 2) = omega (arith, h, e) in
+    subst (λ k. v * 2 + code + 255 ≤ 255 * k) (sym power) doubled
 
-pub nothing_adds : (s : ℕ) → s ≡ s * 2 ^ 0 + weighed []
+pub block_fits : (v i : ℕ) → i ≤ 32 → v + 255 ≤ 255 * 2 ^ i → v < 2 ^ 40
+block_fits v i h e =
+    let power : 2 ^ i ≤ 2 ^ 32 = pow-le-pow_right (let two : 0 < 2 = omega arith in two) h in
+    omega (arith, power, e)
+
+pub nothing_alone : 0 ≡ weighed []
 unfolding weighed
-nothing_adds s = omega arith
+nothing_alone = refl
+
+-- a sum stands before a block in 64 bits
+pub sum_moved : (s k : ℕ) → s < 2 ^ 30 - 83 → k ≤ 32 → (s * 2 ^ k) % 2 ^ 64 ≡ s * 2 ^ k
+sum_moved s k h few = shl_whole s 30 k 64 (omega (arith, h)) (omega (arith, few))
+
+pub sum_fits : (s k : ℕ) → s < 2 ^ 30 - 83 → k ≤ 32 → s * 2 ^ k < 2 ^ 62
+sum_fits s k h few =
+    let room : 30 + k ≤ 62 = omega (arith, few) in
+    let power : 2 ^ (30 + k) ≤ 2 ^ 62 = pow-le-pow_right (let two : 0 < 2 = omega arith in two) room in
+    let moved : s * 2 ^ k < 2 ^ (30 + k) = shl_below s 30 k (omega (arith, h)) in
+    omega (arith, power, moved)
 
 pub line_weighs : (s p : ℕ) (xs ys : List ℕ)
     → (s * 2 ^ length (xs ++ ys) + weighed (xs ++ ys)) % p ≡ ((s * 2 ^ length xs + weighed xs) % p * 2 ^ length ys + weighed ys) % p

@@ -69,7 +69,16 @@ fn weigh_block(sum: u64, block: &[u8]) -> u64
     requires block { length block.now ≤ 32 }
     ensures { result ≡ sum * 2 ^ length block.now + weighed block.now }
 {
-    let mut value = sum;
+    (sum << block.len()) + weigh_alone(block)
+}
+
+// What a block weighs by itself: a processor that adds it up need not know the sum of those before it yet.
+fn weigh_alone(block: &[u8]) -> u64
+    requires { length block.now ≤ 32 }
+    ensures value { result ≡ weighed block.now }
+    ensures small { result < 2 ^ 40 }
+{
+    let mut value = 0;
     'bytes: for byte in block {
         value = value * 2 + u64::from(code_of(*byte));
     }

@@ -1,5 +1,6 @@
 //! Tips, links and the fields of a record.
-ghost use Rattle.std.specs.Prelude.{◌≡◌, ◌<◌, ◌^◌, length, IfOk};
+ghost use Rattle.std.specs.Prelude.{◌≡◌, ◌==◌, ◌<◌, ◌^◌, length, IfOk};
+ghost use Rattle.std.specs.List.{list_all};
 ghost use Rattle.sgb_grammar.specs.Reading.{Spells};
 ghost use Rattle.sgb_grammar.specs.Private.Reading.{Passes, Reads, Fills};
 ghost use Rattle.sgb_grammar.specs.Field.{comma_at, index_at, link_at, tip_at, vertex_value_at, arc_value_at, value_at, field_at, fields_at, after_break};
@@ -60,6 +61,14 @@ pub(crate) fn tip(bytes: &[u8]) -> Result<(Tip, &[u8]), Fault>
         }
         _ => Err(Fault::Syntax),
     }
+}
+
+/// No field has one of these letters: each is `Z`.
+#[inline]
+pub(crate) fn is_none_written(letters: &[u8]) -> bool
+    ensures { result ≡ list_all (λ l. l == 90) letters.now }
+{
+    letters.iter().all(|letter| *letter == b'Z')
 }
 
 /// The fields of these letters, each left at its place in `fields`, and what follows them. After a fault some of them

@@ -1,11 +1,10 @@
 //! Texts between quotes.
-ghost use Rattle.std.specs.Prelude.{◌≡◌, ◌<◌, ◌≤◌, ◌⊎◌, length, false, IsTrue, IfOk, IfErr, Some, slice_index};
-ghost use Rattle.std.specs.List.{prefix_len, list_all};
-ghost use Rattle.sgb_graph.specs.Text.{is_text_byte};
+ghost use Rattle.std.specs.Prelude.{◌≡◌, ◌<◌, ◌≤◌, ◌⊎◌, length, false, IfOk, IfErr, Some, slice_index_or};
+ghost use Rattle.std.specs.List.{prefix_len};
 ghost use Rattle.sgb_grammar.specs.Reading.{Fails};
 ghost use Rattle.sgb_grammar.specs.Private.Reading.{Reads};
-ghost use Rattle.sgb_grammar.specs.String.{inside_at, text_at, within};
-ghost use Rattle.sgb_grammar.specs.Private.Pieces.{Splits, Ends, goes_on};
+ghost use Rattle.sgb_grammar.specs.String.{text_at};
+ghost use Rattle.sgb_grammar.specs.Private.Pieces.{Splits, Ends, goes_on, joined_at, text_within};
 
 use crate::Fault;
 use crate::bytes::{after, next};
@@ -16,7 +15,10 @@ use std::alloc::Global;
 /// The most bytes of a label and of a text in a field.
 pub(crate) const TEXT_LIMIT: usize = 4095;
 
-/// A run of a text.
+/// Room for two lines of a text. Few have more.
+const ROOM: usize = 160;
+
+/// A run of a text. Its bytes are looked at when they become one.
 #[derive(Clone, Copy)]
 enum Piece<'a> {
     /// The text ends with it; what follows the closing quote.
@@ -50,10 +52,9 @@ pub(crate) fn label(alloc: Global, bytes: &[u8]) -> Result<(Label, &[u8]), Fault
     }
 }
 
-// The label of these bytes, where they are not too many.
+// The label of these bytes, where they are one.
 fn short_label<'a>(alloc: Global, bytes: &[u8], rest: &'a [u8]) -> Result<(Label, &'a [u8]), Fault>
-    requires { IsTrue (list_all is_text_byte bytes.now) }
-    ensures { Reads result (within 4095 (bytes.now, rest.now)) }
+    ensures { Reads result (text_within 4095 (bytes.now, rest.now)) }
 {
     match Label::from_bytes(alloc, bytes) {
         Ok(name) => Ok((name, rest)),
@@ -63,7 +64,7 @@ fn short_label<'a>(alloc: Global, bytes: &[u8], rest: &'a [u8]) -> Result<(Label
 }
 
 /// A text of at most `limit` bytes between quotes, and what follows it.
-#[tactic(auto, unfolding(crate::specs::String::text_at))]
+#[tactic(auto, using(crate::proofs::Insides::text_unjoined), unfolding(crate::specs::String::text_at))]
 pub(crate) fn text(alloc: Global, limit: usize, bytes: &[u8]) -> Result<(Text, &[u8]), Fault>
     requires { limit ≤ 4095 }
     ensures { Reads result (text_at limit bytes.now) }
@@ -79,16 +80,15 @@ pub(crate) fn text(alloc: Global, limit: usize, bytes: &[u8]) -> Result<(Text, &
     }
 }
 
-// The text of these bytes, where they are not too many.
+// The text of these bytes, where they are one and not too many.
 fn short_text<'a>(
     alloc: Global,
     limit: usize,
     bytes: &[u8],
     rest: &'a [u8],
 ) -> Result<(Text, &'a [u8]), Fault>
-    requires limit { limit ≤ 4095 }
-    requires printable { IsTrue (list_all is_text_byte bytes.now) }
-    ensures { Reads result (within limit (bytes.now, rest.now)) }
+    requires { limit ≤ 4095 }
+    ensures { Reads result (text_within limit (bytes.now, rest.now)) }
 {
     if bytes.len() > limit {
         return Err(Fault::Syntax);
@@ -100,12 +100,12 @@ fn short_text<'a>(
     }
 }
 
-// The text up to the closing quote, joined where lines end.
+// What stands up to the closing quote, joined where lines end.
 fn gather(alloc: Global, bytes: &[u8]) -> Result<(Vec<u8>, &[u8]), Fault>
-    ensures ok { IfOk result (λ p. inside_at false bytes.now ≡ Some (p.0.items, p.1.now)) }
-    ensures err { IfErr result (λ e. Fails e (inside_at false bytes.now)) }
+    ensures ok { IfOk result (λ p. joined_at false bytes.now ≡ Some (p.0.items, p.1.now)) }
+    ensures err { IfErr result (λ e. Fails e (joined_at false bytes.now)) }
 {
-    let mut text = Vec::new(alloc);
+    let mut text = Vec::with_capacity(alloc, ROOM)?;
     let mut rest = bytes;
     'lines: loop {
         match split_piece(rest) {
@@ -130,7 +130,7 @@ fn gather(alloc: Global, bytes: &[u8]) -> Result<(Vec<u8>, &[u8]), Fault>
 fn split_piece(bytes: &[u8]) -> Option<Piece<'_>>
     ensures { Splits result bytes.now }
 {
-    let (run, rest) = bytes.split_at(count_text_bytes(bytes));
+    let (run, rest) = bytes.split_at(count_to_mark(bytes));
     match split_ending(rest) {
         Some(Ending::Quote(behind)) => Some(Piece::Last(run, behind)),
         Some(Ending::Line(line)) => Some(Piece::Broken(run, line)),
@@ -138,16 +138,14 @@ fn split_piece(bytes: &[u8]) -> Option<Piece<'_>>
     }
 }
 
+// What the quote or backslash at the front ends.
 fn split_ending(bytes: &[u8]) -> Option<Ending<'_>>
-    requires { is_text_byte (slice_index bytes.now 0) ≡ false }
+    requires { goes_on (slice_index_or bytes.now 0 34) ≡ false }
     ensures { Ends result bytes.now }
 {
     let (first, rest) = next(bytes)?;
     if first == b'"' {
         return Some(Ending::Quote(rest));
-    }
-    if first != b'\\' {
-        return None;
     }
     let (end, line) = next(rest)?;
     if end == b'\n' {
@@ -155,19 +153,6 @@ fn split_ending(bytes: &[u8]) -> Option<Ending<'_>>
     } else {
         None
     }
-}
-
-// How many text bytes there are at the front. The first quote or backslash ends them, where no other byte does.
-fn count_text_bytes(bytes: &[u8]) -> usize
-    ensures count { result ≡ prefix_len is_text_byte bytes.now }
-    ensures within { result ≤ length bytes.now }
-{
-    let end = count_to_mark(bytes);
-    let (run, _) = bytes.split_at(end);
-    if are_text_bytes(run) {
-        return end;
-    }
-    bytes.iter().take_while(|b| is_text_byte(**b)).count()
 }
 
 // How many bytes there are before the first quote or backslash.
@@ -179,21 +164,4 @@ fn count_to_mark(bytes: &[u8]) -> usize
         Some(end) => end,
         None => bytes.len(),
     }
-}
-
-// Looks at all of them, whatever it meets: so many are looked at together.
-fn are_text_bytes(bytes: &[u8]) -> bool
-    ensures { result ≡ list_all is_text_byte bytes.now }
-{
-    let mut all = true;
-    'bytes: for byte in bytes {
-        all = all & is_text_byte(*byte);
-    }
-    all
-}
-
-fn is_text_byte(byte: u8) -> bool
-    ensures { result ≡ is_text_byte byte }
-{
-    byte >= b' ' && byte <= b'~' && byte != b'"' && byte != b'\\'
 }

@@ -1,7 +1,9 @@
-use Rattle.std.proofs.Common.{false}
-use Rattle.sgb_grammar.proofs.Insides.{inside_texts}
+use Rattle.std.proofs.Common.{sym, subst}
+use Rattle.sgb_grammar.specs.Private.Reading.{Reads}
+use Rattle.sgb_grammar.proofs.Insides.{text_joined}
 use Rattle.sgb_grammar.proofs.strings.label.Goals as goal
 
-pub short_label-requires : goal.short_label-requires
-short_label-requires c =
-    inside_texts false c.in_ok-inside.inside.now (c.in-Some-Last.run'.now, c.in-Some-Last.rest.now) (rw c.in-Some-Last.field-0-is at c.in-Some-Last.ensures)
+pub returns-in-Some-Last : goal.returns-in-Some-Last
+returns-in-Some-Last c =
+    let joined = text_joined 4095 c.args.bytes.now c.in_ok-inside.inside.now (c.in-Some-Last.run'.now, c.in-Some-Last.rest.now) c.in_ok-inside.ensures (rw c.in-Some-Last.field-0-is at c.in-Some-Last.ensures) in
+    subst (λ m. Reads c.short_label.result m) (sym joined) c.short_label.ensures
