@@ -5,7 +5,7 @@ ghost use Rattle.sgb_graph.specs.Graph.{n_of};
 ghost use Rattle.sgb_graph.specs.Builder.{Inserts};
 ghost use Rattle.sgb_operand.specs.Operand.{IsWithin};
 ghost use Rattle.sgb_plan.specs.Plan.{IsMade};
-ghost use Rattle.sgb_combine.specs.Complement.{is_wanted, unit_step, wanted_steps, complement_at, plan_of_complement};
+ghost use Rattle.sgb_combine.specs.Complement.{leads_to, is_wanted, unit_step, wanted_steps, complement_at, plan_of_complement};
 ghost use Rattle.sgb_combine.specs.Private.Targets.{IsInOrder};
 
 use crate::ComplementSpec;
@@ -94,12 +94,13 @@ fn insert_wanted(
         return insert_joined(builder, tips, vertex, spokes, spec);
     }
     lowest.keep(spokes)?;
-    insert_missing(builder, lowest, vertex, spec)
+    insert_missing(builder, tips, lowest, vertex, spec)
 }
 
-// Asks of every vertex if it is wanted.
+// Asks of every vertex if it is wanted. What is asked and what is inserted are two turns, each of them short.
 fn insert_missing(
     builder: &mut Builder,
+    tips: &mut Vec<u32>,
     lowest: &Lowest,
     vertex: VertexNo,
     spec: ComplementSpec,
@@ -108,11 +109,27 @@ fn insert_missing(
     ensures { Inserts builder.old builder.new
         (wanted_steps spec (n_of builder.old.graph) vertex.0 lowest.now.spokes.items) result }
 {
-    for w in 0..builder.graph().n() {
+    read_missing(tips, builder.graph().n(), vertex, lowest, spec)?;
+    insert_steps(builder, vertex, tips)
+}
+
+// Those of n vertices that are wanted, in place of what the buffer holds.
+fn read_missing(
+    tips: &mut Vec<u32>,
+    n: u32,
+    vertex: VertexNo,
+    lowest: &Lowest,
+    spec: ComplementSpec,
+) -> Result<(), AllocError>
+    ensures { OnOk result
+        (tips.new.items ≡ filter (λ w. is_wanted spec vertex.0 (leads_to lowest.now.spokes.items w) w) (range_with_len 0 n)) }
+{
+    tips.clear();
+    for w in 0..n {
         if !is_wanted(spec, vertex.0, lowest.leads_to(w), w) {
             continue;
         }
-        builder.insert(vertex, VertexNo(w), 1)?;
+        tips.push(w)?;
     }
     Ok(())
 }

@@ -41,7 +41,7 @@ entry_aim t z (Some s) None same live = absurd cc
 entry_aim t z (Some s) (Some e) same live = ap (λ o. Some (record (arc_or no_arc o) { tip = t; len = z })) same
 
 pub aim_opened : (a b : Inside) (g : GraphOf) (k : ℕ) (t : Tip) (z : ℤ) → Opened a g → has_arc g k ≡ true → IsTip (n_of g) t → FitsSigned w64 z
-    → b.id ≡ a.id → b.types ≡ a.types → b.fields ≡ a.fields → b.live ≡ a.live → b.vertices.items ≡ a.vertices.items
+    → b.id ≡ a.id → b.types ≡ a.types → b.fields ≡ a.fields → b.live ≡ a.live → b.vertices ≡ a.vertices
     → b.slots ≡ set a.slots k (with_aim_in t z (slot_at a.slots k)) → Opened b (with_aim g k t z)
 unfolding with_aim
 aim_opened a b g k t z o there leads fits id types fields live vertices slots =
@@ -61,7 +61,7 @@ aim_opened a b g k t z o there leads fits id types fields live vertices slots =
     let keeps : Keeps (n_of g) g.entries (n_of h) h.entries = record { vertices = omega arith; arcs = λ j l. still j ∙ l } in
     let arc' : IsArc (n_of h) h.entries e = IsArc-keeps (n_of g) (n_of h) g.entries h.entries e keeps arc in
     let one : Option ArcOf → ℕ = λ r. cond (is_some r) 1 0 in
-    let vs = a.vertices.items in
+    let vs = a.vertices in
     let ss = a.slots in
     let p = with_aim_in t z (slot_at ss k) in
     let ts = set ss k p in
@@ -147,7 +147,7 @@ pub record AimDone (b : Inside) (g : GraphOf) (k : ℕ) (t : Tip) (z : ℤ) : Ty
   pub sound : IsGraph (graph_of b)
 
 pub aim_done : (a b : Inside) (g : GraphOf) (k : ℕ) (t t' : Tip) (z z' : ℤ) → graph_of a ≡ g → IsArena a → has_arc g k ≡ true → can_lead (n_of g) t ≡ true → FitsSigned w64 z → t' ≡ t → z' ≡ z
-    → b.id ≡ a.id → b.types ≡ a.types → b.fields ≡ a.fields → b.live ≡ a.live → b.vertices.items ≡ a.vertices.items
+    → b.id ≡ a.id → b.types ≡ a.types → b.fields ≡ a.fields → b.live ≡ a.live → b.vertices ≡ a.vertices
     → b.slots ≡ set a.slots k (with_aim_in t' z' (slot_at a.slots k)) → AimDone b g k t z
 aim_done a b g k t t' z z' same arena there leads fits tip len id types fields live vertices slots =
     let o = opened a g same arena in

@@ -40,7 +40,7 @@ use Rattle.sgb_graph.proofs.TakeOut.{found_live, take_sound, take_m}
 pub record CutCan (a : Inside) (g : GraphOf) (k : ℕ) (vs : List Vertex) (ss : Slots) : Type 0 where
   pub opened : Opened a g
   pub can : CanTakeOut g k
-  pub vertices : vs ≡ a.vertices.items
+  pub vertices : vs ≡ a.vertices
   pub slots : ss ≡ a.slots
 
 pub cut_requires : (a : Inside) (g : GraphOf) (k : ℕ) (vs : List Vertex) (ss : Slots) → CutCan a g k vs ss → CanBeTakenOut vs ss k
@@ -55,7 +55,7 @@ pub record CutLeft (b : Inside) (g : GraphOf) (k : ℕ) (c : CutArc) : Type 0 wh
   pub sound : IsGraph (graph_of b)
 
 pub cut_left : (a b : Inside) (g : GraphOf) (k : ℕ) (c : CutArc) (vs ws : List Vertex) (ss ts : Slots) → CutCan a g k vs ss → refusal_of_cut g k ≡ None
-    → TakesOut vs ss k c ws ts → b.vertices.items ≡ ws → b.slots ≡ ts → b.live ≡ a.live - 1 → SameOwn a b → CutLeft b g k c
+    → TakesOut vs ss k c ws ts → b.vertices ≡ ws → b.slots ≡ ts → b.live ≡ a.live - 1 → SameOwn a b → CutLeft b g k c
 unfolding without_arc without_listed
 cut_left a b g k c vs ws ss ts x accepted takes vertices slots live own =
     let o = x.opened in
@@ -133,7 +133,7 @@ take_hole vs ts g x =
 -- undoing a cut
 pub record RevertCan (a : Inside) (h : GraphOf) (vs : List Vertex) (ss : Slots) : Type 0 where
   pub opened : Opened a h
-  pub vertices : vs ≡ a.vertices.items
+  pub vertices : vs ≡ a.vertices
   pub slots : ss ≡ a.slots
 
 pub cut_taken : (g h : GraphOf) (c : CutArc) → LeftByCut g c h → CanTakeOut g c.number.0
@@ -155,14 +155,14 @@ revert_cut_requires a h c vs ss g x left =
     record { graph = h; sound = x.opened.graph; shows = rw (x.vertices, x.slots) x.opened.shows; can = revert_cut_can g h c left }
 
 pub revert_cut_after : (a b : Inside) (h : GraphOf) (c : CutArc) (vs ws : List Vertex) (ss ts : Slots) (g : GraphOf) → RevertCan a h vs ss → LeftByCut g c h
-    → PutsBack vs ss c ws ts → b.vertices.items ≡ ws → b.slots ≡ ts → b.live ≡ a.live + 1 → SameOwn a b → Opened b g
+    → PutsBack vs ss c ws ts → b.vertices ≡ ws → b.slots ≡ ts → b.live ≡ a.live + 1 → SameOwn a b → Opened b g
 revert_cut_after a b h c vs ws ss ts g x left puts vertices slots live own =
     let o = x.opened in
     let can = cut_taken g h c left in
     let f = found_live g c.number.0 left.graph can.live in
     let back : with_cut_arc h c ≡ g =
     ap (λ k. with_cut_arc k c) left.left ∙ (ap (with_cut_arc (without_arc g c.number.0)) left.arc ∙ with_cut_arc-without_arc g c.number.0 f) in
-    let shows : Shows b.vertices.items b.slots (with_cut_arc h c) = rw (vertices, slots) (puts h (rw (x.vertices, x.slots) o.shows) o.graph (revert_cut_can g h c left)) in
+    let shows : Shows b.vertices b.slots (with_cut_arc h c) = rw (vertices, slots) (puts h (rw (x.vertices, x.slots) o.shows) o.graph (revert_cut_can g h c left)) in
     subst (Opened b) back
     (put_after b h c o.graph (revert_cut_can g h c left) shows (live ∙ ap (λ n. n + 1) o.live) (own.id ∙ o.id) (own.types ∙ o.types) (own.fields ∙ o.fields))
 
@@ -227,7 +227,7 @@ unfolding with_arc with_listed with_entry_last
 same_own g h k l = (ap (λ z. z.id) l.left, ap (λ z. z.types) l.left, ap (λ z. z.fields) l.left)
 
 pub revert_arc_after : (a b : Inside) (h : GraphOf) (k : ArcNo) (c : CutArc) (vs ws : List Vertex) (ss ts : Slots) (g : GraphOf) → RevertCan a h vs ss → LeftByArc g k h
-    → TakesOut vs ss k.0 c ws ts → b.vertices.items ≡ ws → b.slots ≡ take k.0 ts → b.live ≡ a.live - 1 → SameOwn a b → Opened b g
+    → TakesOut vs ss k.0 c ws ts → b.vertices ≡ ws → b.slots ≡ take k.0 ts → b.live ≡ a.live - 1 → SameOwn a b → Opened b g
 revert_arc_after a b h k c vs ws ss ts g x l takes vertices slots live own =
     let o = x.opened in
     let can = revert_arc_can g h k l in
@@ -325,7 +325,7 @@ revert_edge_live g h k sound l =
     omega (arith, take_m h k.0 (found_live h k.0 sound y.can.live), take_m (without_arc h k.0) (k.0 + 1) (found_live (without_arc h k.0) (k.0 + 1) y.middle y.next.live), ap m_of y.law, hole_m g, hole_m (with_hole g))
 
 pub revert_edge_after : (a b : Inside) (h : GraphOf) (k : ArcNo) (vs ws : List Vertex) (ss ts : Slots) (g : GraphOf) → RevertCan a h vs ss → LeftByEdge g k h
-    → TakesOutBoth vs ss k.0 ws ts → b.vertices.items ≡ ws → b.slots ≡ take k.0 ts → b.live ≡ a.live - 2 → SameOwn a b → Opened b g
+    → TakesOutBoth vs ss k.0 ws ts → b.vertices ≡ ws → b.slots ≡ take k.0 ts → b.live ≡ a.live - 2 → SameOwn a b → Opened b g
 revert_edge_after a b h k vs ws ss ts g x l takes vertices slots live own =
     let o = x.opened in
     let y = revert_edge_can g h k l in

@@ -81,7 +81,7 @@ new_arcs g x v none =
 
 pub grow_opened : (a b : Inside) (g : GraphOf) (label : List ℕ) (us : List Util) (y : vertex.Vertex) → Opened a g → n_of g < 65535 → IsText label → length (map stored us) ≡ 6 → All NamesNothing us → All IsStorable (map stored us)
     → y ≡ record { label = label; fields = map stored us; first = None }
-    → b.id ≡ a.id → b.types ≡ a.types → b.fields ≡ a.fields → b.live ≡ a.live → b.slots ≡ a.slots → b.vertices.items ≡ a.vertices.items ++ y ∷ []
+    → b.id ≡ a.id → b.types ≡ a.types → b.fields ≡ a.fields → b.live ≡ a.live → b.slots ≡ a.slots → b.vertices ≡ a.vertices ++ y ∷ []
     → Opened b (with_vertex_last g (new_vertex label us))
 unfolding with_vertex_last Leads
 grow_opened a b g label us y o few text six plain storable is id types fields live slots vertices =
@@ -91,7 +91,7 @@ grow_opened a b g label us y o few text six plain storable is id types fields li
     let n : n_of h ≡ n_of g + 1 = length_push g.vertices x in
     let keeps : Keeps (n_of g) g.entries (n_of h) h.entries = record { vertices = omega (arith, n); arcs = λ k l. l } in
     let new : vertex.Vertex = record { label = label; fields = map stored us; first = None } in
-    let vs = a.vertices.items in
+    let vs = a.vertices in
     let ss = a.slots in
     let m : length (vs ++ new ∷ []) ≡ length vs + 1 = length_push vs new in
     let shown : Shows (vs ++ new ∷ []) ss h = record {

@@ -19,7 +19,7 @@ entries_honest types (None ∷ ss) = entries_honest types ss
 entries_honest types (Some s ∷ ss) = ap (λ b. are_allowed (arc_letters types) s.fields && b) (entries_honest types ss)
 
 pub honest_is : (a : Inside) (g : GraphOf) (letters rest us vs ws : List ℕ) (vertices : List Vertex) (ss : Slots) (x y z : Bool) → graph_of a ≡ g
-    → letters ≡ a.types → us ≡ take 6 letters → rest ≡ drop 6 letters → vs ≡ take 2 rest → ws ≡ drop 2 rest → vertices ≡ a.vertices.items → ss ≡ a.slots
+    → letters ≡ a.types → us ≡ take 6 letters → rest ≡ drop 6 letters → vs ≡ take 2 rest → ws ≡ drop 2 rest → vertices ≡ a.vertices → ss ≡ a.slots
     → x ≡ are_allowed ws a.fields → y ≡ list_all (λ v. are_allowed us v.fields) vertices → z ≡ list_all (λ o. are_allowed vs (fields_in o)) ss
     → (x && y && z) ≡ is_honest g
 honest_is a g letters rest us vs ws vertices ss x y z same ls us_is rest_is vs_is ws_is vertices_is ss_is x_is y_is z_is =
@@ -29,11 +29,11 @@ honest_is a g letters rest us vs ws vertices ss x y z same ls us_is rest_is vs_i
     let v : vs ≡ arc_letters t = vs_is ∙ ap (take 2) r in
     let w : ws ≡ graph_letters t = ws_is ∙ (ap (drop 2) r ∙ drop-drop 2 6 t) in
     let one : x ≡ are_allowed (graph_letters t) a.fields = x_is ∙ ap (λ l. are_allowed l a.fields) w in
-    let two : y ≡ list_all (is_honest_vertex t) (map (vertex_of a.slots) a.vertices.items) =
-    y_is ∙ (ap (λ l. list_all (λ q. are_allowed l q.fields) vertices) u ∙ (ap (list_all (λ q. are_allowed (vertex_letters t) q.fields)) vertices_is ∙ sym (vertices_honest t a.slots a.vertices.items))) in
+    let two : y ≡ list_all (is_honest_vertex t) (map (vertex_of a.slots) a.vertices) =
+    y_is ∙ (ap (λ l. list_all (λ q. are_allowed l q.fields) vertices) u ∙ (ap (list_all (λ q. are_allowed (vertex_letters t) q.fields)) vertices_is ∙ sym (vertices_honest t a.slots a.vertices))) in
     let three : z ≡ list_all (is_honest_entry t) (map entry_of a.slots) =
     z_is ∙ (ap (λ l. list_all (λ o. are_allowed l (fields_in o)) ss) v ∙ (ap (list_all (λ o. are_allowed (arc_letters t) (fields_in o))) ss_is ∙ sym (entries_honest t a.slots))) in
     ap (λ b. b && y && z) one
     ∙ (ap (λ b. are_allowed (graph_letters t) a.fields && b && z) two
-    ∙ (ap (λ b. are_allowed (graph_letters t) a.fields && list_all (is_honest_vertex t) (map (vertex_of a.slots) a.vertices.items) && b) three
+    ∙ (ap (λ b. are_allowed (graph_letters t) a.fields && list_all (is_honest_vertex t) (map (vertex_of a.slots) a.vertices) && b) three
     ∙ ap is_honest same))

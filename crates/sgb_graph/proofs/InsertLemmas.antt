@@ -26,7 +26,7 @@ pub record SameOwn (a b : Inside) : Type 0 where
   pub fields : b.fields ≡ a.fields
 
 -- fields that show the graph h with an arc put back
-pub put_after : (b : Inside) (h : GraphOf) (c : CutArc) → IsGraph h → CanPutBack h c → Shows b.vertices.items b.slots (with_cut_arc h c) → b.live ≡ m_of h + 1
+pub put_after : (b : Inside) (h : GraphOf) (c : CutArc) → IsGraph h → CanPutBack h c → Shows b.vertices b.slots (with_cut_arc h c) → b.live ≡ m_of h + 1
     → b.id ≡ h.id → b.types ≡ h.types → b.fields ≡ h.fields → Opened b (with_cut_arc h c)
 unfolding with_cut_arc with_listed
 put_after b h c sound can shows live id types fields =
@@ -60,23 +60,23 @@ pub record NewArcCan (a : Inside) (g : GraphOf) (u v : VertexNo) (z : ℤ) (c : 
   pub few : made_of g < 1000000
   pub fits : FitsSigned w64 z
   pub cut : c ≡ new_cut (arc_no (made_of g)) u v z
-  pub vertices : vs ≡ a.vertices.items
+  pub vertices : vs ≡ a.vertices
   pub slots : ss ≡ a.slots ++ None ∷ []
 
 pub new_arc_can : (a : Inside) (g : GraphOf) (u v : VertexNo) (z : ℤ) (c : CutArc) (vs : List Vertex) (ss : Slots) → NewArcCan a g u v z c vs ss
     → (IsGraph (with_hole g)) × (Shows vs ss (with_hole g)) × (CanPutBack (with_hole g) c)
 new_arc_can a g u v z c vs ss k = (
   hole_sound g k.opened.graph k.few,
-  rw (k.vertices, k.slots) (hole_shows a.vertices.items a.slots g k.opened.shows),
+  rw (k.vertices, k.slots) (hole_shows a.vertices a.slots g k.opened.shows),
   subst (CanPutBack (with_hole g)) (sym k.cut) (new_can g u.0 v.0 z k.opened.graph k.from k.to k.fits),
 )
 
 pub new_arc_after : (a b : Inside) (g : GraphOf) (u v : VertexNo) (z : ℤ) (c : CutArc) (vs ws : List Vertex) (ss ts : Slots) → NewArcCan a g u v z c vs ss
-    → PutsBack vs ss c ws ts → b.vertices.items ≡ ws → b.slots ≡ ts → b.live ≡ a.live + 1 → SameOwn a b → Opened b (with_arc g u.0 v.0 z)
+    → PutsBack vs ss c ws ts → b.vertices ≡ ws → b.slots ≡ ts → b.live ≡ a.live + 1 → SameOwn a b → Opened b (with_arc g u.0 v.0 z)
 new_arc_after a b g u v z c vs ws ss ts k puts vertices slots live own =
     let x = new_arc_can a g u v z c vs ss k in
     let h = with_hole g in
-    let shows : Shows b.vertices.items b.slots (with_cut_arc h c) = rw (vertices, slots) (puts h x.1 x.0 x.2) in
+    let shows : Shows b.vertices b.slots (with_cut_arc h c) = rw (vertices, slots) (puts h x.1 x.0 x.2) in
     let can = x.2 in
     let o = k.opened in
     let after : Opened b (with_cut_arc h c) = put_after b h c x.0 can shows (live ∙ (ap (λ n. n + 1) (o.live ∙ sym (hole_m g)))) (own.id ∙ o.id) (own.types ∙ o.types) (own.fields ∙ o.fields) in
@@ -90,7 +90,7 @@ pub record NewArcDone (b : Inside) (g : GraphOf) (u v : VertexNo) (z : ℤ) (num
   pub sound : IsGraph (graph_of b)
 
 pub new_arc_done : (a b : Inside) (g : GraphOf) (u v : VertexNo) (z : ℤ) (c : CutArc) (vs ws : List Vertex) (ss ts : Slots) (number : ArcNo) → NewArcCan a g u v z c vs ss
-    → PutsBack vs ss c ws ts → b.vertices.items ≡ ws → b.slots ≡ ts → b.live ≡ a.live + 1 → SameOwn a b → number ≡ arc_no (made_of g) → NewArcDone b g u v z number
+    → PutsBack vs ss c ws ts → b.vertices ≡ ws → b.slots ≡ ts → b.live ≡ a.live + 1 → SameOwn a b → number ≡ arc_no (made_of g) → NewArcDone b g u v z number
 new_arc_done a b g u v z c vs ws ss ts number k puts vertices slots live own is =
     let o = new_arc_after a b g u v z c vs ws ss ts k puts vertices slots live own in
     let arena = closed_arena b (with_arc g u.0 v.0 z) o in
@@ -119,7 +119,7 @@ pub record NewEdgeCan (a : Inside) (g : GraphOf) (u v : VertexNo) (z : ℤ) (c d
   pub fits : FitsSigned w64 z
   pub second : c ≡ second_cut g (min u.0 v.0) (max u.0 v.0) z
   pub first : d ≡ first_cut g (min u.0 v.0) (max u.0 v.0) z
-  pub vertices : vs ≡ a.vertices.items
+  pub vertices : vs ≡ a.vertices
   pub slots : ss ≡ a.slots ++ None ∷ [] ++ None ∷ []
 
 pub record EdgeCan (h : GraphOf) (c d : CutArc) (vs : List Vertex) (ss : Slots) : Type 0 where
@@ -137,7 +137,7 @@ new_edge_can a g u v z c d vs ss k =
     let above : high < n_of g = omega (arith, k.from, k.to) in
     record {
       sound = hole_sound h (hole_sound g k.opened.graph (omega (arith, k.few))) (omega (arith, hole_made g, k.few));
-      shows = rw (k.vertices, k.slots) (hole_shows a.vertices.items (a.slots ++ None ∷ []) h (hole_shows a.vertices.items a.slots g k.opened.shows));
+      shows = rw (k.vertices, k.slots) (hole_shows a.vertices (a.slots ++ None ∷ []) h (hole_shows a.vertices a.slots g k.opened.shows));
       can = subst (CanPutBack (with_hole h)) (sym k.second) (second_can g low high z k.opened.graph below above k.fits);
       next =
           subst (λ x. CanPutBack (with_cut_arc (with_hole h) x) d) (sym k.second)
@@ -145,13 +145,13 @@ new_edge_can a g u v z c d vs ss k =
     }
 
 pub new_edge_after : (a b : Inside) (g : GraphOf) (u v : VertexNo) (z : ℤ) (c d : CutArc) (vs ws : List Vertex) (ss ts : Slots) → NewEdgeCan a g u v z c d vs ss
-    → PutsBoth vs ss c d ws ts → b.vertices.items ≡ ws → b.slots ≡ ts → b.live ≡ a.live + 2 → SameOwn a b → Opened b (with_edge g u.0 v.0 z)
+    → PutsBoth vs ss c d ws ts → b.vertices ≡ ws → b.slots ≡ ts → b.live ≡ a.live + 2 → SameOwn a b → Opened b (with_edge g u.0 v.0 z)
 unfolding with_cut_arc with_listed
 new_edge_after a b g u v z c d vs ws ss ts k puts vertices slots live own =
     let x = new_edge_can a g u v z c d vs ss k in
     let h = with_hole (with_hole g) in
     let h1 = with_cut_arc h c in
-    let shows : Shows b.vertices.items b.slots (with_cut_arc h1 d) = rw (vertices, slots) (puts h x.shows x.sound x.can x.next) in
+    let shows : Shows b.vertices b.slots (with_cut_arc h1 d) = rw (vertices, slots) (puts h x.shows x.sound x.can x.next) in
     let o = k.opened in
     let count : b.live ≡ m_of h1 + 1 = omega (arith, live, o.live, put_m h c x.can, hole_m g, hole_m (with_hole g)) in
     let after : Opened b (with_cut_arc h1 d) = put_after b h1 d (put_sound h c x.sound x.can) x.next shows count (own.id ∙ o.id) (own.types ∙ o.types) (own.fields ∙ o.fields) in
@@ -167,7 +167,7 @@ pub record NewEdgeDone (b : Inside) (g : GraphOf) (u v : VertexNo) (z : ℤ) (nu
   pub sound : IsGraph (graph_of b)
 
 pub new_edge_done : (a b : Inside) (g : GraphOf) (u v : VertexNo) (z : ℤ) (c d : CutArc) (vs ws : List Vertex) (ss ts : Slots) (number : ArcNo) → NewEdgeCan a g u v z c d vs ss
-    → PutsBoth vs ss c d ws ts → b.vertices.items ≡ ws → b.slots ≡ ts → b.live ≡ a.live + 2 → SameOwn a b → number ≡ arc_no (made_of g) → NewEdgeDone b g u v z number
+    → PutsBoth vs ss c d ws ts → b.vertices ≡ ws → b.slots ≡ ts → b.live ≡ a.live + 2 → SameOwn a b → number ≡ arc_no (made_of g) → NewEdgeDone b g u v z number
 new_edge_done a b g u v z c d vs ws ss ts number k puts vertices slots live own is =
     let o = new_edge_after a b g u v z c d vs ws ss ts k puts vertices slots live own in
     let arena = closed_arena b (with_edge g u.0 v.0 z) o in

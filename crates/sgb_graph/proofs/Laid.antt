@@ -12,22 +12,22 @@ use Rattle.sgb_graph.proofs.Shows.{Opened}
 use Rattle.sgb_graph.proofs.Holes.{hole_m, hole_sound, hole_shows}
 use Rattle.sgb_graph.proofs.InsertLemmas.{put_after}
 
-pub put_requires : (a : Inside) (g : GraphOf) (c : CutArc) (vs : List Vertex) (ss : Slots) → Opened a g → vs ≡ a.vertices.items → ss ≡ a.slots → CanPutBack g c → CanBePutBack vs ss c
+pub put_requires : (a : Inside) (g : GraphOf) (c : CutArc) (vs : List Vertex) (ss : Slots) → Opened a g → vs ≡ a.vertices → ss ≡ a.slots → CanPutBack g c → CanBePutBack vs ss c
 put_requires a g c vs ss o vertices slots can = record { graph = g; sound = o.graph; shows = rw (vertices, slots) o.shows; can = can }
 
-pub put_opened : (a b : Inside) (g : GraphOf) (c : CutArc) (vs ws : List Vertex) (ss ts : Slots) → Opened a g → vs ≡ a.vertices.items → ss ≡ a.slots → CanPutBack g c → PutsBack vs ss c ws ts
-    → b.vertices.items ≡ ws → b.slots ≡ ts → b.live ≡ a.live + 1 → b.id ≡ a.id → b.types ≡ a.types → b.fields ≡ a.fields → Opened b (with_cut_arc g c)
+pub put_opened : (a b : Inside) (g : GraphOf) (c : CutArc) (vs ws : List Vertex) (ss ts : Slots) → Opened a g → vs ≡ a.vertices → ss ≡ a.slots → CanPutBack g c → PutsBack vs ss c ws ts
+    → b.vertices ≡ ws → b.slots ≡ ts → b.live ≡ a.live + 1 → b.id ≡ a.id → b.types ≡ a.types → b.fields ≡ a.fields → Opened b (with_cut_arc g c)
 put_opened a b g c vs ws ss ts o vertices slots can puts ws_is ts_is live id types fields =
     let before : Shows vs ss g = rw (vertices, slots) o.shows in
-    let shows : Shows b.vertices.items b.slots (with_cut_arc g c) = rw (ws_is, ts_is) (puts g before o.graph can) in
+    let shows : Shows b.vertices b.slots (with_cut_arc g c) = rw (ws_is, ts_is) (puts g before o.graph can) in
     put_after b g c o.graph can shows (live ∙ ap (λ n. n + 1) o.live) (id ∙ o.id) (types ∙ o.types) (fields ∙ o.fields)
 
-pub hole_opened : (a b : Inside) (g : GraphOf) → Opened a g → made_of g < 1000000 → b.vertices.items ≡ a.vertices.items → b.slots ≡ a.slots ++ None ∷ []
+pub hole_opened : (a b : Inside) (g : GraphOf) → Opened a g → made_of g < 1000000 → b.vertices ≡ a.vertices → b.slots ≡ a.slots ++ None ∷ []
     → b.live ≡ a.live → b.id ≡ a.id → b.types ≡ a.types → b.fields ≡ a.fields → Opened b (with_hole g)
 hole_opened a b g o few vertices slots live id types fields =
     record {
       graph = hole_sound g o.graph few;
-      shows = rw (vertices, slots) (hole_shows a.vertices.items a.slots g o.shows);
+      shows = rw (vertices, slots) (hole_shows a.vertices a.slots g o.shows);
       live = live ∙ (o.live ∙ sym (hole_m g));
       id = id ∙ o.id;
       types = types ∙ o.types;

@@ -33,4 +33,5 @@ pub mod Slots
 pub mod Sound
 pub mod TakeOut
 pub mod UtilLemmas
+pub mod Vertices
 pub mod Walking

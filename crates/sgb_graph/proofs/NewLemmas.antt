@@ -92,10 +92,10 @@ bare_shows vs id types bare =
     }
 
 -- the fields of a graph without arcs
-pub bare_opened : (a : Inside) → length a.vertices.items ≤ 65535 → IsId a.id → IsTypes a.types → All (IsBare (length a.vertices.items)) a.vertices.items → a.fields ≡ six_zeros → a.slots ≡ [] → a.live ≡ 0
-    → Opened a (bare_graph a.id a.types (map bare_vertex a.vertices.items))
+pub bare_opened : (a : Inside) → length a.vertices ≤ 65535 → IsId a.id → IsTypes a.types → All (IsBare (length a.vertices)) a.vertices → a.fields ≡ six_zeros → a.slots ≡ [] → a.live ≡ 0
+    → Opened a (bare_graph a.id a.types (map bare_vertex a.vertices))
 bare_opened a few id types bare fields slots live =
-    let vs = a.vertices.items in
+    let vs = a.vertices in
     let n : length (map bare_vertex vs) ≡ length vs = length-map vs bare_vertex in
     record {
       graph = record {

@@ -1,7 +1,6 @@
 -- Lemmas on what the readers of a graph show.
 use Rattle.std.proofs.Common.{◌≡◌, ◌<◌, ℕ, List, [], ◌∷◌, ◌++◌, length, get_or, Option, Some, None, is_some, IsSome, IfSome, All, true, refl, ap, subst, ◌∙◌, arith}
 use Rattle.sgb_graph.specs.declared.field.ArcNo.{ArcNo}
-use Rattle.sgb_graph.specs.declared.graph.Vertex.{Vertex}
 use Rattle.sgb_graph.specs.declared.graph.arena.Slot.{Slot}
 use Rattle.sgb_graph.specs.declared.graph.Graph.TheInside.{Inside}
 use Rattle.sgb_graph.specs.Graph.{GraphOf, ArcOf, IsGraph, IsArc, IsTip, n_of, made_of, arcs_of, arc_at}
@@ -9,20 +8,20 @@ use Rattle.sgb_graph.specs.Edit.{owner_of, entry_at, arc_or, no_arc}
 use Rattle.sgb_graph.specs.Read.{entry_view, arc_view, ShowsEntry, first_of, IsNextOf}
 use Rattle.sgb_graph.specs.Chain.{Leads}
 use Rattle.sgb_graph.specs.Private.Arena.{Slots, IsArena, slot_at, next_at, entry_of, numbers, graph_of}
-use Rattle.sgb_graph.specs.Private.Link.{any_vertex}
+use Rattle.sgb_graph.specs.Private.Link.{any_vertex, vertex_in}
 use Rattle.sgb_graph.specs.Private.Exchange.{fields_in}
 use Rattle.sgb_graph.proofs.Counts.{occurs_at}
 use Rattle.sgb_graph.proofs.Graphs.{owner_is, made_of_live}
 use Rattle.sgb_graph.proofs.Shows.{opened, but_of, numbers_are}
 
 -- the list that `arcs` walks along
-pub arcs_are : (a : Inside) (g : GraphOf) (v : ℕ) (x : Vertex) (ss : Slots) (ks : List ℕ) → graph_of a ≡ g → IsArena a → v < n_of g → x ≡ get_or a.vertices.items v x → ss ≡ a.slots → ks ≡ numbers ss x.first → ks ≡ arcs_of g v
-arcs_are a g v x ss ks same arena h read is are =
+pub arcs_are : (a : Inside) (g : GraphOf) (v : ℕ) (link : Option ArcNo) (ss : Slots) (ks : List ℕ) → graph_of a ≡ g → IsArena a → v < n_of g → link ≡ (vertex_in a.vertices v).first → ss ≡ a.slots → ks ≡ numbers ss link → ks ≡ arcs_of g v
+arcs_are a g v link ss ks same arena h read is are =
     let o = opened a g same arena in
     are
-    ∙ (ap (λ s. numbers s x.first) is
-    ∙ (ap (λ (y : Vertex). numbers a.slots y.first) read
-    ∙ numbers_are a.vertices.items a.slots g v x (but_of a.vertices.items a.slots g o.shows) o.graph h))
+    ∙ (ap (λ s. numbers s link) is
+    ∙ (ap (numbers a.slots) read
+    ∙ numbers_are a.vertices a.slots g v any_vertex (but_of a.vertices a.slots g o.shows) o.graph h))
 
 pub arcs_owned : (g : GraphOf) (v : ℕ) → IsGraph g → All (λ k. owner_of g k ≡ v) (arcs_of g v)
 arcs_owned g v sound i d h = owner_is g (get_or (arcs_of g v) i d) v sound (occurs_at (arcs_of g v) i d h)
@@ -53,7 +52,7 @@ next_in next link (j ∷ before) k after l = next_in next (next j) before k afte
 pub next_is : (a : Inside) (g : GraphOf) (k : ℕ) (ss : Slots) (link : Option ArcNo) → graph_of a ≡ g → IsArena a → ss ≡ a.slots → link ≡ next_at ss k → IsNextOf g k link
 next_is a g k ss link same arena is link_is v low before after list =
     let o = opened a g same arena in
-    let x = get_or a.vertices.items v any_vertex in
+    let x = get_or a.vertices v any_vertex in
     link_is
     ∙ (ap (λ s. next_at s k) is
     ∙ next_in (next_at a.slots) x.first before k after

@@ -153,21 +153,21 @@ shown_same ss ts h (v ∷ vs) =
 
 -- the tests of all fields
 abbrev insides_eq : Inside → Inside → Bool
-insides_eq a b = own_eq a.id b.id a.types b.types a.fields b.fields && lists_eq a.vertices.items b.vertices.items a.slots b.slots
+insides_eq a b = own_eq a.id b.id a.types b.types a.fields b.fields && lists_eq a.vertices b.vertices a.slots b.slots
 
 insides_same : (a b : Inside) → insides_eq a b ≡ true → graph_of a ≡ graph_of b
 insides_same a b h =
     let own = own_eq a.id b.id a.types b.types a.fields b.fields in
-    let rows = each_eq row_eq a.vertices.items b.vertices.items in
+    let rows = each_eq row_eq a.vertices b.vertices in
     let slots = each_eq slot_eq a.slots b.slots in
     let p = and_parts own (rows && slots) h in
     let q = and_parts rows slots p.1 in
     let r = and_parts (pointwise nat_eq a.id b.id && pointwise nat_eq a.types b.types) (pointwise util_eq a.fields b.fields) p.0 in
     let s = and_parts (pointwise nat_eq a.id b.id) (pointwise nat_eq a.types b.types) r.0 in
-    let vs : a.vertices.items ≡ b.vertices.items = rows_tell.same a.vertices.items b.vertices.items (sym (each_is row_eq a.vertices.items b.vertices.items) ∙ q.0) in
+    let vs : a.vertices ≡ b.vertices = rows_tell.same a.vertices b.vertices (sym (each_is row_eq a.vertices b.vertices) ∙ q.0) in
     let pass : pointwise slot_eq a.slots b.slots ≡ true = sym (each_is slot_eq a.slots b.slots) ∙ q.1 in
     same_graph (graph_of a) (graph_of b) (texts_tell.same a.id b.id s.0) (texts_tell.same a.types b.types s.1) (utils_tell.same a.fields b.fields r.1)
-    (ap (map (vertex_of a.slots)) vs ∙ shown_same a.slots b.slots pass b.vertices.items)
+    (ap (map (vertex_of a.slots)) vs ∙ shown_same a.slots b.slots pass b.vertices)
     (entries_same a.slots b.slots pass)
 
 -- fields that show one graph pass the tests
@@ -197,15 +197,15 @@ next_shown a b g k (Some s) a_is a_arena b_is b_arena is live =
     next_is a g k a.slots (next_at a.slots k) a_is a_arena refl refl v low at.before at.after at.whole
     ∙ sym (next_is b g k b.slots (next_at b.slots k) b_is b_arena refl refl v low at.before at.after at.whole)
 
-rows_shown : (a b : Inside) (g : GraphOf) → Opened a g → Opened b g → a.vertices.items ≡ b.vertices.items
+rows_shown : (a b : Inside) (g : GraphOf) → Opened a g → Opened b g → a.vertices ≡ b.vertices
 rows_shown a b g o p =
-    same_lists a.vertices.items b.vertices.items (o.shows.n ∙ sym p.shows.n)
+    same_lists a.vertices b.vertices (o.shows.n ∙ sym p.shows.n)
     (λ v d h.
     let low : v < n_of g = omega (arith, o.shows.n) in
     let x = o.shows.vertices v d low in
     let y = p.shows.vertices v d low in
-    let one = get_or a.vertices.items v d in
-    let two = get_or b.vertices.items v d in
+    let one = get_or a.vertices v d in
+    let two = get_or b.vertices v d in
     let first : one.first ≡ two.first =
     first_is (next_at a.slots) one.first (arcs_of g v) x.arcs ∙ sym (first_is (next_at b.slots) two.first (arcs_of g v) y.arcs) in
     ap (λ l. record one { label = l }) (x.label ∙ sym y.label)
@@ -223,21 +223,21 @@ shown_pass a b g a_is a_arena b_is b_arena =
     let p = opened b g b_is b_arena in
     let ss = a.slots in
     let ts = b.slots in
-    let rows : each_eq row_eq a.vertices.items b.vertices.items ≡ true =
-    each_is row_eq a.vertices.items b.vertices.items
-    ∙ (ap (pointwise row_eq a.vertices.items) (sym (rows_shown a b g o p)) ∙ rows_tell.self a.vertices.items) in
+    let rows : each_eq row_eq a.vertices b.vertices ≡ true =
+    each_is row_eq a.vertices b.vertices
+    ∙ (ap (pointwise row_eq a.vertices) (sym (rows_shown a b g o p)) ∙ rows_tell.self a.vertices) in
     let slots : each_eq slot_eq ss ts ≡ true =
     each_is slot_eq ss ts
     ∙ passes_at slot_eq ss ts (o.shows.made ∙ sym p.shows.made)
     (λ k d h. at_default ss ts k d h (omega (arith, o.shows.made, p.shows.made))
     (slot_passes (slot_at ss k) (slot_at ts k) (o.shows.entries k ∙ sym (p.shows.entries k)) (λ live. next_shown a b g k (slot_at ss k) a_is a_arena b_is b_arena refl live))) in
-    and_from (own_eq a.id b.id a.types b.types a.fields b.fields) (each_eq row_eq a.vertices.items b.vertices.items && each_eq slot_eq ss ts)
+    and_from (own_eq a.id b.id a.types b.types a.fields b.fields) (each_eq row_eq a.vertices b.vertices && each_eq slot_eq ss ts)
     (and_from (pointwise nat_eq a.id b.id && pointwise nat_eq a.types b.types) (pointwise util_eq a.fields b.fields)
     (and_from (pointwise nat_eq a.id b.id) (pointwise nat_eq a.types b.types)
     (ap (pointwise nat_eq a.id) (p.id ∙ sym o.id) ∙ texts_tell.self a.id)
     (ap (pointwise nat_eq a.types) (p.types ∙ sym o.types) ∙ texts_tell.self a.types))
     (ap (pointwise util_eq a.fields) (p.fields ∙ sym o.fields) ∙ utils_tell.self a.fields))
-    (and_from (each_eq row_eq a.vertices.items b.vertices.items) (each_eq slot_eq ss ts) rows slots)
+    (and_from (each_eq row_eq a.vertices b.vertices) (each_eq slot_eq ss ts) rows slots)
 
 same_answer : (r b : Bool) → (r ≡ true → b ≡ true) → (b ≡ true → r ≡ true) → r ≡ b
 same_answer true true f h = refl
@@ -246,7 +246,7 @@ same_answer true false f h = sym (f refl)
 same_answer false true f h = h refl
 
 pub graph_eq_is : (a b : Inside) (g h : GraphOf) → graph_of a ≡ g → IsArena a → graph_of b ≡ h → IsArena b
-    → (own_eq a.id b.id a.types b.types a.fields b.fields && lists_eq a.vertices.items b.vertices.items a.slots b.slots) ≡ graph_eq g h
+    → (own_eq a.id b.id a.types b.types a.fields b.fields && lists_eq a.vertices b.vertices a.slots b.slots) ≡ graph_eq g h
 graph_eq_is a b g h a_is a_arena b_is b_arena =
     same_answer (insides_eq a b) (graph_eq g h)
     (λ pass.
@@ -264,20 +264,20 @@ own_moved a b id id' types types' i i' t t' =
 pub eq_own : (a b : Inside) (g h : GraphOf) (id id' types types' : List ℕ) (r : Bool) → graph_of a ≡ g → IsArena a → graph_of b ≡ h → IsArena b → id ≡ a.id → id' ≡ b.id → types ≡ a.types → types' ≡ b.types
     → r ≡ own_eq id id' types types' a.fields b.fields → r ≡ false → false ≡ graph_eq g h
 eq_own a b g h id id' types types' r a_is a_arena b_is b_arena i i' t t' is no' =
-    let rest = lists_eq a.vertices.items b.vertices.items a.slots b.slots in
+    let rest = lists_eq a.vertices b.vertices a.slots b.slots in
     let own : own_eq a.id b.id a.types b.types a.fields b.fields ≡ false =
     own_moved a b id id' types types' i i' t t' ∙ (sym is ∙ no') in
     sym (ap (λ x. x && rest) own) ∙ graph_eq_is a b g h a_is a_arena b_is b_arena
 
 pub eq_lists : (a b : Inside) (g h : GraphOf) (id id' types types' : List ℕ) (r q : Bool) (vs ws : List Vertex) (ss ts : Slots) → graph_of a ≡ g → IsArena a → graph_of b ≡ h → IsArena b → id ≡ a.id → id' ≡ b.id → types ≡ a.types → types' ≡ b.types
-    → r ≡ own_eq id id' types types' a.fields b.fields → r ≡ true → vs ≡ a.vertices.items → ws ≡ b.vertices.items → ss ≡ a.slots → ts ≡ b.slots → q ≡ lists_eq vs ws ss ts → q ≡ graph_eq g h
+    → r ≡ own_eq id id' types types' a.fields b.fields → r ≡ true → vs ≡ a.vertices → ws ≡ b.vertices → ss ≡ a.slots → ts ≡ b.slots → q ≡ lists_eq vs ws ss ts → q ≡ graph_eq g h
 eq_lists a b g h id id' types types' r q vs ws ss ts a_is a_arena b_is b_arena i i' t t' is yes' v w s u lists =
-    let rest = lists_eq a.vertices.items b.vertices.items a.slots b.slots in
+    let rest = lists_eq a.vertices b.vertices a.slots b.slots in
     let own : own_eq a.id b.id a.types b.types a.fields b.fields ≡ true =
     own_moved a b id id' types types' i i' t t' ∙ (sym is ∙ yes') in
     let here : q ≡ rest =
     lists
     ∙ (ap (λ x. lists_eq x ws ss ts) v
-    ∙ (ap (λ x. lists_eq a.vertices.items x ss ts) w
-    ∙ (ap (λ x. lists_eq a.vertices.items b.vertices.items x ts) s ∙ ap (lists_eq a.vertices.items b.vertices.items a.slots) u))) in
+    ∙ (ap (λ x. lists_eq a.vertices x ss ts) w
+    ∙ (ap (λ x. lists_eq a.vertices b.vertices x ts) s ∙ ap (lists_eq a.vertices b.vertices a.slots) u))) in
     here ∙ (sym (ap (λ x. x && rest) own) ∙ graph_eq_is a b g h a_is a_arena b_is b_arena)

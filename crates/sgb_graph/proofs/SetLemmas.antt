@@ -15,6 +15,7 @@ use Rattle.sgb_graph.specs.Graph.{GraphOf, VertexOf, ArcOf, IsGraph, IsVertex, I
 use Rattle.sgb_graph.specs.Edit.{with_len, with_label, entry_at, arc_or, no_arc}
 use Rattle.sgb_graph.specs.Private.Arena.{Slots, Shows, ShowsVertex, IsArena, graph_of, slot_at, entry_of, owner_in, names_counted}
 use Rattle.sgb_graph.specs.Private.Link.{any_vertex, vertex_in}
+use Rattle.sgb_graph.specs.Private.Vertices.{with_name}
 use Rattle.sgb_graph.specs.Private.Arena.{len_in, with_len_in}
 use Rattle.sgb_graph.specs.Private.Aim.{with_aim, with_aim_in}
 use Rattle.sgb_graph.proofs.Aiming.{aim_opened}
@@ -22,8 +23,8 @@ use Rattle.sgb_graph.proofs.Graphs.{same_graph, made_of_live}
 use Rattle.sgb_graph.proofs.Sound.{Keeps, IsValue-keeps, IsVertex-keeps, IsEntry-keeps, All-set, entry_same}
 use Rattle.sgb_graph.proofs.Shows.{Opened, opened, closed, closed_arena}
 use Rattle.sgb_graph.proofs.TakeOut.{some_entry}
-use Rattle.sgb_graph.proofs.ExchangeLemmas.{owned_as, vertex_six, graph_six, fields_of_entry}
-use Rattle.std.proofs.lemmas.List.{get_or_read, get_or_default}
+use Rattle.sgb_graph.proofs.ExchangeLemmas.{owned_as, graph_six, fields_of_entry}
+use Rattle.std.proofs.lemmas.List.{get_or_default}
 use Rattle.sgb_graph.specs.declared.field.Util.{Util}
 use Rattle.sgb_graph.specs.declared.field.Util.TheVariants as utils
 use Rattle.sgb_graph.specs.declared.field.VertexField.{VertexField}
@@ -40,7 +41,7 @@ use Rattle.sgb_graph.specs.Delta.{LeftByLen, LeftByLabel}
 -- a label
 pub label_opened : (a b : Inside) (g : GraphOf) (v : ℕ) (t : List ℕ) → Opened a g → v < n_of g → IsText t
     → b.id ≡ a.id → b.types ≡ a.types → b.fields ≡ a.fields → b.live ≡ a.live → b.slots ≡ a.slots
-    → b.vertices.items ≡ set a.vertices.items v (record (vertex_in a.vertices.items v) { label = t }) → Opened b (with_label g v t)
+    → b.vertices ≡ set a.vertices v (with_name t (vertex_in a.vertices v)) → Opened b (with_label g v t)
 unfolding with_label
 label_opened a b g v t o low text id types fields live slots vertices =
     let h = with_label g v t in
@@ -50,8 +51,8 @@ label_opened a b g v t o low text id types fields live slots vertices =
     let keeps : Keeps (n_of g) g.entries (n_of h) h.entries = record { vertices = omega (arith, n); arcs = λ k l. l } in
     let sound = o.graph in
     let owner = IsVertex-keeps (n_of g) (n_of h) g.entries h.entries x keeps (sound.vertices v no_vertex low) in
-    let new : vertex.Vertex = record (vertex_in a.vertices.items v) { label = t } in
-    let vs = a.vertices.items in
+    let new = with_name t (vertex_in a.vertices v) in
+    let vs = a.vertices in
     let ss = a.slots in
     let names : (j : ℕ) → names_of h j ≡ names_of g j = λ j.
     (let s = sum_by-set (λ z. names_in j z.fields) g.vertices v y no_vertex low in omega (arith, s)) in
@@ -117,7 +118,7 @@ len_of_entry (Some s) None same live = absurd cc
 len_of_entry (Some s) (Some e) same live = ap (λ o. (arc_or no_arc o).len) same
 
 pub len_opened : (a b : Inside) (g : GraphOf) (k : ℕ) (z : ℤ) → Opened a g → has_arc g k ≡ true → FitsSigned w64 z
-    → b.id ≡ a.id → b.types ≡ a.types → b.fields ≡ a.fields → b.live ≡ a.live → b.vertices.items ≡ a.vertices.items
+    → b.id ≡ a.id → b.types ≡ a.types → b.fields ≡ a.fields → b.live ≡ a.live → b.vertices ≡ a.vertices
     → b.slots ≡ set a.slots k (with_len_in z (slot_at a.slots k)) → Opened b (with_len g k z)
 unfolding with_len with_aim
 len_opened a b g k z o there fits id types fields live vertices slots =
@@ -136,7 +137,7 @@ pub record LenDone (b : Inside) (g : GraphOf) (k : ArcNo) (z old : ℤ) : Type 0
 
 pub len_done : (a b : Inside) (g : GraphOf) (k : ArcNo) (z z' old : ℤ) (ss ts : Slots) → graph_of a ≡ g → IsArena a → has_arc g k.0 ≡ true → FitsSigned w64 z → z' ≡ z
     → ss ≡ a.slots → old ≡ len_in (slot_at ss k.0) → ts ≡ set ss k.0 (with_len_in z' (slot_at ss k.0))
-    → b.id ≡ a.id → b.types ≡ a.types → b.fields ≡ a.fields → b.live ≡ a.live → b.vertices.items ≡ a.vertices.items → b.slots ≡ ts → LenDone b g k z (to_z w64 (of_z w64 old))
+    → b.id ≡ a.id → b.types ≡ a.types → b.fields ≡ a.fields → b.live ≡ a.live → b.vertices ≡ a.vertices → b.slots ≡ ts → LenDone b g k z (to_z w64 (of_z w64 old))
 len_done a b g k z z' old ss ts same arena there fits is ss_is old_is ts_is id types fields live vertices slots =
     let o = opened a g same arena in
     let made : b.slots ≡ set a.slots k.0 (with_len_in z (slot_at a.slots k.0)) =
@@ -165,17 +166,13 @@ pub record LabelDone (b : Inside) (g : GraphOf) (v : VertexNo) (t old : List ℕ
   pub left : LeftByLabel g v old (graph_of b)
   pub sound : IsGraph (graph_of b)
 
-pub label_done : (a b : Inside) (g : GraphOf) (v : VertexNo) (t t' old : List ℕ) (x : vertex.Vertex) → graph_of a ≡ g → IsArena a → v.0 < n_of g → IsText t
-    → x ≡ get_or a.vertices.items v.0 x → old ≡ x.label → t' ≡ t
+pub label_done : (a b : Inside) (g : GraphOf) (v : VertexNo) (t old : List ℕ) → graph_of a ≡ g → IsArena a → v.0 < n_of g → IsText t
+    → old ≡ (vertex_in a.vertices v.0).label
     → b.id ≡ a.id → b.types ≡ a.types → b.fields ≡ a.fields → b.live ≡ a.live → b.slots ≡ a.slots
-    → b.vertices.items ≡ set a.vertices.items v.0 (record { label = t'; fields = x.fields; first = x.first }) → LabelDone b g v t old
-label_done a b g v t t' old x same arena low text read old_is is id types fields live slots vertices =
+    → b.vertices ≡ set a.vertices v.0 (with_name t (vertex_in a.vertices v.0)) → LabelDone b g v t old
+label_done a b g v t old same arena low text old_is id types fields live slots vertices =
     let o = opened a g same arena in
-    let at : x ≡ vertex_in a.vertices.items v.0 = get_or_read a.vertices.items v.0 x (omega (arith, o.shows.n, low)) read any_vertex in
-    let made : b.vertices.items ≡ set a.vertices.items v.0 (record (vertex_in a.vertices.items v.0) { label = t }) =
-    vertices ∙ (ap (λ l. set a.vertices.items v.0 (record { label = l; fields = x.fields; first = x.first })) is
-    ∙ ap (λ y. set a.vertices.items v.0 (record y { label = t })) at) in
-    let after = label_opened a b g v.0 t o low text id types fields live slots made in
+    let after = label_opened a b g v.0 t o low text id types fields live slots vertices in
     let arena' = closed_arena b (with_label g v.0 t) after in
     record {
       arena = arena';
@@ -184,26 +181,24 @@ label_done a b g v t t' old x same arena low text read old_is is id types fields
         label = t;
         graph = o.graph;
         accepted = ap (λ r. refusal_unless r BadOperand None) (lt-ltb v.0 (n_of g) low);
-        kept = old_is ∙ (ap (λ y. y.label) at ∙ (o.shows.vertices v.0 any_vertex low).label);
+        kept = old_is ∙ (o.shows.vertices v.0 any_vertex low).label;
         left = closed b (with_label g v.0 t) after;
       };
       sound = arena'.graph;
     }
 
 -- the value that `util` reads
-pub util_vertex : (a : Inside) (g : GraphOf) (p : Place) (v : VertexNo) (f : VertexField) (x : vertex.Vertex) (i : ℕ) (u : Util) → graph_of a ≡ g → IsArena a → has_place g p ≡ true
-    → p ≡ places.Vertex v f → x ≡ get_or a.vertices.items v.0 x → i ≡ vertex_place f → get_or x.fields i u ≡ util_at g p
+pub util_vertex : (a : Inside) (g : GraphOf) (p : Place) (v : VertexNo) (f : VertexField) (vs : List vertex.Vertex) (i : ℕ) (u : Util) → graph_of a ≡ g → IsArena a → has_place g p ≡ true
+    → p ≡ places.Vertex v f → vs ≡ a.vertices → i ≡ vertex_place f → u ≡ get_or (vertex_in vs v.0).fields i utils.Zero → u ≡ util_at g p
 unfolding util_at
-util_vertex a g p v f x i u same arena there is read place =
+util_vertex a g p v f vs i u same arena there is vertices place here =
     let o = opened a g same arena in
     let there' : has_place g (places.Vertex v f) ≡ true = subst (λ q. has_place g q ≡ true) is there in
     let low : v.0 < n_of g = ltb-true v.0 (n_of g) there' in
-    let y = o.shows.vertices v.0 x low in
-    let fields : x.fields ≡ (vertex_at g v.0).fields = ap (λ z. z.fields) read ∙ y.fields in
-    let six = (o.graph.vertices v.0 no_vertex low).six in
-    ap (λ j. get_or x.fields j u) place
-    ∙ (ap (λ us. get_or us (vertex_place f) u) fields
-    ∙ (get_or_default (vertex_at g v.0).fields (vertex_place f) u utils.Zero (omega (arith, six, vertex_six f)) ∙ ap (util_at g) (sym is)))
+    here
+    ∙ (ap (λ xs. get_or (vertex_in xs v.0).fields i utils.Zero) vertices
+    ∙ (ap (λ j. get_or (vertex_in a.vertices v.0).fields j utils.Zero) place
+    ∙ (ap (λ us. get_or us (vertex_place f) utils.Zero) (o.shows.vertices v.0 any_vertex low).fields ∙ ap (util_at g) (sym is))))
 
 pub util_arc : (a : Inside) (g : GraphOf) (p : Place) (k : ArcNo) (f : ArcField) (ss : Slots) (i : ℕ) (u : Util) → graph_of a ≡ g → IsArena a → has_place g p ≡ true
     → p ≡ places.Arc k f → ss ≡ a.slots → i ≡ arc_place f → u ≡ get_or (fields_in (slot_at ss k.0)) i utils.Zero → u ≡ util_at g p
@@ -257,7 +252,7 @@ left_len g h k old l =
 
 pub revert_len_after : (a b : Inside) (h : GraphOf) (k : ArcNo) (old z' : ℤ) (ss ts : Slots) (g : GraphOf) → graph_of a ≡ h → IsArena a → LeftByLen g k old h → z' ≡ old
     → ss ≡ a.slots → ts ≡ set ss k.0 (with_len_in z' (slot_at ss k.0))
-    → b.id ≡ a.id → b.types ≡ a.types → b.fields ≡ a.fields → b.live ≡ a.live → b.vertices.items ≡ a.vertices.items → b.slots ≡ ts → Opened b g
+    → b.id ≡ a.id → b.types ≡ a.types → b.fields ≡ a.fields → b.live ≡ a.live → b.vertices ≡ a.vertices → b.slots ≡ ts → Opened b g
 revert_len_after a b h k old z' ss ts g same arena l is ss_is ts_is id types fields live vertices slots =
     let o = opened a h same arena in
     let x = left_len g h k old l in
@@ -299,14 +294,10 @@ left_label g h v old l =
       back = same_graph (with_label h v.0 old) g (ap (λ (q : GraphOf). q.id) l.left) (ap (λ (q : GraphOf). q.types) l.left) (ap (λ (q : GraphOf). q.fields) l.left) vertices (ap (λ (q : GraphOf). q.entries) l.left);
     }
 
-pub revert_label_after : (a b : Inside) (h : GraphOf) (v : VertexNo) (old : List ℕ) (x : vertex.Vertex) (g : GraphOf) → graph_of a ≡ h → IsArena a → LeftByLabel g v old h
-    → x ≡ get_or a.vertices.items v.0 x
+pub revert_label_after : (a b : Inside) (h : GraphOf) (v : VertexNo) (old : List ℕ) (g : GraphOf) → graph_of a ≡ h → IsArena a → LeftByLabel g v old h
     → b.id ≡ a.id → b.types ≡ a.types → b.fields ≡ a.fields → b.live ≡ a.live → b.slots ≡ a.slots
-    → b.vertices.items ≡ set a.vertices.items v.0 (record { label = old; fields = x.fields; first = x.first }) → Opened b g
-revert_label_after a b h v old x g same arena l read id types fields live slots vertices =
+    → b.vertices ≡ set a.vertices v.0 (with_name old (vertex_in a.vertices v.0)) → Opened b g
+revert_label_after a b h v old g same arena l id types fields live slots vertices =
     let o = opened a h same arena in
     let y = left_label g h v old l in
-    let at : x ≡ vertex_in a.vertices.items v.0 = get_or_read a.vertices.items v.0 x (omega (arith, o.shows.n, y.low)) read any_vertex in
-    let made : b.vertices.items ≡ set a.vertices.items v.0 (record (vertex_in a.vertices.items v.0) { label = old }) =
-    vertices ∙ ap (λ (q : vertex.Vertex). set a.vertices.items v.0 (record q { label = old })) at in
-    subst (Opened b) y.back (label_opened a b h v.0 old o y.low y.text id types fields live slots made)
+    subst (Opened b) y.back (label_opened a b h v.0 old o y.low y.text id types fields live slots vertices)

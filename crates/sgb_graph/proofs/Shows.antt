@@ -3,6 +3,7 @@ use Rattle.std.proofs.Common.{◌≡◌, ◌<◌, ℕ, List, length, get_or, map
 use Rattle.std.specs.Int.{w64}
 use Rattle.sgb_graph.specs.Read.{entry_view, arc_view}
 use Rattle.std.proofs.lemmas.List.{get_or-map, length-map, same_lists, get_or_default, get_or_read}
+use Rattle.sgb_graph.specs.declared.field.ArcNo.{ArcNo}
 use Rattle.sgb_graph.specs.declared.graph.Vertex.{Vertex}
 use Rattle.sgb_graph.specs.declared.graph.arena.Slot.{Slot}
 use Rattle.sgb_graph.specs.declared.graph.read.ArcView.{ArcView}
@@ -11,14 +12,14 @@ use Rattle.sgb_graph.specs.Graph.{GraphOf, IsGraph, IsArc, n_of, made_of, m_of, 
 use Rattle.sgb_graph.specs.Edit.{owner_of}
 use Rattle.sgb_graph.specs.Chain.{Leads}
 use Rattle.sgb_graph.specs.Private.Arena.{Slots, Shows, ShowsVertex, IsLinked, IsArena, slot_at, next_at, entry_of, owner_in, view_in, numbers, vertex_of, graph_of}
-use Rattle.sgb_graph.specs.Private.Link.{any_vertex}
+use Rattle.sgb_graph.specs.Private.Link.{any_vertex, vertex_in}
 use Rattle.sgb_graph.proofs.Graphs.{owner_is, arcs_live, few_arcs_of, same_vertex, same_graph, made_of_live}
 use Rattle.sgb_graph.proofs.Chains.{chain_is}
 
 -- what is known of the fields of a graph g
 pub record Opened (a : Inside) (g : GraphOf) : Type 0 where
   pub graph : IsGraph g
-  pub shows : Shows a.vertices.items a.slots g
+  pub shows : Shows a.vertices a.slots g
   pub live : a.live ≡ m_of g
   pub id : a.id ≡ g.id
   pub types : a.types ≡ g.types
@@ -77,15 +78,15 @@ closed_entries vs ss g shows =
 pub closed : (a : Inside) (g : GraphOf) → Opened a g → graph_of a ≡ g
 closed a g o =
     same_graph (graph_of a) g o.id o.types o.fields
-    (closed_vertices a.vertices.items a.slots g o.shows o.graph)
-    (closed_entries a.vertices.items a.slots g o.shows)
+    (closed_vertices a.vertices a.slots g o.shows o.graph)
+    (closed_entries a.vertices a.slots g o.shows)
 
 pub closed_arena : (a : Inside) (g : GraphOf) → Opened a g → IsArena a
 closed_arena a g o =
     let same : g ≡ graph_of a = sym (closed a g o) in
     record {
       graph = subst IsGraph same o.graph;
-      shows = subst (Shows a.vertices.items a.slots) same o.shows;
+      shows = subst (Shows a.vertices a.slots) same o.shows;
       live = subst (λ h. a.live ≡ m_of h) same o.live;
     }
 
@@ -113,7 +114,7 @@ read_slot ss k o h is = sym (get_or_read ss k o h is None)
 view_of_slot : (a : Inside) (g : GraphOf) (k : ℕ) (o : Option Slot) → Opened a g → slot_at a.slots k ≡ o → view_in o ≡ arc_view g k
 view_of_slot a g k None x is = ap (entry_view (owner_of g k)) (sym (ap entry_of is) ∙ x.shows.entries k)
 view_of_slot a g k (Some s) x is =
-    let y = shows_arc a.vertices.items a.slots g k s x.shows x.graph is in
+    let y = shows_arc a.vertices a.slots g k s x.shows x.graph is in
     ap (λ v. Some (record { owner = record { 0 = v }; tip = s.tip; len = s.len })) (sym y.owner)
     ∙ ap (entry_view (owner_of g k)) (sym y.entry)
 
@@ -121,14 +122,14 @@ pub view_is : (a : Inside) (g : GraphOf) (k : ℕ) (r : Option ArcView) → grap
 view_is a g k r same arena is = is ∙ view_of_slot a g k (slot_at a.slots k) (opened a g same arena) refl
 
 -- what `arcs` walks along
-pub linked_at : (a : Inside) (g : GraphOf) (v : ℕ) (x : Vertex) (ss : Slots) → graph_of a ≡ g → IsArena a → v < n_of g → x ≡ get_or a.vertices.items v x → ss ≡ a.slots → IsLinked ss x.first
-linked_at a g v x ss same arena h read is =
+pub linked_at : (a : Inside) (g : GraphOf) (v : ℕ) (link : Option ArcNo) (ss : Slots) → graph_of a ≡ g → IsArena a → v < n_of g → link ≡ (vertex_in a.vertices v).first → ss ≡ a.slots → IsLinked ss link
+linked_at a g v link ss same arena h read is =
     let o = opened a g same arena in
-    subst (λ s. IsLinked s x.first) (sym is)
-    (subst (λ y. IsLinked a.slots y.first) (sym read) (linked_first a.vertices.items a.slots g v x (but_of a.vertices.items a.slots g o.shows) o.graph h))
+    subst (λ s. IsLinked s link) (sym is)
+    (subst (IsLinked a.slots) (sym read) (linked_first a.vertices a.slots g v any_vertex (but_of a.vertices a.slots g o.shows) o.graph h))
 
-pub within_made : (a : Inside) (g : GraphOf) (v : ℕ) (x : Vertex) (ss : Slots) (ks : List ℕ) → graph_of a ≡ g → IsArena a → v < n_of g → x ≡ get_or a.vertices.items v x → ss ≡ a.slots → ks ≡ numbers ss x.first → All (λ k. k < made_of g) ks
-within_made a g v x ss ks same arena h read is are =
+pub within_made : (a : Inside) (g : GraphOf) (v : ℕ) (link : Option ArcNo) (ss : Slots) (ks : List ℕ) → graph_of a ≡ g → IsArena a → v < n_of g → link ≡ (vertex_in a.vertices v).first → ss ≡ a.slots → ks ≡ numbers ss link → All (λ k. k < made_of g) ks
+within_made a g v link ss ks same arena h read is are =
     let o = opened a g same arena in
-    let l = linked_at a g v x ss same arena h read is in
+    let l = linked_at a g v link ss same arena h read is in
     subst (λ js. All (λ k. k < made_of g) js) (sym are) (λ i d low. omega (arith, l.within i d low, ap length is, o.shows.made))

@@ -51,7 +51,7 @@ pub record UtilCan (a : Inside) (g : GraphOf) (p : Place) (u w : Util) (us : Lis
   pub place : has_place g p ≡ true
   pub value : IsValue (n_of g) g.entries w
   pub fields : us ≡ a.fields
-  pub vertices : vs ≡ a.vertices.items
+  pub vertices : vs ≡ a.vertices
   pub slots : ss ≡ a.slots
 
 pub value_sound : (g : GraphOf) (u w : Util) → can_name g u ≡ true → w ≡ stored u → IsStorable w → IsValue (n_of g) g.entries w
@@ -69,7 +69,7 @@ util_requires a g p u w us vs ss k =
     }
 
 pub util_after : (a b : Inside) (g : GraphOf) (p : Place) (u w old : Util) (us us' : List Util) (vs ws : List vertex.Vertex) (ss ts : Slots) → UtilCan a g p u w us vs ss
-    → Exchanges us vs ss p w old us' ws ts → b.fields ≡ us' → b.vertices.items ≡ ws → b.slots ≡ ts → b.live ≡ a.live → b.id ≡ a.id → b.types ≡ a.types
+    → Exchanges us vs ss p w old us' ws ts → b.fields ≡ us' → b.vertices ≡ ws → b.slots ≡ ts → b.live ≡ a.live → b.id ≡ a.id → b.types ≡ a.types
     → Opened b (with_util g p w) × (old ≡ util_at g p)
 util_after a b g p u w old us us' vs ws ss ts k e fields vertices slots live id types =
     let o = k.opened in
@@ -94,7 +94,7 @@ pub record UtilDone (b : Inside) (g : GraphOf) (p : Place) (u old : Util) : Type
   pub sound : IsGraph (graph_of b)
 
 pub util_done : (a b : Inside) (g : GraphOf) (p : Place) (u w old : Util) (us us' : List Util) (vs ws : List vertex.Vertex) (ss ts : Slots) → UtilCan a g p u w us vs ss → can_name g u ≡ true → w ≡ stored u → IsStorable w
-    → Exchanges us vs ss p w old us' ws ts → b.fields ≡ us' → b.vertices.items ≡ ws → b.slots ≡ ts → b.live ≡ a.live → b.id ≡ a.id → b.types ≡ a.types → UtilDone b g p u old
+    → Exchanges us vs ss p w old us' ws ts → b.fields ≡ us' → b.vertices ≡ ws → b.slots ≡ ts → b.live ≡ a.live → b.id ≡ a.id → b.types ≡ a.types → UtilDone b g p u old
 util_done a b g p u w old us us' vs ws ss ts k named is storable e fields vertices slots live id types =
     let both = util_after a b g p u w old us us' vs ws ss ts k e fields vertices slots live id types in
     let after : Opened b (with_util g p (stored u)) = subst (λ z. Opened b (with_util g p z)) is both.0 in
@@ -183,7 +183,7 @@ left_util g h p old l =
     }
 
 pub revert_util_requires : (a : Inside) (h : GraphOf) (p : Place) (old : Util) (us : List Util) (vs : List vertex.Vertex) (ss : Slots) (g : GraphOf) → graph_of a ≡ h → IsArena a → LeftByUtil g p old h
-    → us ≡ a.fields → vs ≡ a.vertices.items → ss ≡ a.slots → UtilCan a h p old old us vs ss
+    → us ≡ a.fields → vs ≡ a.vertices → ss ≡ a.slots → UtilCan a h p old old us vs ss
 revert_util_requires a h p old us vs ss g same arena l fields vertices slots =
     let x = left_util g h p old l in
     record { opened = opened a h same arena; place = x.place; value = x.sound; fields = fields; vertices = vertices; slots = slots }

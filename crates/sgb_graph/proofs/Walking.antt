@@ -1,5 +1,5 @@
 -- Lemmas on walks past the second halves of loops.
-use Rattle.std.proofs.Common.{◌≡◌, ◌<◌, ◌≤◌, ◌+◌, ℕ, suc, List, [], ◌∷◌, length, get_or, Option, Some, None, Bool, true, false, ◌&&◌, ◌==◌, All, cond, inl, inr, refl, sym, ap, subst, ◌∙◌, arith}
+use Rattle.std.proofs.Common.{◌≡◌, ◌<◌, ◌≤◌, ◌+◌, ℕ, suc, List, [], ◌∷◌, length, Option, Some, None, Bool, true, false, ◌&&◌, ◌==◌, All, cond, inl, inr, refl, sym, ap, subst, ◌∙◌, arith}
 use Rattle.std.proofs.lemmas.Bool.{cases_Bool, eq-eqb}
 use Rattle.std.proofs.lemmas.List.Elements.{All-cons}
 use Rattle.sgb_graph.specs.declared.field.ArcNo.{ArcNo}
@@ -11,6 +11,7 @@ use Rattle.sgb_graph.specs.Edit.{owner_of}
 use Rattle.sgb_graph.specs.Read.{entry_view}
 use Rattle.sgb_graph.specs.Paired.{goes, is_vertex, leads_from, is_loop, is_loop_pair, without_halves, walk}
 use Rattle.sgb_graph.specs.Private.Arena.{Slots, Shows, IsArena, IsLinked, slot_at, next_at, entry_of, numbers, graph_of}
+use Rattle.sgb_graph.specs.Private.Link.{vertex_in}
 use Rattle.sgb_graph.specs.Private.Walk.{is_loop_in, is_pair_in, without_pairs, walked, past}
 use Rattle.sgb_graph.proofs.Counts.{occurs_yes, occurs_more}
 use Rattle.sgb_graph.proofs.Graphs.{owner_is}
@@ -44,15 +45,15 @@ same_walk g v ss (j ∷ (k ∷ ks)) same =
     (same_walk g v ss (k ∷ ks) (λ i h. same i (omega (arith, occurs_more i j (k ∷ ks), h)))))
 
 -- what `walk` walks along
-pub walk_is : (a : Inside) (g : GraphOf) (v : ℕ) (d : Bool) (x : Vertex) (ss : Slots) (ks : List ℕ) → graph_of a ≡ g → IsArena a → v < n_of g → x ≡ get_or a.vertices.items v x → ss ≡ a.slots → ks ≡ walked d ss (numbers ss x.first) → ks ≡ walk d g v
-walk_is a g v true x ss ks same arena low read is are = arcs_are a g v x ss ks same arena low read is are
-walk_is a g v false x ss ks same arena low read is are =
+pub walk_is : (a : Inside) (g : GraphOf) (v : ℕ) (d : Bool) (link : Option ArcNo) (ss : Slots) (ks : List ℕ) → graph_of a ≡ g → IsArena a → v < n_of g → link ≡ (vertex_in a.vertices v).first → ss ≡ a.slots → ks ≡ walked d ss (numbers ss link) → ks ≡ walk d g v
+walk_is a g v true link ss ks same arena low read is are = arcs_are a g v link ss ks same arena low read is are
+walk_is a g v false link ss ks same arena low read is are =
     let o = opened a g same arena in
-    let list : numbers ss x.first ≡ arcs_of g v = arcs_are a g v x ss (numbers ss x.first) same arena low read is refl in
+    let list : numbers ss link ≡ arcs_of g v = arcs_are a g v link ss (numbers ss link) same arena low read is refl in
     are
     ∙ (ap (without_pairs ss) list
     ∙ (ap (λ (s : Slots). without_pairs s (arcs_of g v)) is
-    ∙ sym (same_walk g v a.slots (arcs_of g v) (λ k h. loop_at a.vertices.items a.slots g v k (slot_at a.slots k) o.shows o.graph refl h))))
+    ∙ sym (same_walk g v a.slots (arcs_of g v) (λ k h. loop_at a.vertices a.slots g v k (slot_at a.slots k) o.shows o.graph refl h))))
 
 -- what holds of each number of a list holds of each one of a walk
 All-walk : (P : ℕ → Type 0) (g : GraphOf) (v : ℕ) (ks : List ℕ) → All P ks → All P (without_halves g v ks)

@@ -14,4 +14,5 @@ pub mod Link
 pub mod Revert
 pub mod SameLaws
 pub mod SameRows
+pub mod Vertices
 pub mod Walk

@@ -18,6 +18,7 @@ mod read;
 mod revert;
 mod same;
 mod set;
+mod vertices;
 mod walk;
 
 use crate::text::Label;
@@ -28,6 +29,7 @@ pub(crate) use arena::Cell;
 use codes::Link;
 pub use read::ArcView;
 use std::marker::Model;
+pub(crate) use vertices::Vertices;
 pub use walk::Walk;
 
 /// The most vertices that a graph has.
@@ -43,7 +45,7 @@ pub struct Graph {
     id: Text,
     types: Types,
     fields: [Util; 6],
-    vertices: Vec<Vertex>,
+    vertices: Vertices,
     slots: Arena,
     // How many slots hold an arc.
     live: u32,

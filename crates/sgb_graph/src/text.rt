@@ -90,10 +90,15 @@ fn is_text_byte(byte: u8) -> bool
     byte >= b' ' && byte <= b'~' && byte != b'"' && byte != b'\\'
 }
 
+// Looks at all of them, whatever it meets: so many are looked at together.
 fn are_text_bytes(bytes: &[u8]) -> bool
     ensures { result ≡ list_all is_text_byte bytes.now }
 {
-    bytes.iter().all(|byte| is_text_byte(*byte))
+    let mut all = true;
+    'bytes: for byte in bytes {
+        all = all & is_text_byte(*byte);
+    }
+    all
 }
 
 /// The most bytes of a name that takes no memory.

@@ -40,7 +40,7 @@ graph_of a = record {
   id = a.id;
   types = a.types;
   fields = a.fields;
-  vertices = map (vertex_of a.slots) a.vertices.items;
+  vertices = map (vertex_of a.slots) a.vertices;
   entries = map entry_of a.slots;
 }
 
@@ -74,7 +74,7 @@ pub record Shows (vs : List Vertex) (ss : Slots) (g : GraphOf) : Type 0 where
 
 pub record IsArena (a : Inside) : Type 0 where
   pub graph : IsGraph (graph_of a)
-  pub shows : Shows a.vertices.items a.slots (graph_of a)
+  pub shows : Shows a.vertices a.slots (graph_of a)
   pub live : a.live ≡ m_of (graph_of a)
 
 -- the arc as the readers show it

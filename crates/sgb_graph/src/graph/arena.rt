@@ -488,11 +488,11 @@ fn new_cell(owner: VertexNo, to: VertexNo, next: Link, len: i64) -> Cell
     }
 }
 
-// Takes room for so many slots more, and for the fields of all.
+// Takes room for so many slots more, or vertices, and for the fields of all.
 #[inline]
-fn make_room(
-    cells: &mut Vec<Cell>,
-    fields: &mut Vec<[Util; 2]>,
+pub(super) fn make_room<T, F: Drop>(
+    cells: &mut Vec<T>,
+    fields: &mut Vec<F>,
     count: usize,
 ) -> Result<(), AllocError>
     requires len { vec_len fields.old ≤ vec_len cells.old }
@@ -511,12 +511,12 @@ fn make_room(
     grow_room(cells, fields, count)
 }
 
-// Takes more memory for so many slots more, and for the fields of all.
+// Takes more memory for so many slots or vertices more, and for the fields of all.
 #[cold]
 #[inline(never)]
-fn grow_room(
-    cells: &mut Vec<Cell>,
-    fields: &mut Vec<[Util; 2]>,
+fn grow_room<T, F: Drop>(
+    cells: &mut Vec<T>,
+    fields: &mut Vec<F>,
     count: usize,
 ) -> Result<(), AllocError>
     requires { vec_len fields.old ≤ vec_len cells.old }

@@ -2,7 +2,7 @@
 ghost use Rattle.std.specs.Prelude.{◌≡◌};
 ghost use Rattle.sgb_graph.specs.Private.Exchange.{IsPlaceIn, value_in, fields_with, vertices_with, slots_with, Exchanges, CanBeExchanged};
 
-use super::Vertex;
+use super::Vertices;
 use super::arena::Arena;
 use crate::{Place, Util};
 use std::mem;
@@ -10,7 +10,7 @@ use std::mem;
 // Puts the value into the field, and gives the one that was there. No count of names is touched.
 fn replace_value(
     fields: &mut [Util; 6],
-    vertices: &mut [Vertex],
+    vertices: &mut Vertices,
     slots: &mut Arena,
     place: Place,
     value: Util,
@@ -22,10 +22,7 @@ fn replace_value(
     ensures slots { slots.new ≡ slots_with slots.old place value }
 {
     match place {
-        Place::Vertex(vertex, field) => {
-            let vertex = &mut vertices[vertex.0 as usize];
-            mem::replace(&mut vertex.fields[field.place()], value)
-        }
+        Place::Vertex(vertex, field) => vertices.replace_field(vertex, field.place(), value),
         Place::Arc(number, field) => slots.replace_field(number, field.place(), value),
         Place::Graph(field) => mem::replace(&mut fields[field.place()], value),
     }
@@ -34,7 +31,7 @@ fn replace_value(
 // Puts the value into the field, counts its name and forgets the old one's, and gives the old one.
 pub(super) fn exchange(
     fields: &mut [Util; 6],
-    vertices: &mut [Vertex],
+    vertices: &mut Vertices,
     slots: &mut Arena,
     place: Place,
     value: Util,

@@ -8,7 +8,7 @@ ghost use Rattle.sgb_graph.specs.Vertex.{NamesNothing, new_vertex, with_vertex_l
 
 use super::arena::is_zero;
 use super::set::stored;
-use super::{Graph, Link, MOST_ARCS, MOST_VERTICES, Vertex};
+use super::{Graph, MOST_ARCS, MOST_VERTICES};
 use crate::{Label, Refusal, Util};
 
 impl Graph {
@@ -25,13 +25,7 @@ impl Graph {
             return Err(Refusal::TooLarge);
         }
         let _ = label.bytes();
-        self.vertices.reserve(1)?;
-        let fields = stored_six(fields);
-        self.vertices.push_reserved(Vertex {
-            label,
-            fields,
-            first: Link::none(),
-        });
+        self.vertices.push(label, stored_six(fields))?;
         Ok(())
     }
 

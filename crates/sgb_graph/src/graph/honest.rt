@@ -1,9 +1,8 @@
 //! Whether each value is one that its letter allows.
 ghost use Rattle.std.specs.Prelude.{◌≡◌};
-ghost use Rattle.std.specs.List.{list_all};
 ghost use Rattle.sgb_graph.specs.Honest.{are_allowed, is_honest};
 
-use super::{Graph, Vertex};
+use super::Graph;
 use crate::Util;
 
 impl Graph {
@@ -17,19 +16,11 @@ impl Graph {
         if !are_allowed(graph_letters, &self.fields) {
             return false;
         }
-        if !are_vertices_honest(vertex_letters, &self.vertices) {
+        if !self.vertices.is_honest(vertex_letters) {
             return false;
         }
         self.slots.is_honest(arc_letters)
     }
-}
-
-fn are_vertices_honest(letters: &[u8], vertices: &[Vertex]) -> bool
-    ensures { result ≡ list_all (λ v. are_allowed letters.now v.fields) vertices.now }
-{
-    vertices
-        .iter()
-        .all(|vertex| are_allowed(letters, &vertex.fields))
 }
 
 // Each value is allowed by the letter at its place.

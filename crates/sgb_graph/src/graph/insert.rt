@@ -8,7 +8,7 @@ ghost use Rattle.sgb_graph.specs.Field.{arc_no};
 ghost use Rattle.sgb_graph.specs.Private.Insert.{first_behind};
 ghost use Rattle.sgb_graph.specs.Private.Link.{vertex_in, vertices_relinked};
 
-use super::{Graph, Link, MOST_ARCS, Vertex};
+use super::{Graph, Link, MOST_ARCS, Vertices};
 use crate::{ArcNo, GraphDelta, Refusal, VertexNo};
 
 impl Graph {
@@ -130,16 +130,16 @@ impl Graph {
 
 // The first link of a vertex.
 #[inline]
-fn first_of(vertices: &[Vertex], vertex: VertexNo) -> Link
+fn first_of(vertices: &Vertices, vertex: VertexNo) -> Link
     requires { vertex.0 < length vertices.now }
     ensures { result ≡ (vertex_in vertices.now vertex.0).first }
 {
-    vertices[vertex.0 as usize].first
+    vertices.first(vertex)
 }
 
 // What follows the first arc of a new edge in its list: of a loop its second arc.
 #[inline]
-fn after_first(vertices: &[Vertex], number: ArcNo, low: VertexNo, high: VertexNo) -> Link
+fn after_first(vertices: &Vertices, number: ArcNo, low: VertexNo, high: VertexNo) -> Link
     requires low { low.0 < length vertices.now }
     requires number { number.0 + 1 < 1000000 }
     ensures { result ≡ first_behind vertices.now number.0 low.0 high.0 }
@@ -153,17 +153,17 @@ fn after_first(vertices: &[Vertex], number: ArcNo, low: VertexNo, high: VertexNo
 
 // Makes the arc first in the list of its owner.
 #[inline]
-fn link_first(vertices: &mut [Vertex], owner: VertexNo, number: ArcNo)
+fn link_first(vertices: &mut Vertices, owner: VertexNo, number: ArcNo)
     requires owner { owner.0 < length vertices.old }
     requires number { number.0 < 1000000 }
     ensures { vertices.new ≡ vertices_relinked vertices.old owner.0 None (Some number) }
 {
-    vertices[owner.0 as usize].first = Link::to(number);
+    vertices.replace_first(owner, Link::to(number));
 }
 
 // Makes the arcs of a new edge first in the lists of their owners, the second before the first.
 #[inline]
-fn link_both(vertices: &mut [Vertex], number: ArcNo, low: VertexNo, high: VertexNo)
+fn link_both(vertices: &mut Vertices, number: ArcNo, low: VertexNo, high: VertexNo)
     requires low { low.0 < length vertices.old }
     requires high { high.0 < length vertices.old }
     requires number { number.0 + 1 < 1000000 }

@@ -7,9 +7,8 @@ ghost use Rattle.sgb_graph.specs.Private.Link.{number_before, link_after, vertic
 
 use super::arena::{Arena, Slot};
 use super::codes::{Link, TipCode};
-use super::{Arcs, Vertex};
+use super::{Arcs, Vertices};
 use crate::{ArcNo, CutArc, Util, VertexNo};
-use std::mem;
 
 // The arc that stands before this place of a list.
 fn number_before(slots: &Arena, first: Link, place: u32) -> Option<ArcNo>
@@ -24,7 +23,7 @@ fn number_before(slots: &Arena, first: Link, place: u32) -> Option<ArcNo>
 
 // Replaces the link that follows this arc, or else the owner's first link, and gives the link that was there.
 fn replace_link(
-    vertices: &mut [Vertex],
+    vertices: &mut Vertices,
     slots: &mut Arena,
     owner: VertexNo,
     before: Option<ArcNo>,
@@ -37,7 +36,7 @@ fn replace_link(
     ensures slots { slots.new ≡ slots_relinked slots.old before link }
 {
     match before {
-        None => mem::replace(&mut vertices[owner.0 as usize].first, link),
+        None => vertices.replace_first(owner, link),
         Some(before) => slots.replace_next(before, link),
     }
 }
@@ -77,7 +76,7 @@ fn place_in(slots: &Arena, first: Link, number: ArcNo) -> u32
 }
 
 // Links the arc into its owner's list at its place. Its number is a hole.
-pub(super) fn put_back(vertices: &mut [Vertex], slots: &mut Arena, cut: CutArc)
+pub(super) fn put_back(vertices: &mut Vertices, slots: &mut Arena, cut: CutArc)
     requires { CanBePutBack vertices.old slots.old cut }
     ensures { PutsBack vertices.old slots.old cut vertices.new slots.new }
 {
@@ -90,18 +89,18 @@ pub(super) fn put_back(vertices: &mut [Vertex], slots: &mut Arena, cut: CutArc)
         fields,
     } = cut;
     gain_names(slots, &fields);
-    let before = number_before(slots, vertices[owner.0 as usize].first, place);
+    let before = number_before(slots, vertices.first(owner), place);
     let next = replace_link(vertices, slots, owner, before, Link::to(number));
     slots.put(number, owner, TipCode::new(tip), next, len, fields);
 }
 
 // Takes the arc out of its owner's list, and makes its number a hole.
-pub(super) fn take_out(vertices: &mut [Vertex], slots: &mut Arena, number: ArcNo) -> CutArc
+pub(super) fn take_out(vertices: &mut Vertices, slots: &mut Arena, number: ArcNo) -> CutArc
     requires { CanBeTakenOut vertices.old slots.old number.0 }
     ensures { TakesOut vertices.old slots.old number.0 result vertices.new slots.new }
 {
     let owner = slots.owner_at(number);
-    let first = vertices[owner.0 as usize].first;
+    let first = vertices.first(owner);
     let place = place_in(slots, first, number);
     let before = number_before(slots, first, place);
     let slot = slots.remove(number);

@@ -1,5 +1,5 @@
 //! Graphs without arcs.
-ghost use Rattle.std.specs.Prelude.{◌≡◌, ◌≤◌, ◌⊎◌, [], ◌∷◌, map, replicate, length, vec_len, All, IfOk, IfErr, None, Some};
+ghost use Rattle.std.specs.Prelude.{◌≡◌, ◌≤◌, ◌⊎◌, [], ◌∷◌, map, length, All, IfOk, IfErr, None, Some};
 ghost use Rattle.std.specs.Result.{IsErrOf};
 ghost use Rattle.sgb_graph.specs.declared.field.Util.TheVariants.{Zero};
 ghost use Rattle.sgb_graph.specs.Graph.{IsGraph, IsId};
@@ -7,12 +7,10 @@ ghost use Rattle.sgb_graph.specs.Types.{IsTypes};
 ghost use Rattle.sgb_graph.specs.Edit.{refusal_of_new};
 ghost use Rattle.sgb_graph.specs.New.{new_graph, new_id, bare_graph, six_zeros};
 ghost use Rattle.sgb_graph.specs.Private.Arena.{IsBare, bare_vertex};
-ghost use Rattle.sgb_graph.specs.Private.Blank.{blank};
 
 use super::arena::Arena;
-use super::codes::Link;
-use super::{Graph, MOST_VERTICES, Vertex};
-use crate::{Label, Refusal, Text, Types, Util};
+use super::{Graph, MOST_VERTICES, Vertices};
+use crate::{Refusal, Text, Types, Util};
 use std::alloc::{AllocError, Global};
 
 impl Graph {
@@ -27,7 +25,7 @@ impl Graph {
             return Err(Refusal::TooLarge);
         }
         let id = new_id(alloc, n)?;
-        let vertices = blank_vertices(alloc, n)?;
+        let vertices = Vertices::blank(alloc, n)?;
         Ok(bare_graph(alloc, id, Types::none(), vertices))
     }
 
@@ -39,17 +37,17 @@ impl Graph {
     {
         let _ = id.bytes();
         let _ = types.letters();
-        bare_graph(alloc, id, types, Vec::new(alloc))
+        bare_graph(alloc, id, types, Vertices::new(alloc))
     }
 }
 
 // The graph of these vertices, without arcs.
-fn bare_graph(alloc: Global, id: Text, types: Types, vertices: Vec<Vertex>) -> Graph
-    requires few { length vertices.items ≤ 65535 }
+fn bare_graph(alloc: Global, id: Text, types: Types, vertices: Vertices) -> Graph
+    requires few { length vertices ≤ 65535 }
     requires id { IsId id }
     requires types { IsTypes types }
-    requires bare { All (IsBare (length vertices.items)) vertices.items }
-    ensures value { result ≡ bare_graph id types (map bare_vertex vertices.items) }
+    requires bare { All (IsBare (length vertices)) vertices }
+    ensures value { result ≡ bare_graph id types (map bare_vertex vertices) }
     ensures graph { IsGraph result }
 {
     Graph {
@@ -62,7 +60,7 @@ fn bare_graph(alloc: Global, id: Text, types: Types, vertices: Vec<Vertex>) -> G
     }
 }
 
-fn six_zeros() -> [Util; 6]
+pub(super) fn six_zeros() -> [Util; 6]
     ensures { result ≡ six_zeros }
 {
     [
@@ -73,26 +71,6 @@ fn six_zeros() -> [Util; 6]
         Util::Zero,
         Util::Zero,
     ]
-}
-
-fn blank() -> Vertex
-    ensures { result ≡ blank }
-{
-    Vertex {
-        label: Label::empty(),
-        fields: six_zeros(),
-        first: Link::none(),
-    }
-}
-
-fn blank_vertices(alloc: Global, n: u32) -> Result<Vec<Vertex>, AllocError>
-    ensures { IfOk result (λ v. v.items ≡ replicate n blank) }
-{
-    let mut vertices = Vec::with_capacity(alloc, n as usize)?;
-    for _i in 0..n {
-        vertices.push(blank())?;
-    }
-    Ok(vertices)
 }
 
 fn new_id(alloc: Global, n: u32) -> Result<Text, AllocError>

@@ -75,7 +75,7 @@ impl Graph {
         ensures value { result.now ≡ label_of self.now vertex.0 }
         ensures text { IsText (label_of self.now vertex.0) }
     {
-        self.vertices[vertex.0 as usize].label.bytes()
+        self.vertices.label(vertex).bytes()
     }
 
     /// The numbers of a vertex's arcs, the newest first. Each is live.
@@ -89,7 +89,7 @@ impl Graph {
         ensures few { length result ≤ made_of self.now }
         ensures graph { IsGraph self.now }
     {
-        Arcs::new(&self.slots, self.vertices[vertex.0 as usize].first)
+        Arcs::new(&self.slots, self.vertices.first(vertex))
     }
 
     /// The numbers of a vertex's arcs, the newest first, as many as there were insertions: where `directed` is false
@@ -104,11 +104,7 @@ impl Graph {
         ensures few { length result ≤ made_of self.now }
         ensures graph { IsGraph self.now }
     {
-        Walk::new(
-            &self.slots,
-            self.vertices[vertex.0 as usize].first,
-            directed,
-        )
+        Walk::new(&self.slots, self.vertices.first(vertex), directed)
     }
 
     /// The arc of this number, or `None` at a hole.
@@ -138,7 +134,7 @@ impl Graph {
         requires { vertex.0 < n_of self.now }
         ensures { result.now ≡ (vertex_at self.now vertex.0).fields }
     {
-        &self.vertices[vertex.0 as usize].fields
+        self.vertices.fields(vertex)
     }
 
     /// The utility fields of a live arc, in the order of `ArcField`.

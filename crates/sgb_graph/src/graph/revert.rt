@@ -7,7 +7,7 @@ ghost use Rattle.sgb_graph.specs.Delta.{LeftBy, LeftByArc, LeftByEdge, LeftByCut
 use super::arena::Arena;
 use super::exchange::exchange;
 use super::link::{put_back, take_out};
-use super::{Graph, Vertex};
+use super::{Graph, Vertices};
 use crate::{ArcNo, CutArc, GraphDelta, Label, Place, Text, Types, Util, VertexNo};
 
 impl Graph {
@@ -88,7 +88,7 @@ impl Graph {
         ensures back { (g : GraphOf) → LeftByLabel g vertex label self.old → self.new ≡ g }
         ensures sound { IsGraph self.new }
     {
-        self.vertices[vertex.0 as usize].label = label;
+        self.vertices.replace_label(vertex, label);
     }
 
     fn revert_id(&mut self, id: Text)
@@ -109,7 +109,7 @@ impl Graph {
 }
 
 // Takes the arc and the one of the next number out of their owners' lists.
-fn take_out_both(vertices: &mut [Vertex], slots: &mut Arena, number: ArcNo)
+fn take_out_both(vertices: &mut Vertices, slots: &mut Arena, number: ArcNo)
     requires { CanBothBeTakenOut vertices.old slots.old number.0 }
     ensures { TakesOutBoth vertices.old slots.old number.0 vertices.new slots.new }
 {

@@ -1,12 +1,11 @@
 //! Comparing graphs.
 ghost use Rattle.std.specs.Prelude.{◌≡◌};
-ghost use Rattle.std.specs.List.{list_all, zip};
 ghost use Rattle.sgb_graph.specs.Same.{tip_eq};
-ghost use Rattle.sgb_graph.specs.Private.SameRows.{link_eq, row_eq, each_eq, own_eq, lists_eq};
+ghost use Rattle.sgb_graph.specs.Private.SameRows.{link_eq, own_eq, lists_eq};
 
 use super::arena::Arena;
 use super::codes::Link;
-use super::{Graph, Vertex};
+use super::{Graph, Vertices};
 use crate::{Tip, Util};
 
 impl PartialEq for Graph {
@@ -54,37 +53,14 @@ fn is_own_same(
 }
 
 fn are_lists_same(
-    vertices: &[Vertex],
-    other_vertices: &[Vertex],
+    vertices: &Vertices,
+    other_vertices: &Vertices,
     slots: &Arena,
     other_slots: &Arena,
 ) -> bool
     ensures { result ≡ lists_eq vertices.now other_vertices.now slots.now other_slots.now }
 {
-    are_vertices_same(vertices, other_vertices) && slots.is_same(other_slots)
-}
-
-fn are_vertices_same(vertices: &[Vertex], others: &[Vertex]) -> bool
-    ensures { result ≡ each_eq row_eq vertices.now others.now }
-{
-    vertices.len() == others.len() && is_each_vertex_same(vertices, others)
-}
-
-fn is_each_vertex_same(vertices: &[Vertex], others: &[Vertex]) -> bool
-    ensures { result ≡ list_all (λ p. row_eq p.0 p.1) (zip vertices.now others.now) }
-{
-    vertices
-        .iter()
-        .zip(others)
-        .all(|(vertex, other)| is_vertex_same(vertex, other))
-}
-
-fn is_vertex_same(vertex: &Vertex, other: &Vertex) -> bool
-    ensures { result ≡ row_eq vertex.now other.now }
-{
-    vertex.label == other.label
-        && vertex.fields == other.fields
-        && is_link_same(vertex.first, other.first)
+    vertices.is_same(other_vertices) && slots.is_same(other_slots)
 }
 
 pub(super) fn is_link_same(link: Link, other: Link) -> bool

@@ -97,7 +97,7 @@ impl Graph {
         ensures sound { IsGraph self.new }
     {
         let _ = label.bytes();
-        mem::replace(&mut self.vertices[vertex.0 as usize].label, label)
+        self.vertices.replace_label(vertex, label)
     }
 
     /// Gives the graph another id. Answers what `revert` needs, and takes no memory. Refused `BadOperand` above 160
@@ -149,7 +149,7 @@ impl Graph {
         ensures { result.now ≡ util_at self.now place }
     {
         match place {
-            Place::Vertex(vertex, field) => &self.vertices[vertex.0 as usize].fields[field.place()],
+            Place::Vertex(vertex, field) => self.vertices.field(vertex, field.place()),
             Place::Arc(number, field) => self.slots.field(number, field.place()),
             Place::Graph(field) => &self.fields[field.place()],
         }

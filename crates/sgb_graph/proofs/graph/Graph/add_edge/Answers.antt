@@ -1,13 +1,11 @@
 use Rattle.std.proofs.Common.{◌∙◌, ap, sym, refl, arith, ◌+◌, ◌++◌, ◌∷◌, [], None, Some}
 use Rattle.std.proofs.Common.{to_z, of_z}
 use Rattle.std.specs.Int.{w64}
-use Rattle.std.specs.Vec.{with_items}
-use Rattle.std.proofs.lemmas.List.{with_items_is}
 use Rattle.sgb_graph.specs.declared.field.VertexNo.{VertexNo}
 use Rattle.sgb_graph.specs.declared.graph.Graph.TheInside.{Inside}
 use Rattle.sgb_graph.specs.Field.{arc_no}
-use Rattle.sgb_graph.specs.Private.Insert.{new_cut, new_slot, first_behind, PutsBoth}
-use Rattle.sgb_graph.specs.Private.Link.{vertex_in, vertices_relinked}
+use Rattle.sgb_graph.specs.Private.Insert.{new_cut, new_slot, PutsBoth}
+use Rattle.sgb_graph.specs.Private.Link.{vertices_relinked}
 use Rattle.sgb_graph.proofs.Shows.{opened}
 use Rattle.sgb_graph.proofs.InsertLemmas.{NewEdgeCan, SameOwn, new_cut_at, new_edge_done}
 use Rattle.sgb_graph.proofs.Pushing.{edge_pushed}
@@ -24,7 +22,7 @@ invariant_of-self-2 c =
     let next = arc_no (c.made-2.result + 1) in
     let second = new_cut next high low z in
     let first = new_cut number low high z in
-    let k : NewEdgeCan a g c.args.from c.args.to c.args.len second first a.vertices.items (a.slots ++ None ∷ [] ++ None ∷ []) = record {
+    let k : NewEdgeCan a g c.args.from c.args.to c.args.len second first a.vertices (a.slots ++ None ∷ [] ++ None ∷ []) = record {
       opened = opened a g c.self.view_is c.self.invariant;
       from = omega arith;
       to = omega arith;
@@ -37,19 +35,18 @@ invariant_of-self-2 c =
     } in
     let after_low = c.after_first-after_low.result in
     let after_high = c.first_of-after_high.result in
-    let puts : PutsBoth a.vertices.items (a.slots ++ None ∷ [] ++ None ∷ []) second first c.link_both.new.vertices c.push_both.new.self =
-    edge_pushed a.vertices.items (vertices_relinked a.vertices.items high.0 None (Some next)) c.link_both.new.vertices a.slots (a.slots ++ Some (new_slot low high after_low z) ∷ []) c.push_both.new.self
+    let puts : PutsBoth a.vertices (a.slots ++ None ∷ [] ++ None ∷ []) second first c.link_both.new.vertices c.push_both.new.self =
+    edge_pushed a.vertices (vertices_relinked a.vertices high.0 None (Some next)) c.link_both.new.vertices a.slots (a.slots ++ Some (new_slot low high after_low z) ∷ []) c.push_both.new.self
     number low high z after_low after_high (new_slot low high after_low z) (new_slot high low after_high z)
     (c.made-2.ensures.value ∙ sym k.opened.shows.made)
-    (c.first_of-after_high.ensures ∙ ap (λ vs. (vertex_in vs high.0).first) c.deref.ensures.value) refl
-    (c.after_first-after_low.ensures ∙ ap (λ vs. first_behind vs c.made-2.result low.0 high.0) c.deref-2.ensures.value)
-    (c.link_both.ensures ∙ ap (λ vs. vertices_relinked (vertices_relinked vs high.0 None (Some next)) low.0 None (Some number)) c.deref_mut.ensures.value)
+    c.first_of-after_high.ensures refl
+    c.after_first-after_low.ensures
+    c.link_both.ensures
     refl refl refl c.in_ok-push_both.ensures.ok in
-    let b : Inside = record { id = a.id; types = a.types; fields = a.fields; vertices = with_items a.vertices c.link_both.new.vertices; slots = c.push_both.new.self; live = a.live + 2 } in
+    let b : Inside = record { id = a.id; types = a.types; fields = a.fields; vertices = c.link_both.new.vertices; slots = c.push_both.new.self; live = a.live + 2 } in
     let own : SameOwn a b = record { id = refl; types = refl; fields = refl } in
     (new_edge_done a b g c.args.from c.args.to c.args.len second first _ _ _ _ _ k puts
-    (with_items_is a.vertices c.link_both.new.vertices (c.link_both.auto.vertices ∙ c.deref_mut.ensures.len))
-    refl refl own (ap arc_no c.made-2.ensures.value)).arena
+    refl refl refl own (ap arc_no c.made-2.ensures.value)).arena
 
 pub returns-clause-graph : goal.returns-clause-graph
 returns-clause-graph c =
@@ -62,7 +59,7 @@ returns-clause-graph c =
     let next = arc_no (c.made-2.result + 1) in
     let second = new_cut next high low z in
     let first = new_cut number low high z in
-    let k : NewEdgeCan a g c.args.from c.args.to c.args.len second first a.vertices.items (a.slots ++ None ∷ [] ++ None ∷ []) = record {
+    let k : NewEdgeCan a g c.args.from c.args.to c.args.len second first a.vertices (a.slots ++ None ∷ [] ++ None ∷ []) = record {
       opened = opened a g c.self.view_is c.self.invariant;
       from = omega arith;
       to = omega arith;
@@ -75,19 +72,18 @@ returns-clause-graph c =
     } in
     let after_low = c.after_first-after_low.result in
     let after_high = c.first_of-after_high.result in
-    let puts : PutsBoth a.vertices.items (a.slots ++ None ∷ [] ++ None ∷ []) second first c.link_both.new.vertices c.push_both.new.self =
-    edge_pushed a.vertices.items (vertices_relinked a.vertices.items high.0 None (Some next)) c.link_both.new.vertices a.slots (a.slots ++ Some (new_slot low high after_low z) ∷ []) c.push_both.new.self
+    let puts : PutsBoth a.vertices (a.slots ++ None ∷ [] ++ None ∷ []) second first c.link_both.new.vertices c.push_both.new.self =
+    edge_pushed a.vertices (vertices_relinked a.vertices high.0 None (Some next)) c.link_both.new.vertices a.slots (a.slots ++ Some (new_slot low high after_low z) ∷ []) c.push_both.new.self
     number low high z after_low after_high (new_slot low high after_low z) (new_slot high low after_high z)
     (c.made-2.ensures.value ∙ sym k.opened.shows.made)
-    (c.first_of-after_high.ensures ∙ ap (λ vs. (vertex_in vs high.0).first) c.deref.ensures.value) refl
-    (c.after_first-after_low.ensures ∙ ap (λ vs. first_behind vs c.made-2.result low.0 high.0) c.deref-2.ensures.value)
-    (c.link_both.ensures ∙ ap (λ vs. vertices_relinked (vertices_relinked vs high.0 None (Some next)) low.0 None (Some number)) c.deref_mut.ensures.value)
+    c.first_of-after_high.ensures refl
+    c.after_first-after_low.ensures
+    c.link_both.ensures
     refl refl refl c.in_ok-push_both.ensures.ok in
-    let b : Inside = record { id = a.id; types = a.types; fields = a.fields; vertices = with_items a.vertices c.link_both.new.vertices; slots = c.push_both.new.self; live = a.live + 2 } in
+    let b : Inside = record { id = a.id; types = a.types; fields = a.fields; vertices = c.link_both.new.vertices; slots = c.push_both.new.self; live = a.live + 2 } in
     let own : SameOwn a b = record { id = refl; types = refl; fields = refl } in
     (new_edge_done a b g c.args.from c.args.to c.args.len second first _ _ _ _ _ k puts
-    (with_items_is a.vertices c.link_both.new.vertices (c.link_both.auto.vertices ∙ c.deref_mut.ensures.len))
-    refl refl own (ap arc_no c.made-2.ensures.value)).graph
+    refl refl refl own (ap arc_no c.made-2.ensures.value)).graph
 
 pub returns-clause-left : goal.returns-clause-left
 returns-clause-left c =
@@ -100,7 +96,7 @@ returns-clause-left c =
     let next = arc_no (c.made-2.result + 1) in
     let second = new_cut next high low z in
     let first = new_cut number low high z in
-    let k : NewEdgeCan a g c.args.from c.args.to c.args.len second first a.vertices.items (a.slots ++ None ∷ [] ++ None ∷ []) = record {
+    let k : NewEdgeCan a g c.args.from c.args.to c.args.len second first a.vertices (a.slots ++ None ∷ [] ++ None ∷ []) = record {
       opened = opened a g c.self.view_is c.self.invariant;
       from = omega arith;
       to = omega arith;
@@ -113,19 +109,18 @@ returns-clause-left c =
     } in
     let after_low = c.after_first-after_low.result in
     let after_high = c.first_of-after_high.result in
-    let puts : PutsBoth a.vertices.items (a.slots ++ None ∷ [] ++ None ∷ []) second first c.link_both.new.vertices c.push_both.new.self =
-    edge_pushed a.vertices.items (vertices_relinked a.vertices.items high.0 None (Some next)) c.link_both.new.vertices a.slots (a.slots ++ Some (new_slot low high after_low z) ∷ []) c.push_both.new.self
+    let puts : PutsBoth a.vertices (a.slots ++ None ∷ [] ++ None ∷ []) second first c.link_both.new.vertices c.push_both.new.self =
+    edge_pushed a.vertices (vertices_relinked a.vertices high.0 None (Some next)) c.link_both.new.vertices a.slots (a.slots ++ Some (new_slot low high after_low z) ∷ []) c.push_both.new.self
     number low high z after_low after_high (new_slot low high after_low z) (new_slot high low after_high z)
     (c.made-2.ensures.value ∙ sym k.opened.shows.made)
-    (c.first_of-after_high.ensures ∙ ap (λ vs. (vertex_in vs high.0).first) c.deref.ensures.value) refl
-    (c.after_first-after_low.ensures ∙ ap (λ vs. first_behind vs c.made-2.result low.0 high.0) c.deref-2.ensures.value)
-    (c.link_both.ensures ∙ ap (λ vs. vertices_relinked (vertices_relinked vs high.0 None (Some next)) low.0 None (Some number)) c.deref_mut.ensures.value)
+    c.first_of-after_high.ensures refl
+    c.after_first-after_low.ensures
+    c.link_both.ensures
     refl refl refl c.in_ok-push_both.ensures.ok in
-    let b : Inside = record { id = a.id; types = a.types; fields = a.fields; vertices = with_items a.vertices c.link_both.new.vertices; slots = c.push_both.new.self; live = a.live + 2 } in
+    let b : Inside = record { id = a.id; types = a.types; fields = a.fields; vertices = c.link_both.new.vertices; slots = c.push_both.new.self; live = a.live + 2 } in
     let own : SameOwn a b = record { id = refl; types = refl; fields = refl } in
     (new_edge_done a b g c.args.from c.args.to c.args.len second first _ _ _ _ _ k puts
-    (with_items_is a.vertices c.link_both.new.vertices (c.link_both.auto.vertices ∙ c.deref_mut.ensures.len))
-    refl refl own (ap arc_no c.made-2.ensures.value)).left
+    refl refl refl own (ap arc_no c.made-2.ensures.value)).left
 
 pub returns-clause-sound : goal.returns-clause-sound
 returns-clause-sound c =
@@ -138,7 +133,7 @@ returns-clause-sound c =
     let next = arc_no (c.made-2.result + 1) in
     let second = new_cut next high low z in
     let first = new_cut number low high z in
-    let k : NewEdgeCan a g c.args.from c.args.to c.args.len second first a.vertices.items (a.slots ++ None ∷ [] ++ None ∷ []) = record {
+    let k : NewEdgeCan a g c.args.from c.args.to c.args.len second first a.vertices (a.slots ++ None ∷ [] ++ None ∷ []) = record {
       opened = opened a g c.self.view_is c.self.invariant;
       from = omega arith;
       to = omega arith;
@@ -151,16 +146,15 @@ returns-clause-sound c =
     } in
     let after_low = c.after_first-after_low.result in
     let after_high = c.first_of-after_high.result in
-    let puts : PutsBoth a.vertices.items (a.slots ++ None ∷ [] ++ None ∷ []) second first c.link_both.new.vertices c.push_both.new.self =
-    edge_pushed a.vertices.items (vertices_relinked a.vertices.items high.0 None (Some next)) c.link_both.new.vertices a.slots (a.slots ++ Some (new_slot low high after_low z) ∷ []) c.push_both.new.self
+    let puts : PutsBoth a.vertices (a.slots ++ None ∷ [] ++ None ∷ []) second first c.link_both.new.vertices c.push_both.new.self =
+    edge_pushed a.vertices (vertices_relinked a.vertices high.0 None (Some next)) c.link_both.new.vertices a.slots (a.slots ++ Some (new_slot low high after_low z) ∷ []) c.push_both.new.self
     number low high z after_low after_high (new_slot low high after_low z) (new_slot high low after_high z)
     (c.made-2.ensures.value ∙ sym k.opened.shows.made)
-    (c.first_of-after_high.ensures ∙ ap (λ vs. (vertex_in vs high.0).first) c.deref.ensures.value) refl
-    (c.after_first-after_low.ensures ∙ ap (λ vs. first_behind vs c.made-2.result low.0 high.0) c.deref-2.ensures.value)
-    (c.link_both.ensures ∙ ap (λ vs. vertices_relinked (vertices_relinked vs high.0 None (Some next)) low.0 None (Some number)) c.deref_mut.ensures.value)
+    c.first_of-after_high.ensures refl
+    c.after_first-after_low.ensures
+    c.link_both.ensures
     refl refl refl c.in_ok-push_both.ensures.ok in
-    let b : Inside = record { id = a.id; types = a.types; fields = a.fields; vertices = with_items a.vertices c.link_both.new.vertices; slots = c.push_both.new.self; live = a.live + 2 } in
+    let b : Inside = record { id = a.id; types = a.types; fields = a.fields; vertices = c.link_both.new.vertices; slots = c.push_both.new.self; live = a.live + 2 } in
     let own : SameOwn a b = record { id = refl; types = refl; fields = refl } in
     (new_edge_done a b g c.args.from c.args.to c.args.len second first _ _ _ _ _ k puts
-    (with_items_is a.vertices c.link_both.new.vertices (c.link_both.auto.vertices ∙ c.deref_mut.ensures.len))
-    refl refl own (ap arc_no c.made-2.ensures.value)).sound
+    refl refl refl own (ap arc_no c.made-2.ensures.value)).sound

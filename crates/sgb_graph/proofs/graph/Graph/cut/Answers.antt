@@ -1,6 +1,4 @@
 use Rattle.std.proofs.Common.{◌∙◌, sym, refl, ◌-◌}
-use Rattle.std.specs.Vec.{with_items}
-use Rattle.std.proofs.lemmas.List.{with_items_is}
 use Rattle.sgb_graph.specs.declared.graph.Graph.TheInside.{Inside}
 use Rattle.sgb_graph.proofs.Shows.{opened}
 use Rattle.sgb_graph.proofs.InsertLemmas.{SameOwn}
@@ -13,18 +11,16 @@ invariant_of-self c =
     let a = c.self.inside in
     let k = c.args.number.0 in
     let tested = sym c.can_cut.ensures.value ∙ c.if-not-can_cut.false in
-    let x : CutCan a g k c.deref_mut.result.now c.self.inside.slots = record {
+    let x : CutCan a g k c.self.inside.vertices c.self.inside.slots = record {
       opened = opened a g c.self.view_is c.self.invariant;
       can = can_cut_is g k tested;
-      vertices = c.deref_mut.ensures.value;
+      vertices = refl;
       slots = refl;
     } in
-    let b : Inside = record { id = a.id; types = a.types; fields = a.fields; vertices = with_items a.vertices c.take_out-arc.new.vertices; slots = c.take_out-arc.new.slots; live = a.live - 1 } in
+    let b : Inside = record { id = a.id; types = a.types; fields = a.fields; vertices = c.take_out-arc.new.vertices; slots = c.take_out-arc.new.slots; live = a.live - 1 } in
     let own : SameOwn a b = record { id = refl; types = refl; fields = refl } in
     (cut_left a b g k c.take_out-arc.result _ _ _ _ x (cut_accepted g k tested) c.take_out-arc.ensures
-    (with_items_is a.vertices c.take_out-arc.new.vertices (c.take_out-arc.auto.vertices ∙ c.deref_mut.ensures.len))
-    refl
-    refl own).arena
+    refl refl refl own).arena
 
 pub returns-clause-graph : goal.returns-clause-graph
 returns-clause-graph c =
@@ -32,18 +28,16 @@ returns-clause-graph c =
     let a = c.self.inside in
     let k = c.args.number.0 in
     let tested = sym c.can_cut.ensures.value ∙ c.if-not-can_cut.false in
-    let x : CutCan a g k c.deref_mut.result.now c.self.inside.slots = record {
+    let x : CutCan a g k c.self.inside.vertices c.self.inside.slots = record {
       opened = opened a g c.self.view_is c.self.invariant;
       can = can_cut_is g k tested;
-      vertices = c.deref_mut.ensures.value;
+      vertices = refl;
       slots = refl;
     } in
-    let b : Inside = record { id = a.id; types = a.types; fields = a.fields; vertices = with_items a.vertices c.take_out-arc.new.vertices; slots = c.take_out-arc.new.slots; live = a.live - 1 } in
+    let b : Inside = record { id = a.id; types = a.types; fields = a.fields; vertices = c.take_out-arc.new.vertices; slots = c.take_out-arc.new.slots; live = a.live - 1 } in
     let own : SameOwn a b = record { id = refl; types = refl; fields = refl } in
     (cut_left a b g k c.take_out-arc.result _ _ _ _ x (cut_accepted g k tested) c.take_out-arc.ensures
-    (with_items_is a.vertices c.take_out-arc.new.vertices (c.take_out-arc.auto.vertices ∙ c.deref_mut.ensures.len))
-    refl
-    refl own).graph
+    refl refl refl own).graph
 
 pub returns-clause-left : goal.returns-clause-left
 returns-clause-left c =
@@ -51,18 +45,16 @@ returns-clause-left c =
     let a = c.self.inside in
     let k = c.args.number.0 in
     let tested = sym c.can_cut.ensures.value ∙ c.if-not-can_cut.false in
-    let x : CutCan a g k c.deref_mut.result.now c.self.inside.slots = record {
+    let x : CutCan a g k c.self.inside.vertices c.self.inside.slots = record {
       opened = opened a g c.self.view_is c.self.invariant;
       can = can_cut_is g k tested;
-      vertices = c.deref_mut.ensures.value;
+      vertices = refl;
       slots = refl;
     } in
-    let b : Inside = record { id = a.id; types = a.types; fields = a.fields; vertices = with_items a.vertices c.take_out-arc.new.vertices; slots = c.take_out-arc.new.slots; live = a.live - 1 } in
+    let b : Inside = record { id = a.id; types = a.types; fields = a.fields; vertices = c.take_out-arc.new.vertices; slots = c.take_out-arc.new.slots; live = a.live - 1 } in
     let own : SameOwn a b = record { id = refl; types = refl; fields = refl } in
     (cut_left a b g k c.take_out-arc.result _ _ _ _ x (cut_accepted g k tested) c.take_out-arc.ensures
-    (with_items_is a.vertices c.take_out-arc.new.vertices (c.take_out-arc.auto.vertices ∙ c.deref_mut.ensures.len))
-    refl
-    refl own).left
+    refl refl refl own).left
 
 pub returns-clause-sound : goal.returns-clause-sound
 returns-clause-sound c =
@@ -70,15 +62,13 @@ returns-clause-sound c =
     let a = c.self.inside in
     let k = c.args.number.0 in
     let tested = sym c.can_cut.ensures.value ∙ c.if-not-can_cut.false in
-    let x : CutCan a g k c.deref_mut.result.now c.self.inside.slots = record {
+    let x : CutCan a g k c.self.inside.vertices c.self.inside.slots = record {
       opened = opened a g c.self.view_is c.self.invariant;
       can = can_cut_is g k tested;
-      vertices = c.deref_mut.ensures.value;
+      vertices = refl;
       slots = refl;
     } in
-    let b : Inside = record { id = a.id; types = a.types; fields = a.fields; vertices = with_items a.vertices c.take_out-arc.new.vertices; slots = c.take_out-arc.new.slots; live = a.live - 1 } in
+    let b : Inside = record { id = a.id; types = a.types; fields = a.fields; vertices = c.take_out-arc.new.vertices; slots = c.take_out-arc.new.slots; live = a.live - 1 } in
     let own : SameOwn a b = record { id = refl; types = refl; fields = refl } in
     (cut_left a b g k c.take_out-arc.result _ _ _ _ x (cut_accepted g k tested) c.take_out-arc.ensures
-    (with_items_is a.vertices c.take_out-arc.new.vertices (c.take_out-arc.auto.vertices ∙ c.deref_mut.ensures.len))
-    refl
-    refl own).sound
+    refl refl refl own).sound

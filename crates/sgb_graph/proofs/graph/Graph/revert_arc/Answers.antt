@@ -1,6 +1,4 @@
-use Rattle.std.proofs.Common.{◌∙◌, refl, arith, ◌-◌}
-use Rattle.std.specs.Vec.{with_items}
-use Rattle.std.proofs.lemmas.List.{with_items_is}
+use Rattle.std.proofs.Common.{refl, arith, ◌-◌}
 use Rattle.sgb_graph.specs.declared.graph.Graph.TheInside.{Inside}
 use Rattle.sgb_graph.proofs.Shows.{Opened, opened, closed, closed_arena}
 use Rattle.sgb_graph.proofs.InsertLemmas.{SameOwn}
@@ -14,9 +12,9 @@ pub take_out-requires : goal.take_out-requires
 take_out-requires c =
     let h = c.args.self.now in
     let a = c.self.inside in
-    let x : RevertCan a h c.deref_mut.result.now c.self.inside.slots = record {
+    let x : RevertCan a h c.self.inside.vertices c.self.inside.slots = record {
       opened = opened a h c.self.view_is c.self.invariant;
-      vertices = c.deref_mut.ensures.value;
+      vertices = refl;
       slots = refl;
     } in
     revert_requires a h c.args.number.0 _ _ x (revert_arc_can c.requires.0 h c.args.number c.requires.1)
@@ -25,9 +23,9 @@ pub overflow_sub-self : goal.overflow_sub-self
 overflow_sub-self c =
     let h = c.args.self.now in
     let a = c.self.inside in
-    let x : RevertCan a h c.deref_mut.result.now c.self.inside.slots = record {
+    let x : RevertCan a h c.self.inside.vertices c.self.inside.slots = record {
       opened = opened a h c.self.view_is c.self.invariant;
-      vertices = c.deref_mut.ensures.value;
+      vertices = refl;
       slots = refl;
     } in
     omega (arith, x.opened.live, take_m h c.args.number.0 (found_live h c.args.number.0 x.opened.graph (revert_arc_can c.requires.0 h c.args.number c.requires.1).live))
@@ -36,16 +34,16 @@ pub invariant_of-self : goal.invariant_of-self
 invariant_of-self c =
     let h = c.args.self.now in
     let a = c.self.inside in
-    let x : RevertCan a h c.deref_mut.result.now c.self.inside.slots = record {
+    let x : RevertCan a h c.self.inside.vertices c.self.inside.slots = record {
       opened = opened a h c.self.view_is c.self.invariant;
-      vertices = c.deref_mut.ensures.value;
+      vertices = refl;
       slots = refl;
     } in
-    let b : Inside = record { id = a.id; types = a.types; fields = a.fields; vertices = with_items a.vertices c.take_out.new.vertices; slots = c.truncate.new.self; live = a.live - 1 } in
+    let b : Inside = record { id = a.id; types = a.types; fields = a.fields; vertices = c.take_out.new.vertices; slots = c.truncate.new.self; live = a.live - 1 } in
     let own : SameOwn a b = record { id = refl; types = refl; fields = refl } in
     let after : (g : GraphOf) → LeftByArc g c.args.number h → Opened b g = λ g l.
     revert_arc_after a b h c.args.number c.take_out.result _ _ _ _ g x l c.take_out.ensures
-    (with_items_is a.vertices c.take_out.new.vertices (c.take_out.auto.vertices ∙ c.deref_mut.ensures.len))
+    refl
     c.truncate.ensures
     refl own in
     closed_arena b c.requires.0 (after c.requires.0 c.requires.1)
@@ -54,16 +52,16 @@ pub returns-clause-back : goal.returns-clause-back
 returns-clause-back c =
     let h = c.args.self.now in
     let a = c.self.inside in
-    let x : RevertCan a h c.deref_mut.result.now c.self.inside.slots = record {
+    let x : RevertCan a h c.self.inside.vertices c.self.inside.slots = record {
       opened = opened a h c.self.view_is c.self.invariant;
-      vertices = c.deref_mut.ensures.value;
+      vertices = refl;
       slots = refl;
     } in
-    let b : Inside = record { id = a.id; types = a.types; fields = a.fields; vertices = with_items a.vertices c.take_out.new.vertices; slots = c.truncate.new.self; live = a.live - 1 } in
+    let b : Inside = record { id = a.id; types = a.types; fields = a.fields; vertices = c.take_out.new.vertices; slots = c.truncate.new.self; live = a.live - 1 } in
     let own : SameOwn a b = record { id = refl; types = refl; fields = refl } in
     let after : (g : GraphOf) → LeftByArc g c.args.number h → Opened b g = λ g l.
     revert_arc_after a b h c.args.number c.take_out.result _ _ _ _ g x l c.take_out.ensures
-    (with_items_is a.vertices c.take_out.new.vertices (c.take_out.auto.vertices ∙ c.deref_mut.ensures.len))
+    refl
     c.truncate.ensures
     refl own in
     λ g l. closed b g (after g l)
@@ -72,16 +70,16 @@ pub returns-clause-sound : goal.returns-clause-sound
 returns-clause-sound c =
     let h = c.args.self.now in
     let a = c.self.inside in
-    let x : RevertCan a h c.deref_mut.result.now c.self.inside.slots = record {
+    let x : RevertCan a h c.self.inside.vertices c.self.inside.slots = record {
       opened = opened a h c.self.view_is c.self.invariant;
-      vertices = c.deref_mut.ensures.value;
+      vertices = refl;
       slots = refl;
     } in
-    let b : Inside = record { id = a.id; types = a.types; fields = a.fields; vertices = with_items a.vertices c.take_out.new.vertices; slots = c.truncate.new.self; live = a.live - 1 } in
+    let b : Inside = record { id = a.id; types = a.types; fields = a.fields; vertices = c.take_out.new.vertices; slots = c.truncate.new.self; live = a.live - 1 } in
     let own : SameOwn a b = record { id = refl; types = refl; fields = refl } in
     let after : (g : GraphOf) → LeftByArc g c.args.number h → Opened b g = λ g l.
     revert_arc_after a b h c.args.number c.take_out.result _ _ _ _ g x l c.take_out.ensures
-    (with_items_is a.vertices c.take_out.new.vertices (c.take_out.auto.vertices ∙ c.deref_mut.ensures.len))
+    refl
     c.truncate.ensures
     refl own in
     (closed_arena b c.requires.0 (after c.requires.0 c.requires.1)).graph

@@ -1,6 +1,4 @@
-use Rattle.std.proofs.Common.{◌∙◌, refl, ◌+◌}
-use Rattle.std.specs.Vec.{with_items}
-use Rattle.std.proofs.lemmas.List.{with_items_is}
+use Rattle.std.proofs.Common.{refl, ◌+◌}
 use Rattle.sgb_graph.specs.declared.graph.Graph.TheInside.{Inside}
 use Rattle.sgb_graph.proofs.Shows.{Opened, opened, closed, closed_arena}
 use Rattle.sgb_graph.proofs.InsertLemmas.{SameOwn}
@@ -13,9 +11,9 @@ pub put_back-requires : goal.put_back-requires
 put_back-requires c =
     let h = c.args.self.now in
     let a = c.self.inside in
-    let x : RevertCan a h c.deref_mut.result.now c.self.inside.slots = record {
+    let x : RevertCan a h c.self.inside.vertices c.self.inside.slots = record {
       opened = opened a h c.self.view_is c.self.invariant;
-      vertices = c.deref_mut.ensures.value;
+      vertices = refl;
       slots = refl;
     } in
     revert_cut_requires a h c.args.arc _ _ c.requires.0 x c.requires.1
@@ -24,52 +22,46 @@ pub invariant_of-self : goal.invariant_of-self
 invariant_of-self c =
     let h = c.args.self.now in
     let a = c.self.inside in
-    let x : RevertCan a h c.deref_mut.result.now c.self.inside.slots = record {
+    let x : RevertCan a h c.self.inside.vertices c.self.inside.slots = record {
       opened = opened a h c.self.view_is c.self.invariant;
-      vertices = c.deref_mut.ensures.value;
+      vertices = refl;
       slots = refl;
     } in
-    let b : Inside = record { id = a.id; types = a.types; fields = a.fields; vertices = with_items a.vertices c.put_back.new.vertices; slots = c.put_back.new.slots; live = a.live + 1 } in
+    let b : Inside = record { id = a.id; types = a.types; fields = a.fields; vertices = c.put_back.new.vertices; slots = c.put_back.new.slots; live = a.live + 1 } in
     let own : SameOwn a b = record { id = refl; types = refl; fields = refl } in
     let after : (g : GraphOf) → LeftByCut g c.args.arc h → Opened b g = λ g l.
     revert_cut_after a b h c.args.arc _ _ _ _ g x l c.put_back.ensures
-    (with_items_is a.vertices c.put_back.new.vertices (c.put_back.auto.vertices ∙ c.deref_mut.ensures.len))
-    refl
-    refl own in
+    refl refl refl own in
     closed_arena b c.requires.0 (after c.requires.0 c.requires.1)
 
 pub returns-clause-back : goal.returns-clause-back
 returns-clause-back c =
     let h = c.args.self.now in
     let a = c.self.inside in
-    let x : RevertCan a h c.deref_mut.result.now c.self.inside.slots = record {
+    let x : RevertCan a h c.self.inside.vertices c.self.inside.slots = record {
       opened = opened a h c.self.view_is c.self.invariant;
-      vertices = c.deref_mut.ensures.value;
+      vertices = refl;
       slots = refl;
     } in
-    let b : Inside = record { id = a.id; types = a.types; fields = a.fields; vertices = with_items a.vertices c.put_back.new.vertices; slots = c.put_back.new.slots; live = a.live + 1 } in
+    let b : Inside = record { id = a.id; types = a.types; fields = a.fields; vertices = c.put_back.new.vertices; slots = c.put_back.new.slots; live = a.live + 1 } in
     let own : SameOwn a b = record { id = refl; types = refl; fields = refl } in
     let after : (g : GraphOf) → LeftByCut g c.args.arc h → Opened b g = λ g l.
     revert_cut_after a b h c.args.arc _ _ _ _ g x l c.put_back.ensures
-    (with_items_is a.vertices c.put_back.new.vertices (c.put_back.auto.vertices ∙ c.deref_mut.ensures.len))
-    refl
-    refl own in
+    refl refl refl own in
     λ g l. closed b g (after g l)
 
 pub returns-clause-sound : goal.returns-clause-sound
 returns-clause-sound c =
     let h = c.args.self.now in
     let a = c.self.inside in
-    let x : RevertCan a h c.deref_mut.result.now c.self.inside.slots = record {
+    let x : RevertCan a h c.self.inside.vertices c.self.inside.slots = record {
       opened = opened a h c.self.view_is c.self.invariant;
-      vertices = c.deref_mut.ensures.value;
+      vertices = refl;
       slots = refl;
     } in
-    let b : Inside = record { id = a.id; types = a.types; fields = a.fields; vertices = with_items a.vertices c.put_back.new.vertices; slots = c.put_back.new.slots; live = a.live + 1 } in
+    let b : Inside = record { id = a.id; types = a.types; fields = a.fields; vertices = c.put_back.new.vertices; slots = c.put_back.new.slots; live = a.live + 1 } in
     let own : SameOwn a b = record { id = refl; types = refl; fields = refl } in
     let after : (g : GraphOf) → LeftByCut g c.args.arc h → Opened b g = λ g l.
     revert_cut_after a b h c.args.arc _ _ _ _ g x l c.put_back.ensures
-    (with_items_is a.vertices c.put_back.new.vertices (c.put_back.auto.vertices ∙ c.deref_mut.ensures.len))
-    refl
-    refl own in
+    refl refl refl own in
     (closed_arena b c.requires.0 (after c.requires.0 c.requires.1)).graph

@@ -1,6 +1,4 @@
-use Rattle.std.proofs.Common.{◌∙◌, refl, arith, ◌-◌}
-use Rattle.std.specs.Vec.{with_items}
-use Rattle.std.proofs.lemmas.List.{with_items_is}
+use Rattle.std.proofs.Common.{refl, arith, ◌-◌}
 use Rattle.sgb_graph.specs.declared.graph.Graph.TheInside.{Inside}
 use Rattle.sgb_graph.proofs.Shows.{Opened, opened, closed, closed_arena}
 use Rattle.sgb_graph.proofs.InsertLemmas.{SameOwn}
@@ -13,9 +11,9 @@ pub take_out_both-requires : goal.take_out_both-requires
 take_out_both-requires c =
     let h = c.args.self.now in
     let a = c.self.inside in
-    let x : RevertCan a h c.deref_mut.result.now c.self.inside.slots = record {
+    let x : RevertCan a h c.self.inside.vertices c.self.inside.slots = record {
       opened = opened a h c.self.view_is c.self.invariant;
-      vertices = c.deref_mut.ensures.value;
+      vertices = refl;
       slots = refl;
     } in
     revert_edge_requires a h c.args.number _ _ c.requires.0 x c.requires.1
@@ -24,9 +22,9 @@ pub overflow_sub-self : goal.overflow_sub-self
 overflow_sub-self c =
     let h = c.args.self.now in
     let a = c.self.inside in
-    let x : RevertCan a h c.deref_mut.result.now c.self.inside.slots = record {
+    let x : RevertCan a h c.self.inside.vertices c.self.inside.slots = record {
       opened = opened a h c.self.view_is c.self.invariant;
-      vertices = c.deref_mut.ensures.value;
+      vertices = refl;
       slots = refl;
     } in
     omega (arith, x.opened.live, revert_edge_live c.requires.0 h c.args.number x.opened.graph c.requires.1)
@@ -35,16 +33,16 @@ pub invariant_of-self : goal.invariant_of-self
 invariant_of-self c =
     let h = c.args.self.now in
     let a = c.self.inside in
-    let x : RevertCan a h c.deref_mut.result.now c.self.inside.slots = record {
+    let x : RevertCan a h c.self.inside.vertices c.self.inside.slots = record {
       opened = opened a h c.self.view_is c.self.invariant;
-      vertices = c.deref_mut.ensures.value;
+      vertices = refl;
       slots = refl;
     } in
-    let b : Inside = record { id = a.id; types = a.types; fields = a.fields; vertices = with_items a.vertices c.take_out_both.new.vertices; slots = c.truncate.new.self; live = a.live - 2 } in
+    let b : Inside = record { id = a.id; types = a.types; fields = a.fields; vertices = c.take_out_both.new.vertices; slots = c.truncate.new.self; live = a.live - 2 } in
     let own : SameOwn a b = record { id = refl; types = refl; fields = refl } in
     let after : (g : GraphOf) → LeftByEdge g c.args.number h → Opened b g = λ g l.
     revert_edge_after a b h c.args.number _ _ _ _ g x l c.take_out_both.ensures
-    (with_items_is a.vertices c.take_out_both.new.vertices (c.take_out_both.auto.vertices ∙ c.deref_mut.ensures.len))
+    refl
     c.truncate.ensures
     refl own in
     closed_arena b c.requires.0 (after c.requires.0 c.requires.1)
@@ -53,16 +51,16 @@ pub returns-clause-back : goal.returns-clause-back
 returns-clause-back c =
     let h = c.args.self.now in
     let a = c.self.inside in
-    let x : RevertCan a h c.deref_mut.result.now c.self.inside.slots = record {
+    let x : RevertCan a h c.self.inside.vertices c.self.inside.slots = record {
       opened = opened a h c.self.view_is c.self.invariant;
-      vertices = c.deref_mut.ensures.value;
+      vertices = refl;
       slots = refl;
     } in
-    let b : Inside = record { id = a.id; types = a.types; fields = a.fields; vertices = with_items a.vertices c.take_out_both.new.vertices; slots = c.truncate.new.self; live = a.live - 2 } in
+    let b : Inside = record { id = a.id; types = a.types; fields = a.fields; vertices = c.take_out_both.new.vertices; slots = c.truncate.new.self; live = a.live - 2 } in
     let own : SameOwn a b = record { id = refl; types = refl; fields = refl } in
     let after : (g : GraphOf) → LeftByEdge g c.args.number h → Opened b g = λ g l.
     revert_edge_after a b h c.args.number _ _ _ _ g x l c.take_out_both.ensures
-    (with_items_is a.vertices c.take_out_both.new.vertices (c.take_out_both.auto.vertices ∙ c.deref_mut.ensures.len))
+    refl
     c.truncate.ensures
     refl own in
     λ g l. closed b g (after g l)
@@ -71,16 +69,16 @@ pub returns-clause-sound : goal.returns-clause-sound
 returns-clause-sound c =
     let h = c.args.self.now in
     let a = c.self.inside in
-    let x : RevertCan a h c.deref_mut.result.now c.self.inside.slots = record {
+    let x : RevertCan a h c.self.inside.vertices c.self.inside.slots = record {
       opened = opened a h c.self.view_is c.self.invariant;
-      vertices = c.deref_mut.ensures.value;
+      vertices = refl;
       slots = refl;
     } in
-    let b : Inside = record { id = a.id; types = a.types; fields = a.fields; vertices = with_items a.vertices c.take_out_both.new.vertices; slots = c.truncate.new.self; live = a.live - 2 } in
+    let b : Inside = record { id = a.id; types = a.types; fields = a.fields; vertices = c.take_out_both.new.vertices; slots = c.truncate.new.self; live = a.live - 2 } in
     let own : SameOwn a b = record { id = refl; types = refl; fields = refl } in
     let after : (g : GraphOf) → LeftByEdge g c.args.number h → Opened b g = λ g l.
     revert_edge_after a b h c.args.number _ _ _ _ g x l c.take_out_both.ensures
-    (with_items_is a.vertices c.take_out_both.new.vertices (c.take_out_both.auto.vertices ∙ c.deref_mut.ensures.len))
+    refl
     c.truncate.ensures
     refl own in
     (closed_arena b c.requires.0 (after c.requires.0 c.requires.1)).graph

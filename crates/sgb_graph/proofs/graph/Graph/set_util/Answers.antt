@@ -1,6 +1,4 @@
 use Rattle.std.proofs.Common.{◌≡◌, ◌∙◌, sym, refl, true}
-use Rattle.std.specs.Vec.{with_items}
-use Rattle.std.proofs.lemmas.List.{with_items_is}
 use Rattle.sgb_graph.specs.declared.graph.Graph.TheInside.{Inside}
 use Rattle.sgb_graph.specs.Edit.{has_place, can_name}
 use Rattle.sgb_graph.proofs.Shows.{opened}
@@ -13,12 +11,12 @@ exchange-old-requires c =
     let g = c.args.self.now in
     let there : has_place g c.args.place ≡ true = sym c.has_place.ensures.value ∙ c.if-not-has_place.false in
     let named : can_name g c.args.value ≡ true = sym c.can_name.ensures.value ∙ c.if-not-can_name.false in
-    let k : UtilCan a g c.args.place c.args.value c.stored-value.result a.fields c.deref_mut.result.now c.self.inside.slots = record {
+    let k : UtilCan a g c.args.place c.args.value c.stored-value.result a.fields c.self.inside.vertices c.self.inside.slots = record {
       opened = opened a g c.self.view_is c.self.invariant;
       place = there;
       value = value_sound g c.args.value c.stored-value.result named c.stored-value.ensures.value c.stored-value.ensures.storable;
       fields = refl;
-      vertices = c.deref_mut.ensures.value;
+      vertices = refl;
       slots = refl;
     } in
     util_requires _ _ _ _ _ _ _ _ k
@@ -29,18 +27,17 @@ invariant_of-self c =
     let g = c.args.self.now in
     let there : has_place g c.args.place ≡ true = sym c.has_place.ensures.value ∙ c.if-not-has_place.false in
     let named : can_name g c.args.value ≡ true = sym c.can_name.ensures.value ∙ c.if-not-can_name.false in
-    let k : UtilCan a g c.args.place c.args.value c.stored-value.result a.fields c.deref_mut.result.now c.self.inside.slots = record {
+    let k : UtilCan a g c.args.place c.args.value c.stored-value.result a.fields c.self.inside.vertices c.self.inside.slots = record {
       opened = opened a g c.self.view_is c.self.invariant;
       place = there;
       value = value_sound g c.args.value c.stored-value.result named c.stored-value.ensures.value c.stored-value.ensures.storable;
       fields = refl;
-      vertices = c.deref_mut.ensures.value;
+      vertices = refl;
       slots = refl;
     } in
-    let b : Inside = record { id = a.id; types = a.types; fields = c.exchange-old.new.fields; vertices = with_items a.vertices c.exchange-old.new.vertices; slots = c.exchange-old.new.slots; live = a.live } in
+    let b : Inside = record { id = a.id; types = a.types; fields = c.exchange-old.new.fields; vertices = c.exchange-old.new.vertices; slots = c.exchange-old.new.slots; live = a.live } in
     (util_done a b g c.args.place c.args.value c.stored-value.result c.exchange-old.result _ _ _ _ _ _ k named c.stored-value.ensures.value c.stored-value.ensures.storable c.exchange-old.ensures refl
-    (with_items_is a.vertices c.exchange-old.new.vertices (c.exchange-old.auto.vertices ∙ c.deref_mut.ensures.len))
-    refl refl refl refl).arena
+    refl refl refl refl refl).arena
 
 pub returns-clause-graph : goal.returns-clause-graph
 returns-clause-graph c =
@@ -48,18 +45,17 @@ returns-clause-graph c =
     let g = c.args.self.now in
     let there : has_place g c.args.place ≡ true = sym c.has_place.ensures.value ∙ c.if-not-has_place.false in
     let named : can_name g c.args.value ≡ true = sym c.can_name.ensures.value ∙ c.if-not-can_name.false in
-    let k : UtilCan a g c.args.place c.args.value c.stored-value.result a.fields c.deref_mut.result.now c.self.inside.slots = record {
+    let k : UtilCan a g c.args.place c.args.value c.stored-value.result a.fields c.self.inside.vertices c.self.inside.slots = record {
       opened = opened a g c.self.view_is c.self.invariant;
       place = there;
       value = value_sound g c.args.value c.stored-value.result named c.stored-value.ensures.value c.stored-value.ensures.storable;
       fields = refl;
-      vertices = c.deref_mut.ensures.value;
+      vertices = refl;
       slots = refl;
     } in
-    let b : Inside = record { id = a.id; types = a.types; fields = c.exchange-old.new.fields; vertices = with_items a.vertices c.exchange-old.new.vertices; slots = c.exchange-old.new.slots; live = a.live } in
+    let b : Inside = record { id = a.id; types = a.types; fields = c.exchange-old.new.fields; vertices = c.exchange-old.new.vertices; slots = c.exchange-old.new.slots; live = a.live } in
     (util_done a b g c.args.place c.args.value c.stored-value.result c.exchange-old.result _ _ _ _ _ _ k named c.stored-value.ensures.value c.stored-value.ensures.storable c.exchange-old.ensures refl
-    (with_items_is a.vertices c.exchange-old.new.vertices (c.exchange-old.auto.vertices ∙ c.deref_mut.ensures.len))
-    refl refl refl refl).graph
+    refl refl refl refl refl).graph
 
 pub returns-clause-left : goal.returns-clause-left
 returns-clause-left c =
@@ -67,18 +63,17 @@ returns-clause-left c =
     let g = c.args.self.now in
     let there : has_place g c.args.place ≡ true = sym c.has_place.ensures.value ∙ c.if-not-has_place.false in
     let named : can_name g c.args.value ≡ true = sym c.can_name.ensures.value ∙ c.if-not-can_name.false in
-    let k : UtilCan a g c.args.place c.args.value c.stored-value.result a.fields c.deref_mut.result.now c.self.inside.slots = record {
+    let k : UtilCan a g c.args.place c.args.value c.stored-value.result a.fields c.self.inside.vertices c.self.inside.slots = record {
       opened = opened a g c.self.view_is c.self.invariant;
       place = there;
       value = value_sound g c.args.value c.stored-value.result named c.stored-value.ensures.value c.stored-value.ensures.storable;
       fields = refl;
-      vertices = c.deref_mut.ensures.value;
+      vertices = refl;
       slots = refl;
     } in
-    let b : Inside = record { id = a.id; types = a.types; fields = c.exchange-old.new.fields; vertices = with_items a.vertices c.exchange-old.new.vertices; slots = c.exchange-old.new.slots; live = a.live } in
+    let b : Inside = record { id = a.id; types = a.types; fields = c.exchange-old.new.fields; vertices = c.exchange-old.new.vertices; slots = c.exchange-old.new.slots; live = a.live } in
     (util_done a b g c.args.place c.args.value c.stored-value.result c.exchange-old.result _ _ _ _ _ _ k named c.stored-value.ensures.value c.stored-value.ensures.storable c.exchange-old.ensures refl
-    (with_items_is a.vertices c.exchange-old.new.vertices (c.exchange-old.auto.vertices ∙ c.deref_mut.ensures.len))
-    refl refl refl refl).left
+    refl refl refl refl refl).left
 
 pub returns-clause-sound : goal.returns-clause-sound
 returns-clause-sound c =
@@ -86,15 +81,14 @@ returns-clause-sound c =
     let g = c.args.self.now in
     let there : has_place g c.args.place ≡ true = sym c.has_place.ensures.value ∙ c.if-not-has_place.false in
     let named : can_name g c.args.value ≡ true = sym c.can_name.ensures.value ∙ c.if-not-can_name.false in
-    let k : UtilCan a g c.args.place c.args.value c.stored-value.result a.fields c.deref_mut.result.now c.self.inside.slots = record {
+    let k : UtilCan a g c.args.place c.args.value c.stored-value.result a.fields c.self.inside.vertices c.self.inside.slots = record {
       opened = opened a g c.self.view_is c.self.invariant;
       place = there;
       value = value_sound g c.args.value c.stored-value.result named c.stored-value.ensures.value c.stored-value.ensures.storable;
       fields = refl;
-      vertices = c.deref_mut.ensures.value;
+      vertices = refl;
       slots = refl;
     } in
-    let b : Inside = record { id = a.id; types = a.types; fields = c.exchange-old.new.fields; vertices = with_items a.vertices c.exchange-old.new.vertices; slots = c.exchange-old.new.slots; live = a.live } in
+    let b : Inside = record { id = a.id; types = a.types; fields = c.exchange-old.new.fields; vertices = c.exchange-old.new.vertices; slots = c.exchange-old.new.slots; live = a.live } in
     (util_done a b g c.args.place c.args.value c.stored-value.result c.exchange-old.result _ _ _ _ _ _ k named c.stored-value.ensures.value c.stored-value.ensures.storable c.exchange-old.ensures refl
-    (with_items_is a.vertices c.exchange-old.new.vertices (c.exchange-old.auto.vertices ∙ c.deref_mut.ensures.len))
-    refl refl refl refl).sound
+    refl refl refl refl refl).sound

@@ -1,5 +1,4 @@
 use Rattle.std.proofs.Common.{◌<◌, refl}
-use Rattle.std.specs.Vec.{with_item}
 use Rattle.sgb_graph.specs.declared.graph.Graph.TheInside.{Inside}
 use Rattle.sgb_graph.specs.Graph.{n_of}
 use Rattle.sgb_graph.proofs.SetLemmas.{label_done}
@@ -10,37 +9,33 @@ invariant_of-self c =
     let a = c.self.inside in
     let g = c.args.self.now in
     let low : c.args.vertex.0 < n_of g = c.requires in
-    let x = c.index_mut.result.now in
-    let b : Inside = record { id = a.id; types = a.types; fields = a.fields; vertices = with_item a.vertices c.args.vertex.0 (record { label = c.replace.new.dest; fields = x.fields; first = x.first }); slots = a.slots; live = a.live } in
-    (label_done a b g c.args.vertex c.args.label c.replace.new.dest c.replace.result x c.self.view_is c.self.invariant low c.bytes.ensures.text
-    c.index_mut.ensures.value c.replace.ensures.value c.replace.ensures.after refl refl refl refl refl refl).arena
+    let b : Inside = record { id = a.id; types = a.types; fields = a.fields; vertices = c.replace_label.new.self; slots = a.slots; live = a.live } in
+    (label_done a b g c.args.vertex c.args.label c.replace_label.result c.self.view_is c.self.invariant low c.bytes.ensures.text
+    c.replace_label.ensures.old refl refl refl refl refl c.replace_label.ensures.vertices).arena
 
 pub returns-clause-graph : goal.returns-clause-graph
 returns-clause-graph c =
     let a = c.self.inside in
     let g = c.args.self.now in
     let low : c.args.vertex.0 < n_of g = c.requires in
-    let x = c.index_mut.result.now in
-    let b : Inside = record { id = a.id; types = a.types; fields = a.fields; vertices = with_item a.vertices c.args.vertex.0 (record { label = c.replace.new.dest; fields = x.fields; first = x.first }); slots = a.slots; live = a.live } in
-    (label_done a b g c.args.vertex c.args.label c.replace.new.dest c.replace.result x c.self.view_is c.self.invariant low c.bytes.ensures.text
-    c.index_mut.ensures.value c.replace.ensures.value c.replace.ensures.after refl refl refl refl refl refl).graph
+    let b : Inside = record { id = a.id; types = a.types; fields = a.fields; vertices = c.replace_label.new.self; slots = a.slots; live = a.live } in
+    (label_done a b g c.args.vertex c.args.label c.replace_label.result c.self.view_is c.self.invariant low c.bytes.ensures.text
+    c.replace_label.ensures.old refl refl refl refl refl c.replace_label.ensures.vertices).graph
 
 pub returns-clause-left : goal.returns-clause-left
 returns-clause-left c =
     let a = c.self.inside in
     let g = c.args.self.now in
     let low : c.args.vertex.0 < n_of g = c.requires in
-    let x = c.index_mut.result.now in
-    let b : Inside = record { id = a.id; types = a.types; fields = a.fields; vertices = with_item a.vertices c.args.vertex.0 (record { label = c.replace.new.dest; fields = x.fields; first = x.first }); slots = a.slots; live = a.live } in
-    (label_done a b g c.args.vertex c.args.label c.replace.new.dest c.replace.result x c.self.view_is c.self.invariant low c.bytes.ensures.text
-    c.index_mut.ensures.value c.replace.ensures.value c.replace.ensures.after refl refl refl refl refl refl).left
+    let b : Inside = record { id = a.id; types = a.types; fields = a.fields; vertices = c.replace_label.new.self; slots = a.slots; live = a.live } in
+    (label_done a b g c.args.vertex c.args.label c.replace_label.result c.self.view_is c.self.invariant low c.bytes.ensures.text
+    c.replace_label.ensures.old refl refl refl refl refl c.replace_label.ensures.vertices).left
 
 pub returns-clause-sound : goal.returns-clause-sound
 returns-clause-sound c =
     let a = c.self.inside in
     let g = c.args.self.now in
     let low : c.args.vertex.0 < n_of g = c.requires in
-    let x = c.index_mut.result.now in
-    let b : Inside = record { id = a.id; types = a.types; fields = a.fields; vertices = with_item a.vertices c.args.vertex.0 (record { label = c.replace.new.dest; fields = x.fields; first = x.first }); slots = a.slots; live = a.live } in
-    (label_done a b g c.args.vertex c.args.label c.replace.new.dest c.replace.result x c.self.view_is c.self.invariant low c.bytes.ensures.text
-    c.index_mut.ensures.value c.replace.ensures.value c.replace.ensures.after refl refl refl refl refl refl).sound
+    let b : Inside = record { id = a.id; types = a.types; fields = a.fields; vertices = c.replace_label.new.self; slots = a.slots; live = a.live } in
+    (label_done a b g c.args.vertex c.args.label c.replace_label.result c.self.view_is c.self.invariant low c.bytes.ensures.text
+    c.replace_label.ensures.old refl refl refl refl refl c.replace_label.ensures.vertices).sound

@@ -4,11 +4,11 @@ use Rattle.sgb_graph.proofs.graph.Graph.util.Goals as goal
 
 pub returns-in-Vertex : goal.returns-in-Vertex
 returns-in-Vertex c =
-    util_vertex c.self.inside c.args.self.now c.args.place c.in-Vertex.vertex c.in-Vertex.field c.index.result.now _ _ c.self.view_is c.self.invariant c.requires c.in-Vertex.is c.index.ensures c.place.ensures
+    util_vertex c.self.inside c.args.self.now c.args.place c.in-Vertex.vertex c.in-Vertex.field c.self.inside.vertices _ _ c.self.view_is c.self.invariant c.requires c.in-Vertex.is refl c.place.ensures c.field.ensures
 
 pub returns-in-Arc : goal.returns-in-Arc
 returns-in-Arc c =
-    util_arc c.self.inside c.args.self.now c.args.place c.in-Arc.number c.in-Arc.field c.self.inside.slots _ _ c.self.view_is c.self.invariant c.requires c.in-Arc.is refl c.place-in-Arc.ensures c.field.ensures
+    util_arc c.self.inside c.args.self.now c.args.place c.in-Arc.number c.in-Arc.field c.self.inside.slots _ _ c.self.view_is c.self.invariant c.requires c.in-Arc.is refl c.place-in-Arc.ensures c.field-in-Arc.ensures
 
 pub returns-in-Graph : goal.returns-in-Graph
 returns-in-Graph c =

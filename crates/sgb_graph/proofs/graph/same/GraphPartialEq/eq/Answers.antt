@@ -11,4 +11,4 @@ pub returns : goal.returns
 returns c =
     eq_lists c.self.inside c.other.inside c.args.self.now c.args.other.now c.bytes-id.result.now c.bytes.result.now c.letters-letters.result.now c.letters.result.now c.is_own_same.result c.are_lists_same.result _ _ _ _ c.self.view_is c.self.invariant c.other.view_is c.other.invariant
     c.bytes-id.ensures.value c.bytes.ensures.value c.letters-letters.ensures.value c.letters.ensures.value c.is_own_same.ensures c.if-not-is_own_same.false
-    c.deref.ensures.value c.deref-2.ensures.value refl refl c.are_lists_same.ensures
+    refl refl refl refl c.are_lists_same.ensures

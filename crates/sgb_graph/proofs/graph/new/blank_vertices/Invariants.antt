@@ -1,6 +1,0 @@
-use Rattle.std.proofs.Common.{◌≡◌, replicate}
-use Rattle.sgb_graph.specs.Private.Blank.{blank}
-use Rattle.sgb_graph.proofs.graph.new.blank_vertices.Given as goal
-
-abbrev pub invariant-loop-i : goal.invariant-loop-i
-invariant-loop-i l = l.vertices.items ≡ replicate l._i blank

@@ -1,0 +1,17 @@
+use Rattle.std.proofs.Common.{◌&&◌, ap, sym, ◌∙◌, arith, take}
+use Rattle.std.specs.List.{list_all}
+use Rattle.std.proofs.lemmas.List.{take_all}
+use Rattle.std.proofs.lemmas.List.Folds.{list_all_more}
+use Rattle.sgb_graph.specs.Text.{is_text_byte}
+use Rattle.sgb_graph.proofs.text.are_text_bytes.Goals as goal
+
+pub bytes-preserved : goal.bytes-preserved
+bytes-preserved c =
+    let bytes = c.args.bytes.now in
+    let i = c.bytes.byte-index in
+    ap (λ b. b && c.is_text_byte-all.result) c.bytes.invariant
+    ∙ ap (λ b. list_all is_text_byte (take i bytes) && b) c.is_text_byte-all.ensures
+    ∙ sym (list_all_more is_text_byte bytes i 0 c.bytes-test.true)
+
+pub returns : goal.returns
+returns c = c.bytes.invariant ∙ ap (list_all is_text_byte) (take_all c.bytes.byte-index c.args.bytes.now (omega arith))
