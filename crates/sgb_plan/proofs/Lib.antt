@@ -6,3 +6,4 @@ pub mod Lengths
 pub mod Listings
 pub mod Planning
 pub mod Shorts
+pub mod Slots
