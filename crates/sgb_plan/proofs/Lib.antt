@@ -1,3 +1,4 @@
+pub mod Digits
 pub mod Distincts
 pub mod Dots
 pub mod Ids

@@ -83,7 +83,8 @@ impl<'a> Index<'a> {
     /// The place of the name, if it is there.
     #[inline]
     pub fn place_of(&self, name: &[u8]) -> Option<usize>
-        ensures { result ≡ position (same_name name.now) self.now }
+        ensures value { result ≡ position (same_name name.now) self.now }
+        ensures within { IfSome result (λ place. place < length self.now) }
     {
         let Some(at) = seek(&self.names, &self.slots, name) else {
             return None;
