@@ -1,5 +1,5 @@
 //! The number of each tree, by its name.
-ghost use Rattle.std.specs.Prelude.{◌≡◌, ◌<◌, ◌*◌, length, map, IfOk, IfErr};
+ghost use Rattle.std.specs.Prelude.{◌≡◌, ◌≤◌, ◌*◌, length, map, IfOk, IfErr};
 ghost use Rattle.sgb_plan.specs.Distinct.{Distinct};
 ghost use Rattle.sgb_binary.specs.Private.Listing.{pieces};
 
@@ -14,6 +14,7 @@ pub(crate) fn index_names<'a>(
     names: &'a Names,
     width: usize,
 ) -> Result<Index<'a>, Refusal>
+    requires few { names.now.count ≤ 65535 }
     requires whole { length names.now.letters.items ≡ names.now.count * width }
     requires apart { Distinct (pieces width names.now.count names.now.letters.items) }
     ensures keys { IfOk result
