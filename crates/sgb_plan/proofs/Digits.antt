@@ -1,5 +1,5 @@
 -- Lemmas on the digits of small counts.
-use Rattle.std.proofs.Common.{◌≡◌, ◌<◌, ◌≤◌, ◌+◌, ◌/◌, ◌%◌, ℕ, List, Result, Ok, Err, is_ok, OnOk, if◌then◌else◌, [], ◌∷◌, ◌++◌, decimal, refl, sym, ap, ap₂, ◌∙◌, arith}
+use Rattle.std.proofs.Common.{◌≡◌, ◌<◌, ◌≤◌, ◌+◌, ◌/◌, ◌%◌, ℕ, List, Result, Ok, Err, is_ok, OnOk, if◌then◌else◌, [], ◌∷◌, ◌++◌, decimal, sym, ap, ap₂, ◌∙◌, arith}
 use Rattle.std.proofs.lemmas.Fmt.{decimal_digit}
 use Rattle.itoa.proofs.Decimal.{decimal_two, decimal_pair}
 

@@ -1,5 +1,5 @@
 -- How names are found: a slot has the place of a name, or none, and a name is looked for from a slot that its bytes tell on.
-use Rattle.std.specs.Prelude.{◌≡◌, ◌⊎◌, ◌<◌, ◌≤◌, ◌+◌, ◌-◌, ◌==◌, ℕ, zero, suc, List, length, slice_get, slice_index, Bool, true, false, not, Option, Some, None, All, bit_and, if◌then◌else◌}
+use Rattle.std.specs.Prelude.{◌≡◌, ◌⊎◌, ◌<◌, ◌≤◌, ◌+◌, ◌-◌, ◌==◌, ℕ, zero, suc, List, length, slice_get, slice_index, Bool, false, not, Option, Some, None, All, bit_and, if◌then◌else◌}
 use Rattle.std.specs.Hash.FoldHasher.{initial, write, finish}
 use denote.Ref.{Bor}
 use Rattle.sgb_plan.specs.Index.{same_name}

@@ -1,6 +1,6 @@
-use Rattle.std.proofs.Common.{◌+◌, ◌-◌, not, length, sym, ap, ◌∙◌, refl, arith}
+use Rattle.std.proofs.Common.{◌+◌, ◌-◌, length, sym, ap, ◌∙◌, arith}
 use Rattle.sgb_plan.specs.Private.Slots.{stop}
-use Rattle.sgb_plan.proofs.Slots.{stop_more, stop_here, stop_none, place_found, are_found, is_put}
+use Rattle.sgb_plan.proofs.Slots.{stop_more, stop_here, stop_none}
 use Rattle.sgb_plan.proofs.index.seek.Goals as goal
 
 pub returns-then-not-is_other-clause-value : goal.returns-then-not-is_other-clause-value
