@@ -7,8 +7,8 @@ use Rattle.std.proofs.lemmas.List.{length-append, length-map, map-append, take_a
 use Rattle.std.proofs.lemmas.List.Elements.{All-head, All-tail}
 use Rattle.std.proofs.lemmas.List.Folds.{list_any_none}
 use Rattle.std.proofs.lemmas.Slice.Eq.{bytes_eq-Decides}
-use Rattle.indexmap.specs.IndexSet.{insert_key}
 use Rattle.sgb_plan.specs.Distinct.{Distinct}
+use Rattle.sgb_plan.specs.Index.{with_name}
 use Rattle.sgb_binary.specs.Private.Listing.{pieces}
 
 -- the names that references lead to
@@ -34,7 +34,7 @@ name_new keys name rest apart =
     ])
 
 pub name_added : (keys : List (Bor (List ℕ))) (name : Bor (List ℕ)) (rest : List (List ℕ)) → Distinct (names_of keys ++ (name.now ∷ rest))
-    → names_of (insert_key (λ (a b : Bor (List ℕ)). pointwise ◌==◌ a.now b.now) keys name) ≡ names_of keys ++ name.now ∷ []
+    → names_of (with_name keys name) ≡ names_of keys ++ name.now ∷ []
 name_added keys name rest apart =
     let new = name_new keys name rest apart in
     rw new (map-append (λ (key : Bor (List ℕ)). key.now) keys (name ∷ []))

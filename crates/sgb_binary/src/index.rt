@@ -1,11 +1,11 @@
 //! The number of each tree, by its name.
-ghost use Rattle.std.specs.Prelude.{◌≡◌, ◌<◌, ◌*◌, length, map, IfOk, IfErr};
+ghost use Rattle.std.specs.Prelude.{◌≡◌, ◌≤◌, ◌*◌, length, map, IfOk, IfErr};
 ghost use Rattle.sgb_plan.specs.Distinct.{Distinct};
 ghost use Rattle.sgb_binary.specs.Private.Listing.{pieces};
 
 use crate::lister::Names;
-use indexmap::IndexSet;
 use sgb_graph::Refusal;
+use sgb_plan::Index;
 use std::alloc::Global;
 
 /// The names, each with its number for its place.
@@ -13,14 +13,15 @@ pub(crate) fn index_names<'a>(
     alloc: Global,
     names: &'a Names,
     width: usize,
-) -> Result<IndexSet<&'a [u8]>, Refusal>
+) -> Result<Index<'a>, Refusal>
+    requires few { names.now.count ≤ 65535 }
     requires whole { length names.now.letters.items ≡ names.now.count * width }
     requires apart { Distinct (pieces width names.now.count names.now.letters.items) }
     ensures keys { IfOk result
-        (λ index. map (λ name. name.now) index.keys ≡ pieces width names.now.count names.now.letters.items) }
+        (λ index. map (λ name. name.now) index ≡ pieces width names.now.count names.now.letters.items) }
     ensures err { IfErr result (λ e. e ≡ Refusal.NoRoom) }
 {
-    let mut index = IndexSet::with_capacity(alloc, names.count as usize)?;
+    let mut index = Index::with_capacity(alloc, names.count as usize)?;
     let mut rest = names.letters.as_slice();
     for _v in 0..names.count {
         let (name, others) = rest.split_at(width);

@@ -5,19 +5,19 @@ ghost use Rattle.sgb_graph.specs.Builder.{Inserts};
 ghost use Rattle.sgb_graph.specs.Graph.{n_of};
 ghost use Rattle.sgb_binary.specs.Rotation.{tree_fronts, targets, rotations, rotations_of};
 
-use indexmap::IndexSet;
 use sgb_graph::{Builder, Refusal, VertexNo};
+use sgb_plan::Index;
 use std::alloc::Global;
 
 /// Inserts from each tree in order to each that it turns into.
 pub(crate) fn insert_rotations(
     builder: &mut Builder,
     alloc: Global,
-    index: &IndexSet<&[u8]>,
+    index: &Index<'_>,
 ) -> Result<(), Refusal>
-    requires vertices { n_of builder.old.graph ≡ length index.now.keys }
-    requires few { length index.now.keys ≤ 65535 }
-    ensures { Inserts builder.old builder.new (rotations (map (λ name. name.now) index.now.keys)) result }
+    requires vertices { n_of builder.old.graph ≡ length index.now }
+    requires few { length index.now ≤ 65535 }
+    ensures { Inserts builder.old builder.new (rotations (map (λ name. name.now) index.now)) result }
 {
     let mut word = Vec::new(alloc);
     for (v, name) in index.as_slice().iter().enumerate() {
@@ -31,14 +31,14 @@ pub(crate) fn insert_rotations(
 // Inserts from the vertex with this name to each that it turns into.
 fn insert_from(
     builder: &mut Builder,
-    index: &IndexSet<&[u8]>,
+    index: &Index<'_>,
     v: u32,
     word: &mut [u8],
 ) -> Result<(), Refusal>
-    requires vertices { n_of builder.old.graph ≡ length index.now.keys }
-    requires few { length index.now.keys ≤ 65535 }
-    requires vertex { v < length index.now.keys }
-    ensures { Inserts builder.old builder.new (rotations_of (map (λ name. name.now) index.now.keys) v word.old) result }
+    requires vertices { n_of builder.old.graph ≡ length index.now }
+    requires few { length index.now ≤ 65535 }
+    requires vertex { v < length index.now }
+    ensures { Inserts builder.old builder.new (rotations_of (map (λ name. name.now) index.now) v word.old) result }
 {
     for place in 0..word.len() {
         if let Some(target) = find_turned(index, word, place) {
@@ -49,18 +49,18 @@ fn insert_from(
 }
 
 // The number of what the word turns into at this place; the word is put back.
-fn find_turned(index: &IndexSet<&[u8]>, word: &mut [u8], place: usize) -> Option<usize>
+fn find_turned(index: &Index<'_>, word: &mut [u8], place: usize) -> Option<usize>
     requires { place < length word.old }
-    ensures value { option_to_list result ≡ targets (map (λ name. name.now) index.now.keys) word.old place }
+    ensures value { option_to_list result ≡ targets (map (λ name. name.now) index.now) word.old place }
     ensures same { word.new ≡ word.old }
-    ensures within { IfSome result (λ target. target < length index.now.keys) }
+    ensures within { IfSome result (λ target. target < length index.now) }
 {
     if !word[place..].starts_with(b"..") {
         return None;
     }
     let len = first_tree(&word[place + 2..])?;
     word[place + 1..place + 2 + len].rotate_left(1);
-    let found = index.get_index_of(&*word);
+    let found = index.place_of(word);
     word[place + 1..place + 2 + len].rotate_right(1);
     found
 }

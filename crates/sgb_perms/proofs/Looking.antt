@@ -7,8 +7,8 @@ use Rattle.std.proofs.lemmas.List.{map-append, take_more, length-take-le, get_or
 use Rattle.std.proofs.lemmas.List.Elements.{All-head, All-tail}
 use Rattle.std.proofs.lemmas.List.Sums.{prefix_len-le-length}
 use denote.Ref.{Bor}
-use Rattle.indexmap.specs.IndexSet.{insert_key}
 use Rattle.sgb_plan.specs.Distinct.{Distinct}
+use Rattle.sgb_plan.specs.Index.{with_name}
 use Rattle.sgb_plan.proofs.Distincts.{position_or_len-map}
 use Rattle.sgb_perms.specs.Arrangement.{same_list}
 use Rattle.sgb_perms.specs.Perms.{place_of}
@@ -29,7 +29,7 @@ none_same k (j ∷ ks) differ =
     ]
 
 -- the rows up to one are keys; this one goes last
-pub key_more : (rows : List (List ℕ)) (i : ℕ) (k : Bor (List ℕ)) (ks after : List (Bor (List ℕ))) → Distinct rows → i < length rows → k.now ≡ get_or rows i [] → shown_by ks ≡ take i rows → after ≡ insert_key same_key ks k → shown_by after ≡ take (i + 1) rows
+pub key_more : (rows : List (List ℕ)) (i : ℕ) (k : Bor (List ℕ)) (ks after : List (Bor (List ℕ))) → Distinct rows → i < length rows → k.now ≡ get_or rows i [] → shown_by ks ≡ take i rows → after ≡ with_name ks k → shown_by after ≡ take (i + 1) rows
 key_more rows i k ks after apart less is shown put =
     let fresh : list_any (same_key k) ks ≡ false =
     none_same k ks

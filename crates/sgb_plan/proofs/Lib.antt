@@ -1,3 +1,4 @@
+pub mod Digits
 pub mod Distincts
 pub mod Dots
 pub mod Ids
@@ -6,3 +7,4 @@ pub mod Lengths
 pub mod Listings
 pub mod Planning
 pub mod Shorts
+pub mod Slots

@@ -1,5 +1,6 @@
 pub mod Distinct
 pub mod Id
+pub mod Index
 pub mod Length
 pub mod Listing
 pub mod Name

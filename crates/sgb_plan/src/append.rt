@@ -39,6 +39,26 @@ pub(crate) fn append_count(bytes: &mut Vec<u8>, count: u32) -> Result<(), AllocE
     ensures err { OnErr result (bytes.new.items ≡ bytes.old.items) }
     ensures short { IsShort 10 (decimal count) }
 {
+    if count >= 1000 {
+        return append_large(bytes, count);
+    }
+    let ones = b'0' + (count % 10) as u8;
+    if count < 10 {
+        return bytes.extend_from_slice(&[ones]);
+    }
+    let tens = b'0' + (count / 10 % 10) as u8;
+    if count < 100 {
+        return bytes.extend_from_slice(&[tens, ones]);
+    }
+    let hundreds = b'0' + (count / 100) as u8;
+    bytes.extend_from_slice(&[hundreds, tens, ones])
+}
+
+// The same of a count of any length.
+fn append_large(bytes: &mut Vec<u8>, count: u32) -> Result<(), AllocError>
+    ensures ok { OnOk result (bytes.new.items ≡ bytes.old.items ++ decimal count) }
+    ensures err { OnErr result (bytes.new.items ≡ bytes.old.items) }
+{
     let mut digits = Buffer::new();
     bytes.extend_from_slice(digits.format(count).as_bytes())
 }

@@ -8,6 +8,8 @@ fn single(rt: HostRuntime) -> Result<(), Fail> {
     assert_eq!(rt; name.bytes(), b"3.0.4294967295".as_slice());
     let name = dotted(rt.alloc(), &[12])?;
     assert_eq!(rt; name.bytes(), b"12".as_slice());
+    let name = dotted(rt.alloc(), &[9, 10, 99, 100, 999, 1000])?;
+    assert_eq!(rt; name.bytes(), b"9.10.99.100.999.1000".as_slice());
     let name = dotted(rt.alloc(), &[])?;
     assert_eq!(rt; name.bytes(), b"".as_slice());
     Ok(())

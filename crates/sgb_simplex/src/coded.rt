@@ -37,7 +37,9 @@ fn code_of(list: &PointList, point: &[u32]) -> u64
     code
 }
 
-/// Inserts the pairs of points whose overlap is one of these sizes.
+/// Inserts the pairs of points whose overlap is one of these sizes. It stands by itself, since its loops are the program's
+/// closest.
+#[inline(never)]
 pub(crate) fn insert_coded_pairs(
     builder: &mut Builder,
     list: &PointList,
@@ -70,13 +72,14 @@ fn insert_coded_pairs_to(
     ensures { Inserts builder.old builder.new
         (pairs_to (points list.now.total list.now.bounds.items) size_bits v) result }
 {
+    let code = codes[v as usize];
     for u in 0..v + 1 {
-        insert_coded_pair(builder, list, codes, u, v, size_bits)?;
+        insert_coded_pair(builder, list, codes, u, v, code, size_bits)?;
     }
     Ok(())
 }
 
-// Inserts the pair of these points, if their overlap has such a size.
+// Inserts the pair of these points, of which the second has this code, if their overlap has such a size.
 #[inline]
 fn insert_coded_pair(
     builder: &mut Builder,
@@ -84,6 +87,7 @@ fn insert_coded_pair(
     codes: &[u64],
     u: u32,
     v: u32,
+    code: u64,
     size_bits: u64,
 ) -> Result<(), Refusal>
     requires all { n_of builder.old.graph ≡ list.now.count }
@@ -91,13 +95,24 @@ fn insert_coded_pair(
     requires codes { AreCodes list.now.bounds.items (points list.now.total list.now.bounds.items) codes.now }
     requires u { u < list.now.count }
     requires v { v < list.now.count }
+    requires code { code ≡ slice_index codes.now v }
     ensures { Inserts builder.old builder.new (if is_partner (points list.now.total list.now.bounds.items) size_bits v u
         then insertion u v (pos 1) ∷ [] else []) result }
 {
-    let size = (codes[u as usize] & codes[v as usize]).count_ones();
+    let size = (codes[u as usize] & code).count_ones();
     if !has_low_size(size_bits, size) {
         return Ok(());
     }
+    insert_found(builder, u, v)
+}
+
+// Inserts a pair. It is called, and not set in, so that the loop over all pairs stays short.
+#[inline(never)]
+fn insert_found(builder: &mut Builder, u: u32, v: u32) -> Result<(), Refusal>
+    requires u { u < n_of builder.old.graph }
+    requires v { v < n_of builder.old.graph }
+    ensures { Inserts builder.old builder.new (insertion u v (pos 1) ∷ []) result }
+{
     builder.insert(VertexNo(u), VertexNo(v), 1)
 }
 

@@ -15,7 +15,7 @@ loop-v-preserved c =
     let count : ℕ = c.args.names.now.count in
     let v : ℕ = c.loop-v._v in
     let rest : List ℕ = c.loop-v.rest.now in
-    let keys : List (Bor (List ℕ)) = c.loop-v.index.keys in
+    let keys : List (Bor (List ℕ)) = c.loop-v.index in
     let name : Bor (List ℕ) = c.split_at.result.0 in
     let left : List (List ℕ) = pieces width (count - (v + 1)) (drop width rest) in
     let taken = piece_taken width count v rest c.loop-v-test.true in
@@ -24,7 +24,7 @@ loop-v-preserved c =
     let added = name_added keys name left (subst Distinct (sym start) c.requires.apart) in
     record {
       names =
-          ap₂ (λ xs ys. xs ++ ys) (ap names_of c.in_ok-insert.ensures.keys ∙ added) (ap (pieces width (count - (v + 1))) c.split_at.ensures.back)
+          ap₂ (λ xs ys. xs ++ ys) (ap names_of c.in_ok-insert.ensures.ok ∙ added) (ap (pieces width (count - (v + 1))) c.split_at.ensures.back)
           ∙ (append_assoc (names_of keys) (name.now ∷ []) left ∙ start);
       whole = let next = width_next width count v (length rest) c.loop-v-test.true c.loop-v.invariant.whole in omega (arith, next, c.split_at.ensures.back_len);
     }
@@ -32,6 +32,6 @@ loop-v-preserved c =
 pub returns-clause-keys : goal.returns-clause-keys
 returns-clause-keys c =
     let none : c.args.names.now.count - c.loop-v._v ≡ 0 = omega arith in
-    sym (append-nil (names_of c.loop-v.index.keys))
-    ∙ (ap (λ ps. names_of c.loop-v.index.keys ++ ps) (sym (pieces_end c.args.width (c.args.names.now.count - c.loop-v._v) c.loop-v.rest.now none))
+    sym (append-nil (names_of c.loop-v.index))
+    ∙ (ap (λ ps. names_of c.loop-v.index ++ ps) (sym (pieces_end c.args.width (c.args.names.now.count - c.loop-v._v) c.loop-v.rest.now none))
     ∙ c.loop-v.invariant.names)

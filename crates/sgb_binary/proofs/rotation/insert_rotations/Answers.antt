@@ -22,11 +22,11 @@ insert_from-requires-clause-vertices c = from_n c.loop-v.invariant ∙ c.require
 pub returns-in_err-insert_from : goal.returns-in_err-insert_from
 returns-in_err-insert_from c =
     let p = err_from_is_err_and c.from_residual-in_err-insert_from.result c.from_residual-in_err-insert_from.ensures.1 in
-    let keys : List (Bor (List ℕ)) = c.args.index.now.keys in
+    let keys : List (Bor (List ℕ)) = c.args.index.now in
     let names : List (List ℕ) = names_of keys in
-    let h : c.loop-v.v < length keys = omega (arith, ap (λ xs. length xs) c.as_slice-name-items.ensures.keys) in
+    let h : c.loop-v.v < length keys = omega (arith, ap (λ xs. length xs) c.as_slice-name-items.ensures) in
     let same : c.deref_mut.result.now ≡ get_or names c.loop-v.v [] =
-    name_copied keys c.as_slice-name-items.result.now c.loop-v.v _ c.as_slice-name-items.ensures.keys h c.clear.ensures.items c.in_ok-extend_from_slice.ensures.items c.deref_mut.ensures.value in
+    name_copied keys c.as_slice-name-items.result.now c.loop-v.v _ c.as_slice-name-items.ensures h c.clear.ensures.items c.in_ok-extend_from_slice.ensures.items c.deref_mut.ensures.value in
     let below : c.loop-v.v < length names = omega (arith, h, length-map keys (λ (key : Bor (List ℕ)). key.now)) in
     rw (p.1, p.2)
     (from_refused below c.loop-v.invariant
@@ -34,16 +34,16 @@ returns-in_err-insert_from c =
 
 pub loop-v-preserved : goal.loop-v-preserved
 loop-v-preserved c =
-    let keys : List (Bor (List ℕ)) = c.args.index.now.keys in
+    let keys : List (Bor (List ℕ)) = c.args.index.now in
     let names : List (List ℕ) = names_of keys in
-    let h : c.loop-v.v < length keys = omega (arith, ap (λ xs. length xs) c.as_slice-name-items.ensures.keys) in
+    let h : c.loop-v.v < length keys = omega (arith, ap (λ xs. length xs) c.as_slice-name-items.ensures) in
     let same : c.deref_mut.result.now ≡ get_or names c.loop-v.v [] =
-    name_copied keys c.as_slice-name-items.result.now c.loop-v.v _ c.as_slice-name-items.ensures.keys h c.clear.ensures.items c.in_ok-extend_from_slice.ensures.items c.deref_mut.ensures.value in
+    name_copied keys c.as_slice-name-items.result.now c.loop-v.v _ c.as_slice-name-items.ensures h c.clear.ensures.items c.in_ok-extend_from_slice.ensures.items c.deref_mut.ensures.value in
     let below : c.loop-v.v < length names = omega (arith, h, length-map keys (λ (key : Bor (List ℕ)). key.now)) in
     from_some below c.loop-v.invariant (c.in_ok-insert_from.ensures ∙ ap (λ w. grown c.loop-v.builder (rotations_of names c.loop-v.v w)) same)
 
 pub returns : goal.returns
 returns c =
-    let keys : List (Bor (List ℕ)) = c.args.index.now.keys in
-    let all = ap (λ xs. length xs) c.as_slice-name-items.ensures.keys in
+    let keys : List (Bor (List ℕ)) = c.args.index.now in
+    let all = ap (λ xs. length xs) c.as_slice-name-items.ensures in
     from_end (omega (arith, all, length-map keys (λ (key : Bor (List ℕ)). key.now))) c.loop-v.invariant
