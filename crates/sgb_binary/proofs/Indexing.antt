@@ -1,5 +1,5 @@
 -- Lemmas on names that stand one behind another, and are kept in a set by their numbers.
-use Rattle.std.proofs.Common.{◌≡◌, ◌<◌, ◌≤◌, ◌+◌, ◌-◌, ◌*◌, ◌==◌, ℕ, suc, List, [], ◌∷◌, ◌++◌, length, get_or, map, take, drop, false, All, Bor, inl, inr, refl, sym, ap, ap₂, ◌∙◌, arith}
+use Rattle.std.proofs.Common.{◌≡◌, ◌<◌, ◌≤◌, ◌+◌, ◌-◌, ◌*◌, ◌==◌, ℕ, suc, List, [], ◌∷◌, ◌++◌, length, get_or, map, take, drop, false, All, inl, inr, refl, sym, ap, ap₂, ◌∙◌, arith}
 use Rattle.std.specs.List.{concat, list_any}
 use Rattle.std.specs.Cmp.Lexicographic.{pointwise}
 use Rattle.std.proofs.lemmas.Bool.{cases_Bool}
@@ -7,37 +7,39 @@ use Rattle.std.proofs.lemmas.List.{length-append, length-map, map-append, take_a
 use Rattle.std.proofs.lemmas.List.Elements.{All-head, All-tail}
 use Rattle.std.proofs.lemmas.List.Folds.{list_any_none}
 use Rattle.std.proofs.lemmas.Slice.Eq.{bytes_eq-Decides}
+use Rattle.indexmap.specs.IndexSet.{insert_key}
 use Rattle.sgb_plan.specs.Distinct.{Distinct}
-use Rattle.sgb_plan.specs.Index.{with_name}
+use Rattle.sgb_plan.specs.declared.key.Key.{Key}
+use Rattle.sgb_plan.specs.Key.{bytes_of}
 use Rattle.sgb_binary.specs.Private.Listing.{pieces}
 
--- the names that references lead to
-abbrev pub names_of : List (Bor (List ℕ)) → List (List ℕ)
-names_of keys = map (λ name. name.now) keys
+-- the names that are keys
+abbrev pub names_of : List Key → List (List ℕ)
+names_of keys = map bytes_of keys
 
 -- ---- a name that is new
-name_new : (keys : List (Bor (List ℕ))) (name : Bor (List ℕ)) (rest : List (List ℕ)) → Distinct (names_of keys ++ (name.now ∷ rest)) → list_any (λ key. pointwise ◌==◌ name.now key.now) keys ≡ false
+name_new : (keys : List Key) (name : List ℕ) (rest : List (List ℕ)) → Distinct (names_of keys ++ (name ∷ rest)) → list_any (λ key. pointwise ◌==◌ name (bytes_of key)) keys ≡ false
 name_new keys name rest apart =
-    list_any_none (λ key. pointwise ◌==◌ name.now key.now) keys
+    list_any_none (λ key. pointwise ◌==◌ name (bytes_of key)) keys
     (λ i d h.
-    let below : i < length (names_of keys) = omega (arith, length-map keys (λ key. key.now)) in
-    let within : length (names_of keys) < length (names_of keys ++ (name.now ∷ rest)) = omega (arith, length-append (names_of keys) (name.now ∷ rest)) in
-    let first : get_or (names_of keys ++ (name.now ∷ rest)) i name.now ≡ (get_or keys i d).now =
-    get_or_append_left (names_of keys) (name.now ∷ rest) name.now i below ∙ get_or-map (λ key. key.now) keys i d name.now h in
-    let second : get_or (names_of keys ++ (name.now ∷ rest)) (length (names_of keys)) name.now ≡ name.now =
-    get_or_at (names_of keys) name.now rest name.now (length (names_of keys)) refl in
-    elim (cases_Bool (pointwise ◌==◌ name.now (get_or keys i d).now)) [
+    let below : i < length (names_of keys) = omega (arith, length-map keys bytes_of) in
+    let within : length (names_of keys) < length (names_of keys ++ (name ∷ rest)) = omega (arith, length-append (names_of keys) (name ∷ rest)) in
+    let first : get_or (names_of keys ++ (name ∷ rest)) i name ≡ bytes_of (get_or keys i d) =
+    get_or_append_left (names_of keys) (name ∷ rest) name i below ∙ get_or-map bytes_of keys i d name h in
+    let second : get_or (names_of keys ++ (name ∷ rest)) (length (names_of keys)) name ≡ name =
+    get_or_at (names_of keys) name rest name (length (names_of keys)) refl in
+    elim (cases_Bool (pointwise ◌==◌ name (bytes_of (get_or keys i d)))) [
       | inl same ↦
-          let equal : name.now ≡ (get_or keys i d).now = (bytes_eq-Decides name.now (get_or keys i d).now).0 same in
-          absurd (apart i (length (names_of keys)) name.now below within (first ∙ (sym equal ∙ sym second)))
+          let equal : name ≡ bytes_of (get_or keys i d) = (bytes_eq-Decides name (bytes_of (get_or keys i d))).0 same in
+          absurd (apart i (length (names_of keys)) name below within (first ∙ (sym equal ∙ sym second)))
       | inr other ↦ other
     ])
 
-pub name_added : (keys : List (Bor (List ℕ))) (name : Bor (List ℕ)) (rest : List (List ℕ)) → Distinct (names_of keys ++ (name.now ∷ rest))
-    → names_of (with_name keys name) ≡ names_of keys ++ name.now ∷ []
+pub name_added : (keys : List Key) (name : Key) (rest : List (List ℕ)) → Distinct (names_of keys ++ (bytes_of name ∷ rest))
+    → names_of (insert_key (λ a b. pointwise ◌==◌ (bytes_of a) (bytes_of b)) keys name) ≡ names_of keys ++ bytes_of name ∷ []
 name_added keys name rest apart =
-    let new = name_new keys name rest apart in
-    rw new (map-append (λ (key : Bor (List ℕ)). key.now) keys (name ∷ []))
+    let new = name_new keys (bytes_of name) rest apart in
+    rw new (map-append bytes_of keys (name ∷ []))
 
 -- ---- pieces
 pub pieces_more : (width k m : ℕ) (xs : List ℕ) → k ≡ suc m → pieces width k xs ≡ take width xs ∷ pieces width m (drop width xs)

@@ -3,26 +3,29 @@ ghost use Rattle.std.specs.Prelude.{◌≡◌, ◌<◌, ◌≤◌, ◌+◌, leng
 ghost use Rattle.std.specs.Option.{option_to_list};
 ghost use Rattle.sgb_graph.specs.Builder.{Inserts};
 ghost use Rattle.sgb_graph.specs.Graph.{n_of};
+ghost use Rattle.sgb_plan.specs.Key.{bytes_of};
 ghost use Rattle.sgb_binary.specs.Rotation.{tree_fronts, targets, rotations, rotations_of};
 
+use crate::index::number_of;
+use indexmap::IndexSet;
 use sgb_graph::{Builder, Refusal, VertexNo};
-use sgb_plan::Index;
+use sgb_plan::Key;
 use std::alloc::Global;
 
 /// Inserts from each tree in order to each that it turns into.
 pub(crate) fn insert_rotations(
     builder: &mut Builder,
     alloc: Global,
-    index: &Index<'_>,
+    index: &IndexSet<Key<'_>>,
 ) -> Result<(), Refusal>
-    requires vertices { n_of builder.old.graph ≡ length index.now }
-    requires few { length index.now ≤ 65535 }
-    ensures { Inserts builder.old builder.new (rotations (map (λ name. name.now) index.now)) result }
+    requires vertices { n_of builder.old.graph ≡ length index.now.keys }
+    requires few { length index.now.keys ≤ 65535 }
+    ensures { Inserts builder.old builder.new (rotations (map bytes_of index.now.keys)) result }
 {
     let mut word = Vec::new(alloc);
     for (v, name) in index.as_slice().iter().enumerate() {
         word.clear();
-        word.extend_from_slice(name)?;
+        word.extend_from_slice(name.0)?;
         insert_from(builder, index, v as u32, &mut word)?;
     }
     Ok(())
@@ -31,14 +34,14 @@ pub(crate) fn insert_rotations(
 // Inserts from the vertex with this name to each that it turns into.
 fn insert_from(
     builder: &mut Builder,
-    index: &Index<'_>,
+    index: &IndexSet<Key<'_>>,
     v: u32,
     word: &mut [u8],
 ) -> Result<(), Refusal>
-    requires vertices { n_of builder.old.graph ≡ length index.now }
-    requires few { length index.now ≤ 65535 }
-    requires vertex { v < length index.now }
-    ensures { Inserts builder.old builder.new (rotations_of (map (λ name. name.now) index.now) v word.old) result }
+    requires vertices { n_of builder.old.graph ≡ length index.now.keys }
+    requires few { length index.now.keys ≤ 65535 }
+    requires vertex { v < length index.now.keys }
+    ensures { Inserts builder.old builder.new (rotations_of (map bytes_of index.now.keys) v word.old) result }
 {
     for place in 0..word.len() {
         if let Some(target) = find_turned(index, word, place) {
@@ -49,18 +52,18 @@ fn insert_from(
 }
 
 // The number of what the word turns into at this place; the word is put back.
-fn find_turned(index: &Index<'_>, word: &mut [u8], place: usize) -> Option<usize>
+fn find_turned(index: &IndexSet<Key<'_>>, word: &mut [u8], place: usize) -> Option<usize>
     requires { place < length word.old }
-    ensures value { option_to_list result ≡ targets (map (λ name. name.now) index.now) word.old place }
+    ensures value { option_to_list result ≡ targets (map bytes_of index.now.keys) word.old place }
     ensures same { word.new ≡ word.old }
-    ensures within { IfSome result (λ target. target < length index.now) }
+    ensures within { IfSome result (λ target. target < length index.now.keys) }
 {
     if !word[place..].starts_with(b"..") {
         return None;
     }
     let len = first_tree(&word[place + 2..])?;
     word[place + 1..place + 2 + len].rotate_left(1);
-    let found = index.place_of(word);
+    let found = number_of(index, word);
     word[place + 1..place + 2 + len].rotate_right(1);
     found
 }

@@ -8,8 +8,9 @@ ghost use Rattle.sgb_perms.specs.Private.Places.{shown_by, IsClosed, LeadsWithin
 
 use crate::places::place_of;
 use crate::rows::Rows;
+use indexmap::IndexSet;
 use sgb_graph::{Builder, Refusal, VertexNo};
-use sgb_plan::Index;
+use sgb_plan::Key;
 use std::alloc::Global;
 
 // Inserts the exchanges that lead to each row.
@@ -17,10 +18,10 @@ pub(crate) fn insert_exchanges(
     builder: &mut Builder,
     alloc: Global,
     rows: &Rows,
-    places: &Index<'_>,
+    places: &IndexSet<Key<'_>>,
 ) -> Result<(), Refusal>
     requires vertices { n_of builder.old.graph ≡ length rows.now.rows }
-    requires places { shown_by places.now ≡ rows.now.rows }
+    requires places { shown_by places.now.keys ≡ rows.now.rows }
     requires closed { IsClosed rows.now.rows }
     ensures { Inserts builder.old builder.new (exchanges rows.now.rows) result }
 {
@@ -39,13 +40,13 @@ fn insert_to(
     builder: &mut Builder,
     to: VertexNo,
     row: &mut [u8],
-    places: &Index<'_>,
+    places: &IndexSet<Key<'_>>,
 ) -> Result<(), Refusal>
     requires vertex { to.0 < n_of builder.old.graph }
-    requires vertices { n_of builder.old.graph ≡ length (shown_by places.now) }
+    requires vertices { n_of builder.old.graph ≡ length (shown_by places.now.keys) }
     requires few { n_of builder.old.graph ≤ 65535 }
-    requires closed { LeadsWithin (shown_by places.now) row.old }
-    ensures { Inserts builder.old builder.new (exchanges_of (shown_by places.now) to.0 row.old) result }
+    requires closed { LeadsWithin (shown_by places.now.keys) row.old }
+    ensures { Inserts builder.old builder.new (exchanges_of (shown_by places.now.keys) to.0 row.old) result }
 {
     for place in 0..row.len().saturating_sub(1) {
         if row[place + 1] < row[place] {

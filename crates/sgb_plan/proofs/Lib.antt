@@ -7,4 +7,3 @@ pub mod Lengths
 pub mod Listings
 pub mod Planning
 pub mod Shorts
-pub mod Slots

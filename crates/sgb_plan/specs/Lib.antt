@@ -1,6 +1,6 @@
 pub mod Distinct
 pub mod Id
-pub mod Index
+pub mod Key
 pub mod Length
 pub mod Listing
 pub mod Name

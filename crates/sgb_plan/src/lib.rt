@@ -3,7 +3,7 @@
 
 mod append;
 mod id;
-mod index;
+mod key;
 mod length;
 mod listing;
 mod name;
@@ -11,7 +11,7 @@ mod part;
 mod text;
 
 pub use id::{id_of, id_of_one, id_of_two};
-pub use index::Index;
+pub use key::Key;
 pub use length::{DrawnLength, LengthRange};
 pub use listing::{list_of, shown_at};
 pub use name::{append_dotted, dotted};

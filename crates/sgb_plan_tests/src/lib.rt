@@ -8,8 +8,6 @@ pub use example::path;
 #[cfg(test)]
 mod ids;
 #[cfg(test)]
-mod index;
-#[cfg(test)]
 mod lengths;
 #[cfg(test)]
 mod lists;

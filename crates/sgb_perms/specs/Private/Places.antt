@@ -1,11 +1,12 @@
--- Names that are borrowed.
+-- Rows by which a vertex is looked up.
 use Rattle.std.specs.Prelude.{◌≡◌, ◌<◌, ◌+◌, ℕ, List, length, map, true}
-use denote.Ref.{Bor}
+use Rattle.sgb_plan.specs.declared.key.Key.{Key}
+use Rattle.sgb_plan.specs.Key.{bytes_of}
 use Rattle.sgb_perms.specs.Arrangement.{is_descent, exchanged}
 use Rattle.sgb_perms.specs.Perms.{place_of, row_at}
 
-abbrev pub shown_by : List (Bor (List ℕ)) → List (List ℕ)
-shown_by keys = map (λ (k : Bor (List ℕ)). k.now) keys
+abbrev pub shown_by : List Key → List (List ℕ)
+shown_by keys = map bytes_of keys
 
 -- each exchange of the row leads to one of the rows
 abbrev pub LeadsWithin : List (List ℕ) → List ℕ → Type 0

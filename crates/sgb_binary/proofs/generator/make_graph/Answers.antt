@@ -1,10 +1,11 @@
-use Rattle.std.proofs.Common.{◌≡◌, ℕ, List, Bor, length, map, All, inr, sym, ap, subst, ◌∙◌, arith}
+use Rattle.std.proofs.Common.{◌≡◌, length, map, All, inr, sym, ap, subst, ◌∙◌, arith}
 use Rattle.std.proofs.lemmas.List.{length-map}
 use Rattle.std.proofs.lemmas.Result.{err_from_is_err_and}
 use Rattle.sgb_graph.specs.Builder.{grown}
 use Rattle.sgb_graph.specs.Graph.{IsGraph}
 use Rattle.sgb_graph.specs.Text.{IsText}
 use Rattle.sgb_graph.proofs.Inserting.{RefusesInsertions}
+use Rattle.sgb_plan.specs.Key.{bytes_of}
 use Rattle.sgb_plan.specs.Plan.{Plan}
 use Rattle.sgb_plan.proofs.Planning.{RefusesNames, made, refused_names, refused_insertions}
 use Rattle.sgb_binary.specs.Binary.{binary_plan, tree_vertex}
@@ -34,18 +35,18 @@ index_names-requires-clause-apart c =
 
 pub name_vertices-requires : goal.name_vertices-requires
 name_vertices-requires c =
-    let are : names_of c.in_ok-index.index ≡ trees c.args.n c.args.most =
+    let are : names_of c.in_ok-index.index.keys ≡ trees c.args.n c.args.most =
     c.in_ok-index.ensures.keys ∙ cut_trees c.args.n c.args.most c.in_ok-names.names.count c.in_ok-names.names.letters.items c.in_ok-names.ensures.letters c.in_ok-names.ensures.count in
-    subst (All IsText) (sym (ap names_of c.as_slice.ensures ∙ are)) (trees_text c.args.n c.args.most c.requires)
+    subst (All IsText) (sym (ap names_of c.as_slice.ensures.keys ∙ are)) (trees_text c.args.n c.args.most c.requires)
 
 pub returns-in_err-name_vertices-clause-made : goal.returns-in_err-name_vertices-clause-made
 returns-in_err-name_vertices-clause-made c =
     let p = err_from_is_err_and c.from_residual-in_err-name_vertices.result c.from_residual-in_err-name_vertices.ensures.1 in
     let plan : Plan = binary_plan c.args.n c.args.most c.args.directed in
-    let are : names_of c.in_ok-index.index ≡ trees c.args.n c.args.most =
+    let are : names_of c.in_ok-index.index.keys ≡ trees c.args.n c.args.most =
     c.in_ok-index.ensures.keys ∙ cut_trees c.args.n c.args.most c.in_ok-names.names.count c.in_ok-names.names.letters.items c.in_ok-names.ensures.letters c.in_ok-names.ensures.count in
     let begun_so = begins c.args.n c.args.most c.args.directed c.in_ok-id.id c.none.result c.new-builder.result c.new-builder.ensures c.in_ok-id.ensures.value c.none.ensures.value in
-    let vertices : map tree_vertex (names_of c.as_slice.result.now) ≡ plan.vertices = ap (map tree_vertex) (ap names_of c.as_slice.ensures ∙ are) in
+    let vertices : map tree_vertex (names_of c.as_slice.result.now) ≡ plan.vertices = ap (map tree_vertex) (ap names_of c.as_slice.ensures.keys ∙ are) in
     rw (p.1, p.2)
     (refused_names plan
     (subst (λ b. RefusesNames b plan.vertices c.in_err-name_vertices.field-0.0) begun_so
@@ -56,22 +57,22 @@ insert_rotations-requires-clause-vertices c =
     let plan : Plan = binary_plan c.args.n c.args.most c.args.directed in
     let begun_so = begins c.args.n c.args.most c.args.directed c.in_ok-id.id c.none.result c.new-builder.result c.new-builder.ensures c.in_ok-id.ensures.value c.none.ensures.value in
     many_named plan (names_of c.as_slice.result.now) c.new-builder.result c.name_vertices.new.builder c.in_ok-name_vertices.ensures begun_so
-    ∙ (length-map c.as_slice.result.now (λ (name : Bor (List ℕ)). name.now) ∙ ap (λ xs. length xs) c.as_slice.ensures)
+    ∙ (length-map c.as_slice.result.now bytes_of ∙ ap (λ xs. length xs) c.as_slice.ensures.keys)
 
 pub insert_rotations-requires-clause-few : goal.insert_rotations-requires-clause-few
 insert_rotations-requires-clause-few c =
-    let are : names_of c.in_ok-index.index ≡ trees c.args.n c.args.most =
+    let are : names_of c.in_ok-index.index.keys ≡ trees c.args.n c.args.most =
     c.in_ok-index.ensures.keys ∙ cut_trees c.args.n c.args.most c.in_ok-names.names.count c.in_ok-names.names.letters.items c.in_ok-names.ensures.letters c.in_ok-names.ensures.count in
-    omega (arith, ap (λ xs. length xs) are, length-map c.in_ok-index.index (λ (name : Bor (List ℕ)). name.now), c.in_ok-names.ensures.count, c.in_ok-names.ensures.few)
+    omega (arith, ap (λ xs. length xs) are, length-map c.in_ok-index.index.keys bytes_of, c.in_ok-names.ensures.count, c.in_ok-names.ensures.few)
 
 pub returns-in_err-insert_rotations-clause-made : goal.returns-in_err-insert_rotations-clause-made
 returns-in_err-insert_rotations-clause-made c =
     let p = err_from_is_err_and c.from_residual-in_err-insert_rotations.result c.from_residual-in_err-insert_rotations.ensures.1 in
     let plan : Plan = binary_plan c.args.n c.args.most c.args.directed in
-    let are : names_of c.in_ok-index.index ≡ trees c.args.n c.args.most =
+    let are : names_of c.in_ok-index.index.keys ≡ trees c.args.n c.args.most =
     c.in_ok-index.ensures.keys ∙ cut_trees c.args.n c.args.most c.in_ok-names.names.count c.in_ok-names.names.letters.items c.in_ok-names.ensures.letters c.in_ok-names.ensures.count in
     let begun_so = begins c.args.n c.args.most c.args.directed c.in_ok-id.id c.none.result c.new-builder.result c.new-builder.ensures c.in_ok-id.ensures.value c.none.ensures.value in
-    let vertices : map tree_vertex (names_of c.as_slice.result.now) ≡ plan.vertices = ap (map tree_vertex) (ap names_of c.as_slice.ensures ∙ are) in
+    let vertices : map tree_vertex (names_of c.as_slice.result.now) ≡ plan.vertices = ap (map tree_vertex) (ap names_of c.as_slice.ensures.keys ∙ are) in
     rw (p.1, p.2)
     (refused_insertions plan
     (named plan (names_of c.as_slice.result.now) c.new-builder.result c.name_vertices.new.builder vertices c.in_ok-name_vertices.ensures begun_so)
@@ -80,10 +81,10 @@ returns-in_err-insert_rotations-clause-made c =
 pub returns-clause-made : goal.returns-clause-made
 returns-clause-made c =
     let plan : Plan = binary_plan c.args.n c.args.most c.args.directed in
-    let are : names_of c.in_ok-index.index ≡ trees c.args.n c.args.most =
+    let are : names_of c.in_ok-index.index.keys ≡ trees c.args.n c.args.most =
     c.in_ok-index.ensures.keys ∙ cut_trees c.args.n c.args.most c.in_ok-names.names.count c.in_ok-names.names.letters.items c.in_ok-names.ensures.letters c.in_ok-names.ensures.count in
     let begun_so = begins c.args.n c.args.most c.args.directed c.in_ok-id.id c.none.result c.new-builder.result c.new-builder.ensures c.in_ok-id.ensures.value c.none.ensures.value in
-    let vertices : map tree_vertex (names_of c.as_slice.result.now) ≡ plan.vertices = ap (map tree_vertex) (ap names_of c.as_slice.ensures ∙ are) in
+    let vertices : map tree_vertex (names_of c.as_slice.result.now) ≡ plan.vertices = ap (map tree_vertex) (ap names_of c.as_slice.ensures.keys ∙ are) in
     let whole =
     made plan
     (named plan (names_of c.as_slice.result.now) c.new-builder.result c.name_vertices.new.builder vertices c.in_ok-name_vertices.ensures begun_so)

@@ -1,6 +1,8 @@
-use Rattle.std.proofs.Common.{◌≡◌, ◌+◌, ◌-◌, ◌++◌, ◌∷◌, [], List, ℕ, length, drop, Bor, subst, ap, ap₂, sym, ◌∙◌, arith, append_assoc}
+use Rattle.std.proofs.Common.{◌≡◌, ◌+◌, ◌-◌, ◌++◌, ◌∷◌, [], List, ℕ, length, drop, subst, ap, ap₂, sym, ◌∙◌, arith, append_assoc}
 use Rattle.std.proofs.lemmas.List.{append-nil}
 use Rattle.sgb_plan.specs.Distinct.{Distinct}
+use Rattle.sgb_plan.specs.declared.key.Key.{Key}
+use Rattle.sgb_plan.specs.Key.{bytes_of}
 use Rattle.sgb_binary.specs.Private.Listing.{pieces}
 use Rattle.sgb_binary.proofs.Indexing.{names_of, name_added, piece_taken, pieces_end, width_left, width_next}
 use Rattle.sgb_binary.proofs.index.index_names.Goals as goal
@@ -15,23 +17,23 @@ loop-v-preserved c =
     let count : ℕ = c.args.names.now.count in
     let v : ℕ = c.loop-v._v in
     let rest : List ℕ = c.loop-v.rest.now in
-    let keys : List (Bor (List ℕ)) = c.loop-v.index in
-    let name : Bor (List ℕ) = c.split_at.result.0 in
+    let keys : List Key = c.loop-v.index.keys in
+    let name : Key = record { 0 = c.split_at.result.0 } in
     let left : List (List ℕ) = pieces width (count - (v + 1)) (drop width rest) in
     let taken = piece_taken width count v rest c.loop-v-test.true in
-    let start : names_of keys ++ (name.now ∷ left) ≡ pieces width count c.args.names.now.letters.items =
+    let start : names_of keys ++ (bytes_of name ∷ left) ≡ pieces width count c.args.names.now.letters.items =
     ap (λ ps. names_of keys ++ ps) (ap (λ x. x ∷ left) c.split_at.ensures.front ∙ sym taken) ∙ c.loop-v.invariant.names in
     let added = name_added keys name left (subst Distinct (sym start) c.requires.apart) in
     record {
       names =
-          ap₂ (λ xs ys. xs ++ ys) (ap names_of c.in_ok-insert.ensures.ok ∙ added) (ap (pieces width (count - (v + 1))) c.split_at.ensures.back)
-          ∙ (append_assoc (names_of keys) (name.now ∷ []) left ∙ start);
+          ap₂ (λ xs ys. xs ++ ys) (ap names_of c.in_ok-insert.ensures.keys ∙ added) (ap (pieces width (count - (v + 1))) c.split_at.ensures.back)
+          ∙ (append_assoc (names_of keys) (bytes_of name ∷ []) left ∙ start);
       whole = let next = width_next width count v (length rest) c.loop-v-test.true c.loop-v.invariant.whole in omega (arith, next, c.split_at.ensures.back_len);
     }
 
 pub returns-clause-keys : goal.returns-clause-keys
 returns-clause-keys c =
     let none : c.args.names.now.count - c.loop-v._v ≡ 0 = omega arith in
-    sym (append-nil (names_of c.loop-v.index))
-    ∙ (ap (λ ps. names_of c.loop-v.index ++ ps) (sym (pieces_end c.args.width (c.args.names.now.count - c.loop-v._v) c.loop-v.rest.now none))
+    sym (append-nil (names_of c.loop-v.index.keys))
+    ∙ (ap (λ ps. names_of c.loop-v.index.keys ++ ps) (sym (pieces_end c.args.width (c.args.names.now.count - c.loop-v._v) c.loop-v.rest.now none))
     ∙ c.loop-v.invariant.names)

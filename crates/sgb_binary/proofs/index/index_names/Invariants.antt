@@ -5,6 +5,6 @@ use Rattle.sgb_binary.proofs.index.index_names.Given as goal
 
 abbrev pub invariant-loop-v : goal.invariant-loop-v
 invariant-loop-v l = record {
-  names : names_of l.index ++ pieces l.width (l.names.count - l._v) l.rest ≡ pieces l.width l.names.count l.names.letters.items;
+  names : names_of l.index.keys ++ pieces l.width (l.names.count - l._v) l.rest ≡ pieces l.width l.names.count l.names.letters.items;
   whole : length l.rest ≡ (l.names.count - l._v) * l.width;
 }

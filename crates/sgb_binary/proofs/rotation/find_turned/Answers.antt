@@ -1,12 +1,11 @@
-use Rattle.std.proofs.Common.{◌≡◌, ◌≤◌, ◌+◌, ◌-◌, ◌==◌, ◌∷◌, [], ℕ, List, length, map, drop, codes, true, false, Bor, suc, ap, sym, ◌∙◌, arith}
-use Rattle.std.specs.Prelude.{position}
+use Rattle.std.proofs.Common.{◌≡◌, ◌≤◌, ◌+◌, ◌-◌, ◌==◌, ◌∷◌, [], ℕ, List, length, map, drop, codes, true, false, suc, ap, sym, ◌∙◌, arith}
 use Rattle.std.specs.Option.{option_to_list}
-use Rattle.std.specs.Cmp.Lexicographic.{pointwise}
 use borrow.Rule.Slice.PartMut.{put_mid}
 use Rattle.std.specs.List.{starts_with}
 use Rattle.std.proofs.lemmas.List.{take_rest}
-use Rattle.sgb_binary.specs.Rotation.{tree_fronts, turned}
-use Rattle.sgb_binary.proofs.Turning.{behind_dot, turned_part, turned_is, turned_back, targets_none, targets_no_tree, targets_one, position-map}
+use Rattle.sgb_plan.specs.Key.{bytes_of}
+use Rattle.sgb_binary.specs.Rotation.{number_in, tree_fronts, turned}
+use Rattle.sgb_binary.proofs.Turning.{behind_dot, turned_part, turned_is, turned_back, targets_none, targets_no_tree, targets_one}
 use Rattle.sgb_binary.proofs.rotation.find_turned.Goals as goal
 
 pub returns-then-not-starts_with-clause-value : goal.returns-then-not-starts_with-clause-value
@@ -14,7 +13,7 @@ returns-then-not-starts_with-clause-value c =
     let w : List ℕ = c.args.word.now in
     let starts : starts_with ◌==◌ (drop c.args.place w) (codes "..") ≡ false =
     ap (λ xs. starts_with ◌==◌ xs (codes "..")) (sym (take_rest w c.args.place)) ∙ (sym c.starts_with.ensures.value ∙ c.if-not-starts_with.true) in
-    sym (targets_none (map (λ name. name.now) c.args.index.now) w c.args.place starts)
+    sym (targets_none (map bytes_of c.args.index.now.keys) w c.args.place starts)
 
 pub returns-in_err-len-clause-value : goal.returns-in_err-len-clause-value
 returns-in_err-len-clause-value c =
@@ -22,13 +21,13 @@ returns-in_err-len-clause-value c =
     let starts : starts_with ◌==◌ (drop c.args.place w) (codes "..") ≡ true =
     ap (λ xs. starts_with ◌==◌ xs (codes "..")) (sym (take_rest w c.args.place)) ∙ (sym c.starts_with.ensures.value ∙ c.if-not-starts_with.false) in
     let none : tree_fronts (drop (c.args.place + 2) w) ≡ [] = ap tree_fronts (sym (take_rest w (c.args.place + 2))) ∙ sym c.in_err-len.ensures.value in
-    ap option_to_list c.from_residual.ensures ∙ sym (targets_no_tree (map (λ name. name.now) c.args.index.now) w c.args.place starts none)
+    ap option_to_list c.from_residual.ensures ∙ sym (targets_no_tree (map bytes_of c.args.index.now.keys) w c.args.place starts none)
 
 pub returns-clause-value : goal.returns-clause-value
 returns-clause-value c =
     let w : List ℕ = c.args.word.now in
     let i : ℕ = c.args.place in
-    let names : List (List ℕ) = map (λ name. name.now) c.args.index.now in
+    let names : List (List ℕ) = map bytes_of c.args.index.now.keys in
     let starts : starts_with ◌==◌ (drop c.args.place w) (codes "..") ≡ true =
     ap (λ xs. starts_with ◌==◌ xs (codes "..")) (sym (take_rest w c.args.place)) ∙ (sym c.starts_with.ensures.value ∙ c.if-not-starts_with.false) in
     let one : tree_fronts (drop (i + 2) w) ≡ c.in_ok-len.len ∷ [] = ap tree_fronts (sym (take_rest w (i + 2))) ∙ sym c.in_ok-len.ensures.value in
@@ -38,11 +37,9 @@ returns-clause-value c =
     let dot = behind_dot w i starts in
     let turns : put_mid (i + 1) k w c.rotate_left.new.self ≡ turned w i len =
     turned_is w c.rotate_left.new.self i len k dot long (turned_part w c.rotate_left.new.self i len k dot long c.rotate_left.ensures.after) in
-    ap option_to_list
-    (c.place_of-found.ensures.value
-    ∙ (ap (λ v. position (λ (name : Bor (List ℕ)). pointwise ◌==◌ v name.now) c.args.index.now) turns
-    ∙ sym (position-map (pointwise ◌==◌ (turned w i len)) (λ (name : Bor (List ℕ)). name.now) c.args.index.now)))
-    ∙ sym (targets_one names w i len starts one)
+    c.number_of-found.ensures.value
+    ∙ (ap (number_in names) turns
+    ∙ sym (targets_one names w i len starts one))
 
 pub returns-clause-same : goal.returns-clause-same
 returns-clause-same c =

@@ -17,14 +17,14 @@ insert-requires-clause-to c = omega (arith, from_n c.loop-place.invariant.left, 
 pub returns-in_err-insert : goal.returns-in_err-insert
 returns-in_err-insert c =
     let p = err_from_is_err_and c.from_residual.result c.from_residual.ensures.1 in
-    let one = rotation_one (names_of c.args.index.now) c.args.v c.loop-place.word c.args.word.now c.loop-place.place c.in-Some.target c.loop-place.invariant.word c.in-Some.ensures.value in
+    let one = rotation_one (names_of c.args.index.now.keys) c.args.v c.loop-place.word c.args.word.now c.loop-place.place c.in-Some.target c.loop-place.invariant.word c.in-Some.ensures.value in
     rw (p.1, p.2)
     (from_refused c.loop-place-test.true c.loop-place.invariant.left
     (subst (λ es. RefusesInsertions c.loop-place.builder es c.in_err-insert.field-0.0) (sym one) c.in_err-insert.ensures.value))
 
 pub loop-place-preserved : goal.loop-place-preserved
 loop-place-preserved c =
-    let names : List (List ℕ) = names_of c.args.index.now in
+    let names : List (List ℕ) = names_of c.args.index.now.keys in
     let left : LeftFrom c.args.builder.now (rotations_of names c.args.v c.args.word.now) c.match-find_turned.builder (rotations_at names c.args.v c.args.word.now) (c.loop-place.place + 1) (length c.args.word.now) =
     elim c.match-find_turned.branch [
       | in-Some+in_ok-insert w ↦

@@ -6,6 +6,6 @@ use Rattle.sgb_binary.proofs.rotation.insert_from.Given as goal
 
 abbrev pub invariant-loop-place : goal.invariant-loop-place
 invariant-loop-place l = record {
-  left : LeftFrom l.initial.builder (rotations_of (names_of l.index) l.v l.initial.word) l.builder (rotations_at (names_of l.index) l.v l.initial.word) l.place (length l.initial.word);
+  left : LeftFrom l.initial.builder (rotations_of (names_of l.index.keys) l.v l.initial.word) l.builder (rotations_at (names_of l.index.keys) l.v l.initial.word) l.place (length l.initial.word);
   word : l.word ≡ l.initial.word;
 }

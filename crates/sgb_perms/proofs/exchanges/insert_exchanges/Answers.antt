@@ -34,7 +34,7 @@ insert_to-requires-clause-closed c =
     let rows = c.args.rows.now.rows in
     let is : c.deref_mut.result.now ≡ row_at rows c.loop-v.v =
     c.deref_mut.ensures.value ∙ (c.in_ok-extend_from_slice.ensures.items ∙ ap₂ (λ xs ys. xs ++ ys) c.clear.ensures.items c.row.ensures.value) in
-    leads rows (shown_by c.args.places.now) (row_at rows c.loop-v.v) c.deref_mut.result.now c.requires.places is
+    leads rows (shown_by c.args.places.now.keys) (row_at rows c.loop-v.v) c.deref_mut.result.now c.requires.places is
     (c.requires.closed c.loop-v.v (omega (arith, c.len-v-end.ensures.value)))
 
 pub returns-in_err-insert_to : goal.returns-in_err-insert_to

@@ -16,11 +16,11 @@ from_within rows a place from closed low descends is =
 
 pub loop-place-init : goal.loop-place-init
 loop-place-init c =
-    record { left = moves_start c.args.builder.now (shown_by c.args.places.now) c.args.to.0 c.args.row.now; row = refl }
+    record { left = moves_start c.args.builder.now (shown_by c.args.places.now.keys) c.args.to.0 c.args.row.now; row = refl }
 
 pub overflow_cast-from : goal.overflow_cast-from
 overflow_cast-from c =
-    let rows = shown_by c.args.places.now in
+    let rows = shown_by c.args.places.now.keys in
     let a = c.args.row.now in
     let place = c.loop-place.place in
     let low : place + 1 < length a = omega arith in
@@ -34,7 +34,7 @@ insert-requires-clause-to c = omega (arith, from_n c.loop-place.invariant.left, 
 
 pub insert-requires-clause-from : goal.insert-requires-clause-from
 insert-requires-clause-from c =
-    let rows = shown_by c.args.places.now in
+    let rows = shown_by c.args.places.now.keys in
     let a = c.args.row.now in
     let place = c.loop-place.place in
     let low : place + 1 < length a = omega arith in
@@ -46,7 +46,7 @@ insert-requires-clause-from c =
 pub returns-in_err-insert : goal.returns-in_err-insert
 returns-in_err-insert c =
     let p = err_from_is_err_and c.from_residual.result c.from_residual.ensures.1 in
-    let rows = shown_by c.args.places.now in
+    let rows = shown_by c.args.places.now.keys in
     let a = c.args.row.now in
     let place = c.loop-place.place in
     let descends = descends_so c.loop-place.row a place c.loop-place.invariant.row c.if-row-place.true in
@@ -57,7 +57,7 @@ returns-in_err-insert c =
 
 pub loop-place-preserved : goal.loop-place-preserved
 loop-place-preserved c =
-    let rows = shown_by c.args.places.now in
+    let rows = shown_by c.args.places.now.keys in
     let a = c.args.row.now in
     let place = c.loop-place.place in
     let inside : place < length a - 1 = omega arith in

@@ -7,6 +7,6 @@ use Rattle.sgb_perms.proofs.exchanges.insert_to.Given as goal
 
 abbrev pub invariant-loop-place : goal.invariant-loop-place
 invariant-loop-place l = record {
-  left : LeftFrom l.initial.builder (exchanges_of (shown_by l.places) l.to.0 l.initial.row) l.builder (move_at (shown_by l.places) l.to.0 l.initial.row) l.place (length l.initial.row - 1);
+  left : LeftFrom l.initial.builder (exchanges_of (shown_by l.places.keys) l.to.0 l.initial.row) l.builder (move_at (shown_by l.places.keys) l.to.0 l.initial.row) l.place (length l.initial.row - 1);
   row : l.row ≡ l.initial.row;
 }

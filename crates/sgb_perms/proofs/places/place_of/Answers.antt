@@ -6,4 +6,4 @@ use Rattle.sgb_perms.proofs.places.place_of.Goals as goal
 pub returns : goal.returns
 returns c =
     c.unwrap_or.ensures
-    ∙ (ap₂ unwrap_or c.place_of.ensures.value c.len.ensures.value ∙ found c.args.row.now c.args.places.now)
+    ∙ (ap₂ unwrap_or c.get_index_of.ensures.index c.len.ensures.len ∙ found c.args.row.now c.args.places.now.keys)
