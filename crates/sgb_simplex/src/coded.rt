@@ -37,8 +37,8 @@ fn code_of(list: &PointList, point: &[u32]) -> u64
     code
 }
 
-/// Inserts the pairs of points whose overlap is one of these sizes. It stands by itself, since its loops are the program's
-/// closest.
+/// Inserts the pairs of points whose overlap is one of these sizes. It is called, and not set in, so
+/// that its loops stay short.
 #[inline(never)]
 pub(crate) fn insert_coded_pairs(
     builder: &mut Builder,
