@@ -1,9 +1,10 @@
 -- What an edit of a graph does to the session.
-use Rattle.std.proofs.Common.{◌≡◌, ◌<◌, ℕ, List, length, set, refl, true, Option, Some, None, Ok, Err, sym, ap, ◌∙◌, subst, inl, inr, cond, arith}
+use Rattle.std.proofs.Common.{◌≡◌, ◌<◌, ◌≤◌, ℕ, List, length, set, refl, true, Option, Some, None, Ok, Err, sym, ap, ap₂, ◌∙◌, subst, inl, inr, cond, arith}
 use Rattle.std.specs.Prelude.{nat_lt, is_none, ◌&&◌, ◌||◌}
-use Rattle.std.specs.List.{position_or_len}
+use Rattle.std.specs.List.{position_or_len, insert, remove}
 use Rattle.std.specs.Str.{bytes_eq}
 use Rattle.std.proofs.lemmas.Bool.{cases_Bool, ltb-true}
+use Rattle.std.proofs.lemmas.List.Edits.{length-remove}
 use Rattle.std.proofs.lemmas.List.{set-get_or, set-set, get_or-set_same, length-set}
 use Rattle.sgb_graph.specs.declared.delta.GraphDelta.{GraphDelta}
 use Rattle.sgb_graph.specs.declared.refusal.Refusal.{Refusal}
@@ -13,16 +14,18 @@ use Rattle.sgb_graph.specs.Delta.{LeftBy}
 use Rattle.sgb_graph.proofs.Reverting.{reverted_is}
 use Rattle.sgb_undo.specs.Outcome.{Accepted, is_accepted}
 use Rattle.sgb_script.specs.declared.command.Edit as script
-use Rattle.sgb_script.specs.declared.command.Command.TheVariants.{Edit}
+use Rattle.sgb_script.specs.declared.command.Command.TheVariants.{Edit, Drop}
 use Rattle.sgb_script.specs.declared.refusal.ShellRefusal.TheVariants as shells
 use Rattle.sgb_session.specs.declared.reply.Delta.TheVariants as kept
 use Rattle.sgb_session.specs.declared.reply.Reply.{Reply}
+use Rattle.sgb_session.specs.declared.reply.Reply.TheVariants.{Done}
 use Rattle.sgb_session.specs.declared.table.Entry.{Entry}
 use Rattle.sgb_session.specs.Drawing.{Drawing}
 use Rattle.sgb_session.specs.Edits.{edited, refusal_from, edit_has_text, edit_takes_memory}
-use Rattle.sgb_session.specs.State.{State, StepOutcome, step, may_want, editing, unless_refused, where_found}
+use Rattle.sgb_session.specs.State.{State, StepOutcome, step, may_want, editing, unless_refused, where_found, dropping}
 use Rattle.sgb_session.specs.Table.{find, no_entry, entry_in, graph_in, with_graph}
 use Rattle.sgb_session.specs.Private.Making.{Performs, AtPlace, Edits, edit_may_want}
+use Rattle.sgb_session.proofs.Tables.{insert-remove}
 
 abbrev pub state : Drawing → List Entry → State
 state d t = record { generator = d; table = t }
@@ -96,4 +99,16 @@ edit_refused d t u name e i r at m =
         | inl wants ↦ inl (no_room_is r wants.0, edit_wants (state d t) name e i at ∙ wants.1)
         | inr refuses ↦ inr (step_is (state d t) name e i at ∙ ap (λ o. unless_refused o (Accepted (state d (with_graph t i x.graph)) (kept.Edit i x.delta) x.reply)) refuses)
       ],
+    )
+
+-- a graph that left the table
+pub graph_dropped : (d : Drawing) (t u : List Entry) (name : List ℕ) (i : ℕ) (x : Entry) → find t name ≡ Some i → x ≡ entry_in t i → u ≡ remove t i → length u < 64
+    → Performs (state d t) (state d u) (Drop name) (Ok (kept.Dropped i x.name x.graph, Done))
+graph_dropped d t u name i x at entry table few =
+    let within : i < length t = find_within t name i at in
+    let size = length-remove t i within in
+    let long : length u ≡ length (remove t i) = ap (λ v. length v) table in (
+      ap (λ o. where_found o (dropping (state d t))) at ∙ ap₂ (λ v (y : Entry). Accepted (state d v) (kept.Dropped i y.name y.graph) Done) (sym table) (sym entry),
+      ((let low : i ≤ length u = omega (arith, within, size, long) in low), few),
+      ap (state d) (ap₂ (λ v y. insert v i y) table entry ∙ insert-remove t i no_entry within),
     )

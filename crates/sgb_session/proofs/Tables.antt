@@ -1,17 +1,17 @@
 -- What the slots of a table show.
-use Rattle.std.proofs.Common.{◌≡◌, ◌<◌, ◌+◌, ℕ, suc, List, [], ◌∷◌, ◌++◌, length, map, get_or, set, take, drop, Option, Some, None, All, Bool, refl, sym, ap, ◌∙◌, subst, cond, not, zero}
+use Rattle.std.proofs.Common.{◌≡◌, ◌<◌, ◌+◌, ℕ, suc, List, [], ◌∷◌, ◌++◌, length, map, get_or, set, take, drop, Option, Some, None, All, Bool, refl, sym, ap, ◌∙◌, subst, cond, not, zero, arith}
 use Rattle.std.specs.List.{insert, remove, position, position_or_len}
 use Rattle.std.specs.Prelude.{nat_lt}
 use Rattle.std.proofs.Math.ListN.{get_or-map}
 use Rattle.std.proofs.lemmas.List.{map-set, length-map, get_or_default}
-use Rattle.std.proofs.lemmas.List.Elements.{All-append, All-take, All-drop}
+use Rattle.std.proofs.lemmas.List.Elements.{All-append, All-cons, All-take, All-drop}
 use Rattle.sgb_graph.specs.declared.delta.GraphDelta.{GraphDelta}
 use Rattle.sgb_graph.specs.Graph.{GraphOf}
 use Rattle.sgb_graph.specs.Delta.{LeftBy}
 use Rattle.sgb_graph.specs.Reverted.{reverted}
 use Rattle.sgb_graph.proofs.Reverting.{reverted_is}
 use Rattle.sgb_session.specs.declared.table.Entry.{Entry}
-use Rattle.sgb_session.specs.Table.{entry_in, graph_in, with_graph}
+use Rattle.sgb_session.specs.Table.{entry_in, with_graph}
 use Rattle.sgb_session.specs.Private.Making.{AtPlace, InSlot}
 use Rattle.sgb_session.specs.Private.Slots.{held, slot_in, slot_with_graph}
 
@@ -47,6 +47,15 @@ position-map f p xs =
 
 pub All-remove : {X : Type 0} (P : X → Type 0) (xs : List X) (i : ℕ) → All P xs → All P (remove xs i)
 All-remove P xs i all = All-append P (take i xs) (drop (suc i) xs) (All-take P i xs all) (All-drop P (suc i) xs all)
+
+pub All-insert : {X : Type 0} (P : X → Type 0) (xs : List X) (i : ℕ) (x : X) → All P xs → P x → All P (insert xs i x)
+All-insert P xs i x all one = All-append P (take i xs) (x ∷ drop i xs) (All-take P i xs all) (All-cons P x (drop i xs) one (All-drop P i xs all))
+
+-- what was removed is put back
+pub insert-remove : {X : Type 0} (xs : List X) (i : ℕ) (d : X) → i < length xs → insert (remove xs i) i (get_or xs i d) ≡ xs
+insert-remove [] i d low = absurd (let none : ⊥ = omega (arith, low) in none)
+insert-remove (x ∷ xs) zero d low = refl
+insert-remove (x ∷ xs) (suc i) d low = ap (λ l. x ∷ l) (insert-remove xs i d (let less : i < length xs = omega (arith, low) in less))
 
 -- the entry and the graph that a slot shows
 pub entry_shown : (ss : List (Option Entry)) (i : ℕ) → entry_in (map held ss) i ≡ held (slot_in ss i)

@@ -1,5 +1,5 @@
 -- A seed and a count of draws, and the generator that they stand for.
-use Rattle.std.specs.Prelude.{◌≡◌, ℕ, ◌+◌, ◌-◌, ◌<◌, ◌≤◌, ◌^◌, ℤ, pos}
+use Rattle.std.specs.Prelude.{◌≡◌, ℕ, ◌+◌, ◌-◌, ◌<◌, ◌^◌, ℤ, pos}
 use Rattle.sgb_flip.specs.Generator.{Generator, window, seed_number}
 use Rattle.sgb_plan.specs.declared.part.Seed.{Seed}
 use Rattle.sgb_plan.specs.declared.part.Seed.TheVariants.{Number, Current}

@@ -1,5 +1,5 @@
 -- How each command makes a new graph.
-use Rattle.std.specs.Prelude.{ℕ, ℤ, pos, unsigned_abs, int_lt, List, [], ◌∷◌, Option, None, Some, Bool, true, false, Result, Ok, Err, if◌then◌else◌}
+use Rattle.std.specs.Prelude.{ℕ, ℤ, pos, unsigned_abs, int_lt, List, [], ◌∷◌, Bool, true, false, Result, Ok, Err, if◌then◌else◌}
 use Rattle.sgb_binary.specs.Binary.{plan_of_binary}
 use Rattle.sgb_combine.specs.Complement.{plan_of_complement}
 use Rattle.sgb_combine.specs.Gunion.{plan_of_gunion}
