@@ -27,6 +27,8 @@ use Rattle.sgb_graph.proofs.Sound.{names_in_two, hole_unnamed, names_none, few_n
 use Rattle.sgb_graph.proofs.Graphs.{made_of_live}
 use Rattle.sgb_graph.specs.Private.Link.{IsCounted}
 use Rattle.sgb_graph.specs.Graph.{IsValue, IsTip, is_name}
+use Rattle.sgb_graph.specs.Private.Lay.{last_number, laid_arc}
+use Rattle.std.specs.Prelude.{pos}
 use Rattle.sgb_graph.specs.declared.field.Tip.{Tip}
 use Rattle.sgb_graph.specs.declared.field.Tip.TheVariants as tips
 use Rattle.sgb_graph.specs.declared.field.Util.TheVariants as utils
@@ -73,7 +75,7 @@ pub record IsBehind (ks : List ℕ) (before : Option ArcNo) (place : ℕ) : Type
   pub at : get_or ks i 0 ≡ p
   pub within : i < length ks
 
-get_within : (ks : List ℕ) (i : ℕ) → i < length ks → slice_get ks i ≡ Some (get_or ks i 0)
+pub get_within : (ks : List ℕ) (i : ℕ) → i < length ks → slice_get ks i ≡ Some (get_or ks i 0)
 get_within [] i h = absurd (omega arith)
 get_within (k ∷ ks) zero h = refl
 get_within (k ∷ ks) (suc i) h = get_within ks i (omega arith)
@@ -369,6 +371,14 @@ put_back_done vs ws ss ts rs g c d before link shows sound can ts_is before_is l
     let follows : link ≡ link_after vs us c.owner.0 before = link_is ∙ ap (λ t. link_after vs t c.owner.0 before) ts_is in
     let length_is : to_z w64 (of_z w64 c.len) ≡ c.len = to_z-of_z w64 c.len can.arc.len in
     rw (ws_is, made, follows, length_is) r
+
+-- what the steps of laying an arc leave
+pub lay_done : (vs ws : List Vertex) (ss rs : Slots) (g : GraphOf) (v : VertexNo) (k : ArcNo) (end link : Option ArcNo) → Shows vs ss g → IsGraph g → CanPutBack g (laid_arc g k v)
+    → end ≡ last_number (arcs_of g v.0) → link ≡ link_after vs ss v.0 end → ws ≡ vertices_relinked vs v.0 end (Some k) → rs ≡ slots_relinked ss end (Some k)
+    → Shows ws (set rs k.0 (Some (record { owner = v; tip = tips.Zero; next = link; names = 0; len = pos 0; fields = utils.Zero ∷ utils.Zero ∷ [] }))) (with_cut_arc g (laid_arc g k v))
+lay_done vs ws ss rs g v k end link shows sound can last link_is ws_is rs_is =
+    let r = put_shows vs ss g (laid_arc g k v) end shows sound can last in
+    rw (ws_is, rs_is, link_is) r
 
 -- a tip to one of n vertices, of which there are not more
 pub low_tip : (n : ℕ) (t : Tip) → n ≤ 65535 → IsTip n t → IsTip 65535 t

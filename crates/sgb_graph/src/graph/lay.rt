@@ -1,15 +1,15 @@
 //! Laying the chains of saved records into the lists of a graph. What a record tells beside its link is put in later,
 //! in the order of the records.
-ghost use Rattle.std.specs.Prelude.{◌≡◌, ◌<◌, ◌≤◌, ◌+◌, ◌⊎◌, ℕ, List, length, true, false, IfOk, IfErr, OnOk};
-ghost use Rattle.sgb_graph.specs.Graph.{IsGraph, n_of, made_of, has_arc};
+ghost use Rattle.std.specs.Prelude.{◌≡◌, ◌<◌, ◌+◌, length, true, IfOk, IfErr, OnOk};
+ghost use Rattle.sgb_graph.specs.Graph.{IsGraph, n_of, made_of, arcs_of, has_arc};
 ghost use Rattle.sgb_graph.specs.Edit.{with_cut_arc};
 ghost use Rattle.sgb_graph.specs.Private.Holes.{with_hole};
 ghost use Rattle.sgb_graph.specs.Private.Link.{CanPutBack};
-ghost use Rattle.sgb_graph.specs.Private.Lay.{IsChain, Lays, Laying, RefusesToLay, links_of, laid_arc};
+ghost use Rattle.sgb_graph.specs.Private.Lay.{Lays, Laying, RefusesToLay, links_of, last_number, laid_arc};
 
 use super::Graph;
-use super::link::put_back;
-use crate::{ArcNo, ArcPart, CutArc, Refusal, Tip, Util, VertexNo, VertexPart};
+use super::link::lay_behind;
+use crate::{ArcNo, ArcPart, Refusal, VertexNo, VertexPart};
 use std::alloc::{AllocError, Global};
 
 impl Graph {
@@ -25,13 +25,12 @@ impl Graph {
         ensures err { IfErr result (RefusesToLay vertices.now (links_of arcs.now)) }
     {
         let links = links_of(alloc, arcs)?;
-        self.lay_chains(alloc, vertices, &links)
+        self.lay_chains(vertices, &links)
     }
 
     // Lays the chain of each vertex along these links.
     fn lay_chains(
         &mut self,
-        alloc: Global,
         vertices: &[VertexPart],
         links: &[Option<ArcNo>],
     ) -> Result<(), Refusal>
@@ -39,64 +38,64 @@ impl Graph {
         ensures ok { OnOk result (Lays vertices.now links.now self.new) }
         ensures err { IfErr result (RefusesToLay vertices.now links.now) }
     {
-        let mut numbers = Vec::new(alloc);
         for vertex in 0..self.n() {
-            self.lay_vertex(VertexNo(vertex), vertices, links, &mut numbers)?;
+            self.lay_vertex(VertexNo(vertex), vertices, links)?;
         }
         Ok(())
     }
 
-    // Lays the chain of one vertex, from its end. What `numbers` holds is lost.
+    // Lays the chain of one vertex, from its front. Each step takes a hole away.
     fn lay_vertex(
         &mut self,
         vertex: VertexNo,
         vertices: &[VertexPart],
         links: &[Option<ArcNo>],
-        numbers: &mut Vec<u32>,
     ) -> Result<(), Refusal>
         requires vertex { vertex.0 < length vertices.now }
         requires laying { Laying vertices.now links.now vertex.0 self.old }
         ensures ok { OnOk result (Laying vertices.now links.now (vertex.0 + 1) self.new) }
         ensures err { IfErr result (RefusesToLay vertices.now links.now) }
     {
-        collect_chain(links, vertices[vertex.0 as usize].first, numbers)?;
-        while let Some(number) = numbers.pop() {
-            self.lay(vertex, ArcNo(number))?;
+        let mut link = vertices[vertex.0 as usize].first;
+        let mut last = None;
+        while let Some(number) = link {
+            self.lay(vertex, last, number)?;
+            link = links[number.0 as usize];
+            last = Some(number);
         }
         Ok(())
     }
 
-    // Lays an arc first in the vertex's list. It leads nowhere yet, and its fields are Zero. Refused where the number
-    // is no hole.
-    fn lay(&mut self, vertex: VertexNo, number: ArcNo) -> Result<(), Refusal>
+    // Lays an arc behind the last one of the vertex's list. It leads nowhere yet, and its fields are Zero. Refused
+    // where the number is no hole.
+    #[inline]
+    fn lay(&mut self, vertex: VertexNo, last: Option<ArcNo>, number: ArcNo) -> Result<(), Refusal>
         requires vertex { vertex.0 < n_of self.old }
-        requires number { number.0 < made_of self.old }
-        ensures can { OnOk result (CanPutBack self.old (laid_arc number vertex)) }
-        ensures laid { OnOk result (self.new ≡ with_cut_arc self.old (laid_arc number vertex)) }
+        requires last { last ≡ last_number (arcs_of self.old vertex.0) }
+        ensures can { OnOk result (CanPutBack self.old (laid_arc self.old number vertex)) }
+        ensures laid { OnOk result (self.new ≡ with_cut_arc self.old (laid_arc self.old number vertex)) }
         ensures sound { OnOk result (IsGraph self.new) }
-        ensures err { IfErr result (λ e. (e ≡ Refusal.BadOperand) × (has_arc self.old number.0 ≡ true)) }
+        ensures err { IfErr result (λ e. (e ≡ Refusal.BadOperand) × (number.0 < made_of self.old → has_arc self.old number.0 ≡ true)) }
     {
+        if number.0 >= self.made() {
+            return Err(Refusal::BadOperand);
+        }
         if self.has_arc(number) {
             return Err(Refusal::BadOperand);
         }
-        self.put_arc(CutArc {
-            number,
-            owner: vertex,
-            place: 0,
-            tip: Tip::Zero,
-            len: 0,
-            fields: [Util::Zero, Util::Zero],
-        });
+        self.put_behind(vertex, last, number);
         Ok(())
     }
 
-    // Links an arc whose number is a hole.
-    fn put_arc(&mut self, arc: CutArc)
-        requires { CanPutBack self.old arc }
-        ensures value { self.new ≡ with_cut_arc self.old arc }
+    // Links an arc whose number is a hole behind the last one.
+    #[inline]
+    fn put_behind(&mut self, vertex: VertexNo, last: Option<ArcNo>, number: ArcNo)
+        requires can { CanPutBack self.old (laid_arc self.old number vertex) }
+        requires last { last ≡ last_number (arcs_of self.old vertex.0) }
+        ensures value { self.new ≡ with_cut_arc self.old (laid_arc self.old number vertex) }
         ensures sound { IsGraph self.new }
     {
-        put_back(&mut self.vertices, &mut self.slots, arc);
+        lay_behind(&mut self.vertices, &mut self.slots, vertex, last, number);
         self.live += 1;
     }
 
@@ -121,33 +120,4 @@ fn links_of(alloc: Global, arcs: &[ArcPart]) -> Result<Vec<Option<ArcNo>>, Alloc
         links.push(part.next)?;
     }
     Ok(links)
-}
-
-// Puts the numbers of the chain from this link on in place of what `numbers` holds. Refused where the chain returns
-// or leaves the records.
-fn collect_chain(
-    links: &[Option<ArcNo>],
-    first: Option<ArcNo>,
-    numbers: &mut Vec<u32>,
-) -> Result<(), Refusal>
-    ensures ok { OnOk result (IsChain links.now first numbers.new.items) }
-    ensures err { IfErr result (λ e. (e ≡ Refusal.NoRoom) ⊎
-        ((e ≡ Refusal.BadOperand) × ((ks : List ℕ) → IsChain links.now first ks → length ks ≤ length links.now → ⊥))) }
-{
-    numbers.clear();
-    let mut link = first;
-    for _step in 0..links.len() {
-        let Some(number) = link else {
-            return Ok(());
-        };
-        if number.0 as usize >= links.len() {
-            return Err(Refusal::BadOperand);
-        }
-        numbers.push(number.0)?;
-        link = links[number.0 as usize];
-    }
-    match link {
-        Some(_) => Err(Refusal::BadOperand),
-        None => Ok(()),
-    }
 }
