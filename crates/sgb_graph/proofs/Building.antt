@@ -112,7 +112,7 @@ record_named p g h k same b =
       | inr hole ↦ ap (λ x. cond x (can_name_part g (arc_part p.arcs k)) true) hole
     ]
 
-pub all_named : (p : Parts) (g h : GraphOf) → Lays p.vertices (links_of p.arcs) g → Builds p h → can_name_all g p.fields p.vertices p.arcs ≡ true
+pub all_named : (p : Parts) (g h : GraphOf) → Lays p.vertices (links_of p.arcs) g → Builds p h → can_name_all g p.fields p.vertices ≡ true
 all_named p g h x b =
     let same : SameNames g h = lays_same p.vertices (links_of p.arcs) g h x (lays_of p h b) in
     let own : can_name_each g p.fields ≡ true = each_there g h p.fields h.fields same b.fields b.graph.values in
@@ -121,9 +121,12 @@ all_named p g h x b =
     (λ v low.
     let there : v < n_of h = omega (arith, b.n) in
     each_there g h (vertex_part p.vertices v).fields (vertex_at h v).fields same (b.vertices v there).fields (b.graph.vertices v no_vertex there).values) in
-    let arcs : can_name_arcs g p.arcs ≡ true = range_all (can_name_at g p.arcs) 0 (length p.arcs) (λ k. record_named p g h k same b) in
-    ap (λ a. a && can_name_vertices g p.vertices && can_name_arcs g p.arcs) own
-    ∙ (ap (λ a. true && a && can_name_arcs g p.arcs) vertices ∙ ap (λ a. true && true && a) arcs)
+    ap (λ a. a && can_name_vertices g p.vertices) own ∙ ap (λ a. true && a) vertices
+
+pub arcs_named : (p : Parts) (g h : GraphOf) → Lays p.vertices (links_of p.arcs) g → Builds p h → can_name_arcs g p.arcs ≡ true
+arcs_named p g h x b =
+    let same : SameNames g h = lays_same p.vertices (links_of p.arcs) g h x (lays_of p h b) in
+    range_all (can_name_at g p.arcs) 0 (length p.arcs) (λ k. record_named p g h k same b)
 
 -- what the steps leave is the graph of the parts
 part_filled : (part : ArcPart) (o : Option ArcOf) → IfSome (filled_entry part o) (IsArcOf part)
@@ -193,32 +196,26 @@ new_refused n e few (inr refused) =
 pub lays_moved : (vs ws : List VertexPart) (rs ts : List ArcPart) (g : GraphOf) → vs ≡ ws → rs ≡ ts → Lays vs (links_of rs) g → Lays ws (links_of ts) g
 lays_moved vs ws rs ts g vertices arcs x = subst (λ l. Lays ws (links_of l) g) arcs (subst (λ l. Lays l (links_of rs) g) vertices x)
 
-named_moved : (g : GraphOf) (us : List Util) (vs ws : List VertexPart) (rs ts : List ArcPart) (r b : Bool) → vs ≡ ws → rs ≡ ts → r ≡ can_name_all g us vs rs → r ≡ b → can_name_all g us ws ts ≡ b
-named_moved g us vs ws rs ts r b vertices arcs is now =
-    ap (λ l. can_name_all g us l ts) (sym vertices) ∙ (ap (can_name_all g us vs) (sym arcs) ∙ (sym is ∙ now))
+named_moved : (g : GraphOf) (us : List Util) (vs ws : List VertexPart) (r b : Bool) → vs ≡ ws → r ≡ can_name_all g us vs → r ≡ b → can_name_all g us ws ≡ b
+named_moved g us vs ws r b vertices is now = ap (can_name_all g us) (sym vertices) ∙ (sym is ∙ now)
 
 -- a value that names nothing there is in no graph of the parts
-pub unnamed_refused : (p : Parts) (g : GraphOf) (vs : List VertexPart) (rs : List ArcPart) (r : Bool) → Lays p.vertices (links_of p.arcs) g → vs ≡ p.vertices → rs ≡ p.arcs → r ≡ can_name_all g p.fields vs rs → r ≡ false
+pub unnamed_refused : (p : Parts) (g : GraphOf) (vs : List VertexPart) (r : Bool) → Lays p.vertices (links_of p.arcs) g → vs ≡ p.vertices → r ≡ can_name_all g p.fields vs → r ≡ false
     → (h : GraphOf) → Builds p h → ⊥
-unnamed_refused p g vs rs r x vertices arcs is bad h b =
-    let no' = named_moved g p.fields vs p.vertices rs p.arcs r false vertices arcs is bad in
+unnamed_refused p g vs r x vertices is bad h b =
+    let no' = named_moved g p.fields vs p.vertices r false vertices is bad in
     let yes' = all_named p g h x b in
     cc
 
 -- the parts of the test
-pub record NamedParts (g : GraphOf) (us : List Util) (vs : List VertexPart) (rs : List ArcPart) : Type 0 where
+pub record NamedParts (g : GraphOf) (us : List Util) (vs : List VertexPart) : Type 0 where
   pub own : can_name_each g us ≡ true
   pub vertices : can_name_vertices g vs ≡ true
-  pub arcs : can_name_arcs g rs ≡ true
 
-pub named_parts : (p : Parts) (g : GraphOf) (vs : List VertexPart) (rs : List ArcPart) (r : Bool) → vs ≡ p.vertices → rs ≡ p.arcs → r ≡ can_name_all g p.fields vs rs → r ≡ true → NamedParts g p.fields p.vertices p.arcs
-named_parts p g vs rs r vertices arcs is good =
-    let all = named_moved g p.fields vs p.vertices rs p.arcs r true vertices arcs is good in
-    let a = can_name_each g p.fields in
-    let b = can_name_vertices g p.vertices in
-    let x = and_parts (a && b) (can_name_arcs g p.arcs) all in
-    let y = and_parts a b x.0 in
-    record { own = y.0; vertices = y.1; arcs = x.1 }
+pub named_parts : (p : Parts) (g : GraphOf) (vs : List VertexPart) (r : Bool) → vs ≡ p.vertices → r ≡ can_name_all g p.fields vs → r ≡ true → NamedParts g p.fields p.vertices
+named_parts p g vs r vertices is good =
+    let x = and_parts (can_name_each g p.fields) (can_name_vertices g p.vertices) (named_moved g p.fields vs p.vertices r true vertices is good) in
+    record { own = x.0; vertices = x.1 }
 
 list_all-same : (p q : ℕ → Bool) (ks : List ℕ) → ((k : ℕ) → p k ≡ q k) → list_all p ks ≡ list_all q ks
 list_all-same p q [] same = refl
@@ -229,6 +226,18 @@ arcs-same g h rs same =
     list_all-same (can_name_at h rs) (can_name_at g rs) (range_with_len 0 (length rs))
     (λ k. ap (λ b. cond b (can_name_part h (arc_part rs k)) true) (same.live k)
     ∙ ap (λ b. cond (has_arc g k) b true) (part-same g h (arc_part rs k) same))
+
+-- so is a record whose values name nothing there, once the vertices are filled
+pub arc_refused : (p : Parts) (g h : GraphOf) (rs : List ArcPart) (e : Refusal) → Lays p.vertices (links_of p.arcs) g → SameNames g h → rs ≡ p.arcs → (e ≡ BadOperand) × (can_name_arcs h rs ≡ false)
+    → (e ≡ NoRoom) ⊎ ((e ≡ BadOperand) × ((i : GraphOf) → Builds p i → ⊥))
+arc_refused p g h rs e x same arcs bad =
+    inr (
+      bad.0,
+      λ i b.
+          (let no' : can_name_arcs g p.arcs ≡ false = ap (can_name_arcs g) (sym arcs) ∙ (sym (arcs-same g h rs same) ∙ bad.1) in
+          let yes' = arcs_named p g i x b in
+          cc),
+    )
 
 pub filled_names : (vs : List VertexPart) (g h : GraphOf) → FillsVertices vs g h → SameNames g h
 filled_names vs g h x = record { n = x.n; live = λ k. ap (λ es. is_some (get_or es k None)) x.entries }

@@ -9,7 +9,7 @@ use Rattle.sgb_graph.specs.Edit.{with_label, stored}
 use Rattle.sgb_graph.specs.Parts.{vertex_part, arc_part, any_vertex_part, any_arc_part}
 use Rattle.sgb_graph.specs.Private.Fill.{SameNames, can_name_each, can_name_part, can_name_vertices, can_name_at, can_name_arcs, filled_vertex, filled_entry, with_filled_vertex, with_filled_arc, FillsVertices, FillsArcs}
 use Rattle.sgb_graph.proofs.Graphs.{no_arc_past}
-use Rattle.sgb_graph.proofs.PairedLemmas.{below_all}
+use Rattle.sgb_graph.proofs.PairedLemmas.{below_all_not}
 use Rattle.sgb_graph.proofs.Sound.{entry_same, entry_other}
 use Rattle.sgb_graph.proofs.Filling.{each-same, part-same, names_then}
 
@@ -159,16 +159,16 @@ arcs_filling_names rs left g h x =
       ];
     }
 
--- the values of a live record can be named when its turn comes
-pub arc_turn_names : (rs left rest : List ArcPart) (part : ArcPart) (g h : GraphOf) → ArcsFilledFrom rs left g h → left ≡ rest ++ part ∷ [] → can_name_arcs g rs ≡ true → has_arc h (length rest) ≡ true → can_name_part h part ≡ true
-arc_turn_names rs left rest part g h x is all live =
+-- a live record whose values cannot be named when its turn comes
+pub arc_unnamed : (rs left rest : List ArcPart) (part : ArcPart) (g h : GraphOf) → ArcsFilledFrom rs left g h → left ≡ rest ++ part ∷ [] → has_arc h (length rest) ≡ true → can_name_part h part ≡ false → can_name_arcs g rs ≡ false
+arc_unnamed rs left rest part g h x is live unnamed =
     let l = last_record rs left rest x.done part x.all is in
     let k = length rest in
     let same = arcs_filling_names rs left g h x in
-    let one : can_name_at g rs k ≡ true = below_all (can_name_at g rs) (length rs) k all l.low in
     let alive : has_arc g k ≡ true = sym (same.live k) ∙ live in
-    part-same g h part same
-    ∙ (ap (can_name_part g) (sym l.at) ∙ (ap (λ b. cond b (can_name_part g (arc_part rs k)) true) (sym alive) ∙ one))
+    below_all_not (can_name_at g rs) (length rs) k l.low
+    (ap (λ b. cond b (can_name_part g (arc_part rs k)) true) alive
+    ∙ (ap (can_name_part g) l.at ∙ (sym (part-same g h part same) ∙ unnamed)))
 
 -- an arc gets its values, or is a hole
 pub arc_filled_more : (rs left rest : List ArcPart) (part : ArcPart) (g h i : GraphOf) → ArcsFilledFrom rs left g h → left ≡ rest ++ part ∷ [] → made_of g ≡ length rs

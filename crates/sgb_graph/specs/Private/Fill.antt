@@ -32,8 +32,8 @@ can_name_vertices g vs = list_all (λ part. can_name_each g part.fields) vs
 abbrev pub can_name_arcs : GraphOf → List ArcPart → Bool
 can_name_arcs g rs = list_all (can_name_at g rs) (range_with_len 0 (length rs))
 
-abbrev pub can_name_all : GraphOf → List Util → List VertexPart → List ArcPart → Bool
-can_name_all g us vs rs = can_name_each g us && can_name_vertices g vs && can_name_arcs g rs
+abbrev pub can_name_all : GraphOf → List Util → List VertexPart → Bool
+can_name_all g us vs = can_name_each g us && can_name_vertices g vs
 
 -- the vertex with these values
 unfoldable pub with_filled_vertex : GraphOf → ℕ → List Util → GraphOf

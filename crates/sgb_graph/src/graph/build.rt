@@ -32,11 +32,11 @@ impl Graph {
         let arcs = arcs.into_vec();
         let mut graph = begin(alloc, vertices.len(), arcs.len())?;
         graph.lay_all(alloc, &vertices, &arcs)?;
-        if !graph.can_name_all(&fields, &vertices, &arcs) {
+        if !graph.can_name_all(&fields, &vertices) {
             return Err(Refusal::BadOperand);
         }
         graph.fill_vertices(vertices);
-        graph.fill_arcs(arcs);
+        graph.fill_arcs(arcs)?;
         graph.fill_own(fields);
         let _ = graph.set_types(types);
         let _ = graph.set_id(id)?;

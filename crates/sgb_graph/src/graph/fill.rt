@@ -1,33 +1,25 @@
 //! Putting the names, tips, lengths and values of saved parts into a graph.
-ghost use Rattle.std.specs.Prelude.{◌≡◌, ◌<◌, ◌∷◌, ◌&&◌, [], length, slice_index_or, map, true, IsTrue, None};
-ghost use Rattle.std.specs.List.{list_all, range_with_len};
+ghost use Rattle.std.specs.Prelude.{◌≡◌, ◌<◌, ◌∷◌, ◌&&◌, [], length, slice_index_or, map, true, false, IsTrue, None, IfErr, OnOk};
 ghost use Rattle.sgb_graph.specs.Graph.{IsGraph, n_of, made_of, has_arc};
 ghost use Rattle.sgb_graph.specs.Edit.{with_util, with_label, util_at, has_place, can_name, stored, refusal_of_util};
 ghost use Rattle.sgb_graph.specs.Private.Aim.{can_lead, with_aim};
 ghost use Rattle.sgb_graph.specs.Private.Cells.{is_zero};
-ghost use Rattle.sgb_graph.specs.Private.Fill.{SameNames, can_name_each, can_name_part, can_name_at, can_name_vertices, can_name_arcs, can_name_all, with_filled_vertex, with_filled_arc, FillsVertices, FillsArcs};
+ghost use Rattle.sgb_graph.specs.Private.Fill.{SameNames, can_name_each, can_name_part, can_name_vertices, can_name_arcs, can_name_all, with_filled_vertex, with_filled_arc, FillsVertices, FillsArcs};
 
 use super::Graph;
 use super::arena::is_zero;
 use super::codes::TipCode;
 use crate::{
-    ArcField, ArcNo, ArcPart, GraphField, Label, Place, Tip, Util, VertexField, VertexNo,
+    ArcField, ArcNo, ArcPart, GraphField, Label, Place, Refusal, Tip, Util, VertexField, VertexNo,
     VertexPart,
 };
 
 impl Graph {
-    // Each value of the graph, of the vertices and of the live arcs names what is there, if anything, and so does each
-    // live arc's tip.
-    pub(super) fn can_name_all(
-        &self,
-        fields: &[Util],
-        vertices: &[VertexPart],
-        arcs: &[ArcPart],
-    ) -> bool
-        requires { made_of self.now ≡ length arcs.now }
-        ensures { result ≡ can_name_all self.now fields.now vertices.now arcs.now }
+    // Each value of the graph and of the vertices names what is there, if anything.
+    pub(super) fn can_name_all(&self, fields: &[Util], vertices: &[VertexPart]) -> bool
+        ensures { result ≡ can_name_all self.now fields.now vertices.now }
     {
-        self.can_name_each(fields) && self.can_name_vertices(vertices) && self.can_name_arcs(arcs)
+        self.can_name_each(fields) && self.can_name_vertices(vertices)
     }
 
     fn can_name_each(&self, values: &[Util]) -> bool
@@ -42,30 +34,7 @@ impl Graph {
         vertices.iter().all(|part| self.can_name_each(&part.fields))
     }
 
-    fn can_name_arcs(&self, arcs: &[ArcPart]) -> bool
-        requires { made_of self.now ≡ length arcs.now }
-        ensures { result ≡ can_name_arcs self.now arcs.now }
-    {
-        for number in 0..self.made() {
-            if !self.can_name_at(arcs, ArcNo(number)) {
-                return false;
-            }
-        }
-        true
-    }
-
-    // The tip and the values of the record, where its arc lives.
-    fn can_name_at(&self, arcs: &[ArcPart], number: ArcNo) -> bool
-        requires { number.0 < length arcs.now }
-        ensures { result ≡ can_name_at self.now arcs.now number.0 }
-    {
-        if self.has_arc(number) {
-            self.can_name_part(&arcs[number.0 as usize])
-        } else {
-            true
-        }
-    }
-
+    // The tip and the values of the record.
     fn can_name_part(&self, part: &ArcPart) -> bool
         ensures { result ≡ can_name_part self.now part.now }
     {
@@ -86,19 +55,24 @@ impl Graph {
         }
     }
 
-    // Gives each live arc the tip, the length and the values of its record.
-    pub(super) fn fill_arcs(&mut self, mut arcs: Vec<ArcPart>)
-        requires made { made_of self.old ≡ length arcs.items }
-        requires names { can_name_arcs self.old arcs.items ≡ true }
-        ensures { FillsArcs arcs.items self.old self.new }
+    // Gives each live arc the tip, the length and the values of its record. Refused where one of them names what is not
+    // there; the arcs behind that one are filled then.
+    pub(super) fn fill_arcs(&mut self, mut arcs: Vec<ArcPart>) -> Result<(), Refusal>
+        requires { made_of self.old ≡ length arcs.items }
+        ensures ok { OnOk result (FillsArcs arcs.items self.old self.new) }
+        ensures err { IfErr result (λ e. (e ≡ Refusal.BadOperand) × (can_name_arcs self.old arcs.items ≡ false)) }
     {
         let _ = self.n();
         while let Some(part) = arcs.pop() {
             let number = ArcNo(arcs.len() as u32);
             if self.has_arc(number) {
+                if !self.can_name_part(&part) {
+                    return Err(Refusal::BadOperand);
+                }
                 self.fill_arc(number, part);
             }
         }
+        Ok(())
     }
 
     // Gives the graph's own fields these values.

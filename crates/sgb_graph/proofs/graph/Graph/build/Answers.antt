@@ -1,8 +1,8 @@
 use Rattle.std.proofs.Common.{refl, sym, ap, subst, length, ◌∙◌, inr}
-use Rattle.sgb_graph.specs.Private.Fill.{can_name_vertices, can_name_arcs, FillsVertices, FillsArcs}
+use Rattle.sgb_graph.specs.Private.Fill.{can_name_vertices, FillsVertices, FillsArcs}
 use Rattle.std.proofs.lemmas.Result.{err_from_is_err_and}
 use Rattle.sgb_graph.proofs.Filling.{names_then, each-same}
-use Rattle.sgb_graph.proofs.Building.{blank_lays, lays_moved, unnamed_refused, named_parts, arcs-same, filled_names, arcs_filled_names, builds, too_many, not_laid, long_id}
+use Rattle.sgb_graph.proofs.Building.{blank_lays, lays_moved, unnamed_refused, named_parts, arc_refused, filled_names, arcs_filled_names, builds, too_many, not_laid, long_id}
 use Rattle.sgb_graph.proofs.graph.Graph.build.Goals as goal
 
 pub returns-in_err-graph-clause-err : goal.returns-in_err-graph-clause-err
@@ -22,23 +22,23 @@ returns-in_err-lay_all-clause-err c =
 pub returns-then-not-can_name_all-clause-err : goal.returns-then-not-can_name_all-clause-err
 returns-then-not-can_name_all-clause-err c =
     let x = lays_moved _ _ _ _ c.lay_all.new.self (c.deref.ensures.value ∙ c.into_vec-vertices.ensures) (c.deref-2.ensures.value ∙ c.into_vec-arcs.ensures) c.in_ok-lay_all.ensures.ok in
-    inr (refl, unnamed_refused c.args.parts c.lay_all.new.self _ _ c.can_name_all.result x (c.deref-3.ensures.value ∙ c.into_vec-vertices.ensures) (c.deref-4.ensures.value ∙ c.into_vec-arcs.ensures) c.can_name_all.ensures c.if-not-can_name_all.true)
+    inr (refl, unnamed_refused c.args.parts c.lay_all.new.self _ c.can_name_all.result x (c.deref-3.ensures.value ∙ c.into_vec-vertices.ensures) c.can_name_all.ensures c.if-not-can_name_all.true)
 
 pub fill_vertices-requires-clause-names : goal.fill_vertices-requires-clause-names
 fill_vertices-requires-clause-names c =
     ap (can_name_vertices c.lay_all.new.self) c.into_vec-vertices.ensures
-    ∙ (named_parts c.args.parts c.lay_all.new.self _ _ c.can_name_all.result (c.deref-3.ensures.value ∙ c.into_vec-vertices.ensures) (c.deref-4.ensures.value ∙ c.into_vec-arcs.ensures) c.can_name_all.ensures c.if-not-can_name_all.false).vertices
+    ∙ (named_parts c.args.parts c.lay_all.new.self _ c.can_name_all.result (c.deref-3.ensures.value ∙ c.into_vec-vertices.ensures) c.can_name_all.ensures c.if-not-can_name_all.false).vertices
 
-pub fill_arcs-requires-clause-names : goal.fill_arcs-requires-clause-names
-fill_arcs-requires-clause-names c =
-    arcs-same c.lay_all.new.self c.fill_vertices.new.self c.into_vec-arcs.result.items (filled_names _ _ _ c.fill_vertices.ensures)
-    ∙ ap (can_name_arcs c.lay_all.new.self) c.into_vec-arcs.ensures
-    ∙ (named_parts c.args.parts c.lay_all.new.self _ _ c.can_name_all.result (c.deref-3.ensures.value ∙ c.into_vec-vertices.ensures) (c.deref-4.ensures.value ∙ c.into_vec-arcs.ensures) c.can_name_all.ensures c.if-not-can_name_all.false).arcs
+pub returns-in_err-fill_arcs-clause-err : goal.returns-in_err-fill_arcs-clause-err
+returns-in_err-fill_arcs-clause-err c =
+    let p = err_from_is_err_and c.from_residual-in_err-fill_arcs.result c.from_residual-in_err-fill_arcs.ensures.1 in
+    let x = lays_moved _ _ _ _ c.lay_all.new.self (c.deref.ensures.value ∙ c.into_vec-vertices.ensures) (c.deref-2.ensures.value ∙ c.into_vec-arcs.ensures) c.in_ok-lay_all.ensures.ok in
+    rw (p.1, p.2) (arc_refused c.args.parts c.lay_all.new.self c.fill_vertices.new.self _ c.in_err-fill_arcs.field-0.0 x (filled_names _ _ _ c.fill_vertices.ensures) c.into_vec-arcs.ensures c.in_err-fill_arcs.ensures.err)
 
 pub fill_own-requires : goal.fill_own-requires
 fill_own-requires c =
-    each-same c.lay_all.new.self c.fill_arcs.new.self c.args.parts.fields (names_then _ _ _ (filled_names _ _ _ c.fill_vertices.ensures) (arcs_filled_names _ _ _ c.fill_arcs.ensures))
-    ∙ (named_parts c.args.parts c.lay_all.new.self _ _ c.can_name_all.result (c.deref-3.ensures.value ∙ c.into_vec-vertices.ensures) (c.deref-4.ensures.value ∙ c.into_vec-arcs.ensures) c.can_name_all.ensures c.if-not-can_name_all.false).own
+    each-same c.lay_all.new.self c.fill_arcs.new.self c.args.parts.fields (names_then _ _ _ (filled_names _ _ _ c.fill_vertices.ensures) (arcs_filled_names _ _ _ c.in_ok-fill_arcs.ensures.ok))
+    ∙ (named_parts c.args.parts c.lay_all.new.self _ c.can_name_all.result (c.deref-3.ensures.value ∙ c.into_vec-vertices.ensures) c.can_name_all.ensures c.if-not-can_name_all.false).own
 
 pub returns-in_err-set_id-clause-err : goal.returns-in_err-set_id-clause-err
 returns-in_err-set_id-clause-err c =
@@ -50,5 +50,5 @@ returns-clause-ok c =
     let x = lays_moved _ _ _ _ c.lay_all.new.self (c.deref.ensures.value ∙ c.into_vec-vertices.ensures) (c.deref-2.ensures.value ∙ c.into_vec-arcs.ensures) c.in_ok-lay_all.ensures.ok in
     builds c.args.parts c.lay_all.new.self c.fill_vertices.new.self c.fill_arcs.new.self c.fill_own.new.self c.set_types.new.self c.set_id.new.self x
     (subst (λ vs. FillsVertices vs c.lay_all.new.self c.fill_vertices.new.self) c.into_vec-vertices.ensures c.fill_vertices.ensures)
-    (subst (λ rs. FillsArcs rs c.fill_vertices.new.self c.fill_arcs.new.self) c.into_vec-arcs.ensures c.fill_arcs.ensures)
+    (subst (λ rs. FillsArcs rs c.fill_vertices.new.self c.fill_arcs.new.self) c.into_vec-arcs.ensures c.in_ok-fill_arcs.ensures.ok)
     c.fill_own.ensures c.set_types.ensures.graph c.in_ok-set_id.ensures.graph c.in_ok-set_id.ensures.sound
