@@ -1,7 +1,8 @@
 -- Lemmas on chains of records, and on what is laid of them.
-use Rattle.std.proofs.Common.{◌≡◌, ◌≢◌, ◌<◌, ◌≤◌, ◌+◌, ◌-◌, ℕ, zero, suc, List, [], ◌∷◌, ◌++◌, length, get_or, Option, Some, None, is_some, All, true, false, refl, sym, ap, subst, ◌∙◌, arith, cond, inl, inr, ◌==◌, option_map, slice_get}
+use Rattle.std.proofs.Common.{◌≡◌, ◌≢◌, ◌<◌, ◌≤◌, ◌+◌, ◌-◌, ℕ, zero, suc, List, [], ◌∷◌, ◌++◌, length, get_or, Option, Some, None, is_some, All, true, false, refl, sym, ap, subst, ◌∙◌, arith, cond, inl, inr, ◌==◌, option_map, slice_get, min, Result, Ok, Err, OnOk, IfErr}
 use Rattle.std.proofs.Common.{rules}
-use Rattle.std.proofs.lemmas.Bool.{cases_Bool, cases_order, cases_eq}
+use Rattle.std.proofs.lemmas.Bool.{cases_Bool, cases_order, cases_eq, cases_lt}
+use Rattle.std.proofs.Math.Nat.{min-eq_left, min-eq_right}
 use Rattle.std.proofs.lemmas.List.{get_or_at, length_push, get_or_default, length-map}
 use Rattle.std.proofs.lemmas.List.Sums.{sum_by-append}
 use Rattle.sgb_graph.specs.declared.field.ArcNo.{ArcNo}
@@ -16,12 +17,12 @@ use Rattle.sgb_graph.specs.Private.Link.{CanPutBack, number_before}
 use Rattle.sgb_graph.specs.Parts.{vertex_part, next_part}
 use Rattle.sgb_graph.specs.declared.refusal.Refusal.{Refusal}
 use Rattle.sgb_graph.specs.declared.refusal.Refusal.TheVariants.{BadOperand}
-use Rattle.sgb_graph.specs.Private.Lay.{RefusesToLay, links_of, link_at, last_number, Lays, Laying, LayingAt, laid_arc}
+use Rattle.sgb_graph.specs.Private.Lay.{RefusesToLay, links_of, kept_link, kept_links, link_at, last_number, Lays, Laying, LayingAt, laid_arc}
 use Rattle.sgb_graph.specs.Field.{arc_no}
 use Rattle.sgb_graph.specs.Private.Fill.{SameNames}
 use Rattle.sgb_graph.proofs.Chains.{chain_is, Leads-agree}
 use Rattle.sgb_graph.proofs.Counts.{occurs_yes, sum_some}
-use Rattle.sgb_graph.proofs.Graphs.{listed_live, one_owner}
+use Rattle.sgb_graph.proofs.Graphs.{listed_live, one_owner, arcs_live}
 use Rattle.sgb_graph.proofs.PutBack.{put_n, put_made, put_m, put_vertex_same, put_vertex_other}
 use Rattle.sgb_graph.proofs.ShowsPut.{get_within}
 use Rattle.std.proofs.lemmas.List.Edits.{insert_end}
@@ -84,6 +85,118 @@ over_links rs link ks = Leads-agree (next_part rs) (link_at (links_of rs)) link 
 
 pub over_parts : (rs : List ArcPart) (link : Option ArcNo) (ks : List ℕ) → Leads (link_at (links_of rs)) link ks None → Leads (next_part rs) link ks None
 over_parts rs link ks = Leads-agree (link_at (links_of rs)) (next_part rs) link ks None (λ j _. sym (link_of_part rs j))
+
+-- links that are kept lead along the same lists
+module _ (most : ℕ) (next after : ℕ → Option ArcNo) (same : (j : ℕ) → after j ≡ kept_link most (next j)) where
+  pub kept_is : (link : Option ArcNo) (k : ℕ) → link ≡ Some (arc_no k) → k < most → kept_link most link ≡ Some (arc_no k)
+  kept_is link k is low = ap (kept_link most) is ∙ ap (λ i. Some (arc_no i)) (min-eq_left (omega arith))
+
+  pub kept_from : (link : Option ArcNo) (k : ℕ) → kept_link most link ≡ Some (arc_no k) → k < most → link ≡ Some (arc_no k)
+  kept_from None k is low = absurd cc
+  kept_from (Some m) k is low =
+      let both : arc_no (min m.0 most) ≡ arc_no k = cc in
+      let at : min m.0 most ≡ k = ap (λ (x : ArcNo). x.0) both in
+      elim (cases_lt m.0 most) [
+        | inl under ↦
+            let plain : min m.0 most ≡ m.0 = min-eq_left (omega arith) in
+            let it : m.0 ≡ k = omega arith in
+            ap (λ i. Some (arc_no i)) it
+        | inr over ↦
+            let plain : min m.0 most ≡ most = min-eq_right (omega arith) in
+            absurd (omega arith)
+      ]
+
+  kept_none : (link : Option ArcNo) → kept_link most link ≡ None → link ≡ None
+  kept_none None is = refl
+  kept_none (Some m) is = absurd cc
+
+  pub Leads-kept : (link : Option ArcNo) (ks : List ℕ) → Leads next link ks None → All (λ k. k < most) ks → Leads after (kept_link most link) ks None
+  unfolding Leads
+  Leads-kept link [] l low = ap (kept_link most) l
+  Leads-kept link (k ∷ ks) l low = (
+    kept_is link k l.0 (low 0 0 (omega arith)),
+    subst (λ x. Leads after x ks None) (sym (same k)) (Leads-kept (next k) ks l.1 (λ i d h. low (suc i) d (omega arith))),
+  )
+
+  pub Leads-from_kept : (link : Option ArcNo) (ks : List ℕ) → Leads after (kept_link most link) ks None → All (λ k. k < most) ks → Leads next link ks None
+  unfolding Leads
+  Leads-from_kept link [] l low = kept_none link l
+  Leads-from_kept link (k ∷ ks) l low = (
+    kept_from link k l.0 (low 0 0 (omega arith)),
+    Leads-from_kept (next k) ks (subst (λ x. Leads after x ks None) (same k) l.1) (λ i d h. low (suc i) d (omega arith)),
+  )
+
+  -- so do they from a link that is not kept
+  first_kept : (link : Option ArcNo) (ks : List ℕ) → Leads next link ks None → All (λ k. k < most) ks → kept_link most link ≡ link
+  unfolding Leads
+  first_kept link [] l low = ap (kept_link most) l ∙ sym l
+  first_kept link (k ∷ ks) l low = kept_is link k l.0 (low 0 0 (omega arith)) ∙ sym l.0
+
+  first_from : (link : Option ArcNo) (ks : List ℕ) → Leads after link ks None → All (λ k. k < most) ks → kept_link most link ≡ link
+  unfolding Leads
+  first_from link [] l low = ap (kept_link most) l ∙ sym l
+  first_from link (k ∷ ks) l low = kept_is link k l.0 (low 0 0 (omega arith)) ∙ sym l.0
+
+  pub along_kept : (link : Option ArcNo) (ks : List ℕ) → Leads next link ks None → All (λ k. k < most) ks → Leads after link ks None
+  along_kept link ks l low = subst (λ x. Leads after x ks None) (first_kept link ks l low) (Leads-kept link ks l low)
+
+  pub along_all : (link : Option ArcNo) (ks : List ℕ) → Leads after link ks None → All (λ k. k < most) ks → Leads next link ks None
+  along_all link ks l low = Leads-from_kept link ks (subst (λ x. Leads after x ks None) (sym (first_from link ks l low)) l) low
+
+kept_at : (most : ℕ) (rs : List ArcPart) (k : ℕ) → link_at (kept_links most rs) k ≡ kept_link most (link_at (links_of rs) k)
+kept_at most [] k = refl
+kept_at most (r ∷ rs) zero = refl
+kept_at most (r ∷ rs) (suc k) = kept_at most rs k
+
+kept_count : (most : ℕ) (rs : List ArcPart) → length (kept_links most rs) ≡ length (links_of rs)
+kept_count most rs = length-map rs (λ (r : ArcPart). kept_link most r.next) ∙ sym (links_count rs)
+
+listed_low : (most : ℕ) (g : GraphOf) (w : ℕ) → IsGraph g → made_of g ≤ most → All (λ k. k < most) (arcs_of g w)
+listed_low most g w sound few = λ i d l. omega (arith, few, (arcs_live g w sound i d l).made)
+
+pub lays_kept : (most : ℕ) (vs : List VertexPart) (rs : List ArcPart) (g : GraphOf) → made_of g ≤ most → Lays vs (links_of rs) g → Lays vs (kept_links most rs) g
+lays_kept most vs rs g few x =
+    record {
+      n = x.n;
+      made = x.made ∙ sym (kept_count most rs);
+      lists = λ w low. along_kept most (link_at (links_of rs)) (link_at (kept_links most rs)) (kept_at most rs) (vertex_part vs w).first (arcs_of g w) (x.lists w low) (listed_low most g w x.graph few);
+      graph = x.graph;
+    }
+
+lays_from_kept : (most : ℕ) (vs : List VertexPart) (rs : List ArcPart) (g : GraphOf) → made_of g ≤ most → Lays vs (kept_links most rs) g → Lays vs (links_of rs) g
+lays_from_kept most vs rs g few x =
+    record {
+      n = x.n;
+      made = x.made ∙ kept_count most rs;
+      lists = λ w low. along_all most (link_at (links_of rs)) (link_at (kept_links most rs)) (kept_at most rs) (vertex_part vs w).first (arcs_of g w) (x.lists w low) (listed_low most g w x.graph few);
+      graph = x.graph;
+    }
+
+lays_as_kept : (vs : List VertexPart) (rs : List ArcPart) (g : GraphOf) → Lays vs (kept_links 1000000 rs) g → Lays vs (links_of rs) g
+lays_as_kept vs rs g x = lays_from_kept 1000000 vs rs g x.graph.few_arcs x
+
+pub laying_kept : (most : ℕ) (vs : List VertexPart) (rs : List ArcPart) (g : GraphOf) → Laying vs (links_of rs) 0 g → Laying vs (kept_links most rs) 0 g
+laying_kept most vs rs g x =
+    record {
+      n = x.n;
+      made = x.made ∙ sym (kept_count most rs);
+      lists = λ w low. absurd (omega arith);
+      empty = x.empty;
+      graph = x.graph;
+    }
+
+refuses_kept : (vs : List VertexPart) (rs : List ArcPart) (e : Refusal) → RefusesToLay vs (kept_links 1000000 rs) e → RefusesToLay vs (links_of rs) e
+refuses_kept vs rs e (inl room) = inl room
+refuses_kept vs rs e (inr bad) = inr (bad.0, λ h lays. bad.1 h (lays_kept 1000000 vs rs h lays.graph.few_arcs lays))
+
+-- what laying along the links that are kept answers
+pub laid_as_kept : {X : Type 0} (vs : List VertexPart) (rs : List ArcPart) (ls : List (Option ArcNo)) (g : GraphOf) (r : Result X Refusal) → ls ≡ kept_links 1000000 rs → OnOk r (Lays vs ls g) → OnOk r (Lays vs (links_of rs) g)
+laid_as_kept vs rs ls g (Ok x) is laid = lays_as_kept vs rs g (subst (λ l. Lays vs l g) is laid)
+laid_as_kept vs rs ls g (Err e) is laid = tt
+
+pub refused_as_kept : {X : Type 0} (vs : List VertexPart) (rs : List ArcPart) (ls : List (Option ArcNo)) (r : Result X Refusal) → ls ≡ kept_links 1000000 rs → IfErr r (RefusesToLay vs ls) → IfErr r (RefusesToLay vs (links_of rs))
+refused_as_kept vs rs ls (Ok x) is refused = tt
+refused_as_kept vs rs ls (Err e) is refused = refuses_kept vs rs e (subst (λ l. RefusesToLay vs l e) is refused)
 
 -- the laying of one vertex begins and ends
 pub laying_begins : (vs : List VertexPart) (ls : List (Option ArcNo)) (v : ℕ) (g : GraphOf) (link : Option ArcNo) → Laying vs ls v g → link ≡ (vertex_part vs v).first → LayingAt vs ls v None link g

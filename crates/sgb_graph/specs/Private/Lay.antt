@@ -1,5 +1,5 @@
 -- Laying chains of records into a graph.
-use Rattle.std.specs.Prelude.{◌≡◌, ◌<◌, ◌≤◌, ◌⊎◌, ℕ, pos, List, [], ◌∷◌, length, map, slice_index_or, None, Option}
+use Rattle.std.specs.Prelude.{◌≡◌, ◌<◌, ◌≤◌, ◌⊎◌, ℕ, pos, List, [], ◌∷◌, length, map, slice_index_or, min, None, Some, Option}
 use Rattle.sgb_graph.specs.declared.field.ArcNo.{ArcNo}
 use Rattle.sgb_graph.specs.declared.field.VertexNo.{VertexNo}
 use Rattle.sgb_graph.specs.declared.field.Tip.TheVariants as tips
@@ -23,6 +23,14 @@ links_of rs = map (λ r. r.next) rs
 
 abbrev pub link_at : List (Option ArcNo) → ℕ → Option ArcNo
 link_at ls k = slice_index_or ls k None
+
+-- the same, where a number above the most that there are is that one, which none has
+abbrev pub kept_link : ℕ → Option ArcNo → Option ArcNo
+kept_link most None = None
+kept_link most (Some k) = Some (record { 0 = min k.0 most })
+
+abbrev pub kept_links : ℕ → List ArcPart → List (Option ArcNo)
+kept_links most rs = map (λ r. kept_link most r.next) rs
 
 -- the graph's lists are the chains along these links; what its arcs hold is open
 pub record Lays (vs : List VertexPart) (ls : List (Option ArcNo)) (g : GraphOf) : Type 0 where

@@ -1,5 +1,5 @@
 //! Links, owners and tips in four bytes each.
-ghost use Rattle.std.specs.Prelude.{◌≡◌, ◌<◌, None, Some};
+ghost use Rattle.std.specs.Prelude.{◌≡◌, ◌<◌, ◌≤◌, None, Some};
 ghost use Rattle.sgb_graph.specs.declared.field.Tip.TheVariants.{To};
 ghost use Rattle.sgb_graph.specs.Graph.{IsTip};
 
@@ -40,7 +40,7 @@ impl Link {
 
     #[inline]
     pub fn to(number: ArcNo) -> Link
-        requires { number.0 < 1000000 }
+        requires { number.0 ≤ 1000000 }
         ensures { result ≡ Some number }
     {
         Link { code: number.0 + 1 }

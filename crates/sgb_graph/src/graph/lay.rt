@@ -5,10 +5,11 @@ ghost use Rattle.sgb_graph.specs.Graph.{IsGraph, n_of, made_of, arcs_of, has_arc
 ghost use Rattle.sgb_graph.specs.Edit.{with_cut_arc};
 ghost use Rattle.sgb_graph.specs.Private.Holes.{with_hole};
 ghost use Rattle.sgb_graph.specs.Private.Link.{CanPutBack};
-ghost use Rattle.sgb_graph.specs.Private.Lay.{Lays, Laying, RefusesToLay, links_of, last_number, laid_arc};
+ghost use Rattle.sgb_graph.specs.Private.Lay.{Lays, Laying, RefusesToLay, links_of, kept_link, kept_links, last_number, laid_arc};
 
-use super::Graph;
+use super::codes::Link;
 use super::link::lay_behind;
+use super::{Graph, MOST_ARCS};
 use crate::{ArcNo, ArcPart, Refusal, VertexNo, VertexPart};
 use std::alloc::{AllocError, Global};
 
@@ -29,11 +30,7 @@ impl Graph {
     }
 
     // Lays the chain of each vertex along these links.
-    fn lay_chains(
-        &mut self,
-        vertices: &[VertexPart],
-        links: &[Option<ArcNo>],
-    ) -> Result<(), Refusal>
+    fn lay_chains(&mut self, vertices: &[VertexPart], links: &[Link]) -> Result<(), Refusal>
         requires { Laying vertices.now links.now 0 self.old }
         ensures ok { OnOk result (Lays vertices.now links.now self.new) }
         ensures err { IfErr result (RefusesToLay vertices.now links.now) }
@@ -49,7 +46,7 @@ impl Graph {
         &mut self,
         vertex: VertexNo,
         vertices: &[VertexPart],
-        links: &[Option<ArcNo>],
+        links: &[Link],
     ) -> Result<(), Refusal>
         requires vertex { vertex.0 < length vertices.now }
         requires laying { Laying vertices.now links.now vertex.0 self.old }
@@ -60,7 +57,7 @@ impl Graph {
         let mut last = None;
         while let Some(number) = link {
             self.lay(vertex, last, number)?;
-            link = links[number.0 as usize];
+            link = links[number.0 as usize].get();
             last = Some(number);
         }
         Ok(())
@@ -112,12 +109,23 @@ impl Graph {
 }
 
 // The links of the records alone: a chain that is followed over these touches less memory.
-fn links_of(alloc: Global, arcs: &[ArcPart]) -> Result<Vec<Option<ArcNo>>, AllocError>
-    ensures { IfOk result (λ links. links.items ≡ links_of arcs.now) }
+fn links_of(alloc: Global, arcs: &[ArcPart]) -> Result<Vec<Link>, AllocError>
+    ensures { IfOk result (λ links. links.items ≡ kept_links 1000000 arcs.now) }
 {
     let mut links = Vec::with_capacity(alloc, arcs.len())?;
     for part in arcs {
-        links.push(part.next)?;
+        links.push(kept_link(part.next))?;
     }
     Ok(links)
+}
+
+// A link in four bytes. One beyond all records stays beyond them.
+#[inline]
+fn kept_link(next: Option<ArcNo>) -> Link
+    ensures { result ≡ kept_link 1000000 next }
+{
+    match next {
+        Some(number) => Link::to(ArcNo(number.0.min(MOST_ARCS))),
+        None => Link::none(),
+    }
 }

@@ -1,4 +1,4 @@
-use Rattle.std.proofs.Common.{refl, ap}
+use Rattle.std.proofs.Common.{ap, ◌<◌, ◌∙◌, arith, length, None}
 use Rattle.std.proofs.lemmas.List.{get_or_default}
 use Rattle.std.proofs.lemmas.Result.{err_from_is_err_and}
 use Rattle.sgb_graph.specs.declared.parts.VertexPart.{VertexPart}
@@ -22,5 +22,8 @@ loop-link-smaller c = holes_fewer c.loop-link.self c.lay.new.self c.in-Some.numb
 
 pub loop-link-preserved : goal.loop-link-preserved
 loop-link-preserved c =
-    laid_more c.args.vertices.now c.args.links.now c.args.vertex c.loop-link.last c.loop-link.link _ c.in-Some.number c.loop-link.self c.lay.new.self
-    c.loop-link.invariant c.in-Some.is c.in_ok-lay.ensures.can c.in_ok-lay.ensures.laid c.in_ok-lay.ensures.sound refl
+    let ls = c.args.links.now in
+    let low : c.in-Some.number.0 < length ls = omega (arith, c.in_ok-lay.ensures.can.made, c.loop-link.invariant.made) in
+    laid_more c.args.vertices.now ls c.args.vertex c.loop-link.last c.loop-link.link _ c.in-Some.number c.loop-link.self c.lay.new.self
+    c.loop-link.invariant c.in-Some.is c.in_ok-lay.ensures.can c.in_ok-lay.ensures.laid c.in_ok-lay.ensures.sound
+    (c.get-link.ensures ∙ (c.index-links-number.is ∙ get_or_default ls c.in-Some.number.0 _ None low))
