@@ -9,6 +9,7 @@ pub mod Pruning
 pub mod Reached
 pub mod Rising
 pub mod Rowed
+pub mod Runs
 pub mod Unions
 pub mod Upward
 pub mod Wanted

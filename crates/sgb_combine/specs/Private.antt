@@ -1,4 +1,5 @@
 pub mod Begin
+pub mod Missing
 pub mod Pairs
 pub mod Pruned
 pub mod Rows

@@ -1,0 +1,25 @@
+use Rattle.std.proofs.Common.{[], arith}
+use Rattle.std.proofs.lemmas.Result.{err_from_is_err_and}
+use Rattle.sgb_graph.proofs.Inserting.{from_some, from_refused, from_end, from_n}
+use Rattle.sgb_combine.proofs.Runs.{run_start}
+use Rattle.sgb_combine.proofs.negate.insert_each.Goals as goal
+
+pub loop-tip-init : goal.loop-tip-init
+loop-tip-init c = run_start c.args.builder.now c.args.vertex.0 [] c.args.low c.args.high
+
+pub insert-requires-clause-from : goal.insert-requires-clause-from
+insert-requires-clause-from c = let low = c.requires.from in omega (arith, from_n c.loop-tip.invariant)
+
+pub insert-requires-clause-to : goal.insert-requires-clause-to
+insert-requires-clause-to c = let high = c.requires.to in omega (arith, from_n c.loop-tip.invariant)
+
+pub returns-in_err-insert : goal.returns-in_err-insert
+returns-in_err-insert c =
+    let p = err_from_is_err_and c.from_residual.result c.from_residual.ensures.1 in
+    rw (p.1, p.2) (from_refused (omega arith) c.loop-tip.invariant c.in_err-insert.ensures.value)
+
+pub loop-tip-preserved : goal.loop-tip-preserved
+loop-tip-preserved c = from_some (omega arith) c.loop-tip.invariant c.in_ok-insert.ensures.value
+
+pub returns : goal.returns
+returns c = from_end (omega arith) c.loop-tip.invariant
