@@ -15,7 +15,7 @@ impl Graph {
     ///
     /// Refused `BadOperand` where no graph has these parts: where chains meet, return or leave the records; where a
     /// tip or a value names no vertex, no record or a hole; above 65,535 vertices, 1,000,000 records or 160 bytes of
-    /// id. Takes memory for the graph, for the links of the records and for one chain, and time of the parts.
+    /// id. Takes memory for the graph and for the links of the records, and time of the parts.
     pub fn build(alloc: Global, parts: Parts) -> Result<Graph, Refusal>
         ensures ok { IfOk result (λ g. Builds parts g) }
         ensures err { IfErr result (λ e. (e ≡ Refusal.NoRoom) ⊎

@@ -11,10 +11,12 @@ loop-part-init c = arcs_filling_begins c.args.arcs.items c.args.self.now c.requi
 
 pub returns-then-not-can_name_part-clause-err : goal.returns-then-not-can_name_part-clause-err
 returns-then-not-can_name_part-clause-err c =
-    let at : c.len.result ≡ length c.pop.new.self.items = c.len.ensures ∙ c.pop.new.self.ok.0 in
-    (refl, arc_unnamed c.args.arcs.items c.loop-part.arcs.items c.pop.new.self.items c.in-Some.part c.args.self.now c.loop-part.self c.loop-part.invariant c.in-Some.ensures.items
-    (ap (has_arc c.loop-part.self) (sym at) ∙ (sym c.has_arc.ensures.value ∙ c.if-has_arc.true))
-    (sym c.can_name_part.ensures ∙ c.if-not-can_name_part.true))
+    let at : c.len.result ≡ length c.pop.new.self.items = c.len.ensures ∙ c.pop.new.self.ok.0 in (
+      refl,
+      arc_unnamed c.args.arcs.items c.loop-part.arcs.items c.pop.new.self.items c.in-Some.part c.args.self.now c.loop-part.self c.loop-part.invariant c.in-Some.ensures.items
+          (ap (has_arc c.loop-part.self) (sym at) ∙ (sym c.has_arc.ensures.value ∙ c.if-has_arc.true))
+          (sym c.can_name_part.ensures ∙ c.if-not-can_name_part.true),
+    )
 
 pub loop-part-preserved-then-has_arc : goal.loop-part-preserved-then-has_arc
 loop-part-preserved-then-has_arc c =
