@@ -1,11 +1,12 @@
 use Rattle.std.proofs.Common.{◌≡◌, ◌++◌, ◌<◌, [], List, ℕ, length, get_or, subst, ap, sym, ◌∙◌, arith}
 use Rattle.std.proofs.lemmas.List.{get_or-map, length-map}
 use Rattle.std.proofs.lemmas.Result.{err_from_is_err_and}
+use Rattle.sgb_graph.specs.declared.builder.Builder.{Builder}
 use Rattle.sgb_graph.specs.Builder.{grown}
-use Rattle.sgb_graph.proofs.Inserting.{RefusesInsertions, from_some, from_refused, from_end, from_n}
+use Rattle.sgb_graph.proofs.Inserting.{RefusesInsertions, LeftFrom, from_start, from_some, from_refused, from_end, from_n}
 use Rattle.sgb_plan.specs.declared.key.Key.{Key}
 use Rattle.sgb_plan.specs.Key.{bytes_of}
-use Rattle.sgb_binary.specs.Rotation.{rotations_of}
+use Rattle.sgb_binary.specs.Rotation.{rotations_from, rotations_of, rotations}
 use Rattle.sgb_binary.proofs.Indexing.{names_of}
 use Rattle.sgb_binary.proofs.rotation.insert_rotations.Goals as goal
 
@@ -17,6 +18,15 @@ name_copied keys items v d same h none copied is =
     ∙ (copied
     ∙ (ap (λ xs. xs ++ bytes_of (get_or items v d)) none
     ∙ (ap (λ ks. bytes_of (get_or ks v d)) same ∙ sym (get_or-map bytes_of keys v d [] h))))
+
+rotations_start : (b : Builder) (names : List (List ℕ)) → LeftFrom b (rotations names) b (rotations_from names) 0 (length names)
+rotations_start b names = from_start b (rotations_from names) (length names)
+
+pub loop-v-init : goal.loop-v-init
+loop-v-init c =
+    let names : List (List ℕ) = names_of c.args.index.now.keys in
+    subst (λ b. LeftFrom c.args.builder.now (rotations names) b (rotations_from names) 0 (length names)) (sym c.in_ok-reserve.ensures.same)
+    (rotations_start c.args.builder.now names)
 
 pub insert_from-requires-clause-vertices : goal.insert_from-requires-clause-vertices
 insert_from-requires-clause-vertices c = from_n c.loop-v.invariant ∙ c.requires.vertices
