@@ -26,7 +26,7 @@ pub(crate) fn insert_rotations(
     let mut word = Vec::new(alloc);
     for (v, name) in index.as_slice().iter().enumerate() {
         word.clear();
-        word.extend_from_slice(name.0)?;
+        word.extend_from_slice(name.bytes())?;
         insert_from(builder, index, v as u32, &mut word)?;
     }
     Ok(())
@@ -36,7 +36,7 @@ pub(crate) fn insert_rotations(
 fn count_rotations(index: &IndexSet<Key<'_>>) -> usize {
     let mut count: usize = 0;
     for name in index.as_slice() {
-        count = count.saturating_add(count_turns(name.0));
+        count = count.saturating_add(count_turns(name.bytes()));
     }
     count
 }

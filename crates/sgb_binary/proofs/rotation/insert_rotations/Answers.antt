@@ -38,7 +38,8 @@ returns-in_err-insert_from c =
     let names : List (List ℕ) = names_of keys in
     let h : c.loop-v.v < length keys = omega (arith, ap (λ xs. length xs) c.as_slice-name-items.ensures.keys) in
     let same : c.deref_mut.result.now ≡ get_or names c.loop-v.v [] =
-    name_copied keys c.as_slice-name-items.result.now c.loop-v.v _ c.as_slice-name-items.ensures.keys h c.clear.ensures.items c.in_ok-extend_from_slice.ensures.items c.deref_mut.ensures.value in
+    name_copied keys c.as_slice-name-items.result.now c.loop-v.v _ c.as_slice-name-items.ensures.keys h c.clear.ensures.items
+    (c.in_ok-extend_from_slice.ensures.items ∙ ap (λ xs. c.clear.new.self.items ++ xs) (c.bytes.ensures ∙ c.name-item.is)) c.deref_mut.ensures.value in
     let below : c.loop-v.v < length names = omega (arith, h, length-map keys bytes_of) in
     rw (p.1, p.2)
     (from_refused below c.loop-v.invariant
@@ -50,7 +51,8 @@ loop-v-preserved c =
     let names : List (List ℕ) = names_of keys in
     let h : c.loop-v.v < length keys = omega (arith, ap (λ xs. length xs) c.as_slice-name-items.ensures.keys) in
     let same : c.deref_mut.result.now ≡ get_or names c.loop-v.v [] =
-    name_copied keys c.as_slice-name-items.result.now c.loop-v.v _ c.as_slice-name-items.ensures.keys h c.clear.ensures.items c.in_ok-extend_from_slice.ensures.items c.deref_mut.ensures.value in
+    name_copied keys c.as_slice-name-items.result.now c.loop-v.v _ c.as_slice-name-items.ensures.keys h c.clear.ensures.items
+    (c.in_ok-extend_from_slice.ensures.items ∙ ap (λ xs. c.clear.new.self.items ++ xs) (c.bytes.ensures ∙ c.name-item.is)) c.deref_mut.ensures.value in
     let below : c.loop-v.v < length names = omega (arith, h, length-map keys bytes_of) in
     from_some below c.loop-v.invariant (c.in_ok-insert_from.ensures ∙ ap (λ w. grown c.loop-v.builder (rotations_of names c.loop-v.v w)) same)
 
