@@ -81,7 +81,7 @@ fn name_vertices(builder: &mut Builder, alloc: Global, trees: &[Key<'_>]) -> Res
 {
     builder.reserve_vertices(trees.len())?;
     for tree in trees {
-        let label = label_of(alloc, tree.0)?;
+        let label = label_of(alloc, tree.bytes())?;
         let fields = [
             Util::Zero,
             Util::Zero,

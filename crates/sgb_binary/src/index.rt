@@ -28,7 +28,7 @@ pub(crate) fn index_names<'a>(
     let mut rest = names.letters.as_slice();
     for _v in 0..names.count {
         let (name, others) = rest.split_at(width);
-        index.insert(Key(name))?;
+        index.insert(Key::new(name))?;
         rest = others;
     }
     Ok(index)
@@ -39,5 +39,5 @@ pub(crate) fn number_of(index: &IndexSet<Key<'_>>, name: &[u8]) -> Option<usize>
     ensures value { option_to_list result ≡ number_in (map bytes_of index.now.keys) name.now }
     ensures within { IfSome result (λ number. number < length index.now.keys) }
 {
-    index.get_index_of(&Key(name))
+    index.get_index_of(&Key::lent(name))
 }

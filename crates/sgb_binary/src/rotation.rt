@@ -22,13 +22,30 @@ pub(crate) fn insert_rotations(
     requires few { length index.now.keys ≤ 65535 }
     ensures { Inserts builder.old builder.new (rotations (map bytes_of index.now.keys)) result }
 {
+    builder.reserve(count_rotations(index))?;
     let mut word = Vec::new(alloc);
     for (v, name) in index.as_slice().iter().enumerate() {
         word.clear();
-        word.extend_from_slice(name.0)?;
+        word.extend_from_slice(name.bytes())?;
         insert_from(builder, index, v as u32, &mut word)?;
     }
     Ok(())
+}
+
+// How many insertions there are at most, so that room for them is taken once.
+fn count_rotations(index: &IndexSet<Key<'_>>) -> usize {
+    let mut count: usize = 0;
+    for name in index.as_slice() {
+        count = count.saturating_add(count_turns(name.bytes()));
+    }
+    count
+}
+
+// At how many places two dots stand.
+fn count_turns(word: &[u8]) -> usize {
+    word.windows(2)
+        .filter(|pair| pair[0] == b'.' && pair[1] == b'.')
+        .count()
 }
 
 // Inserts from the vertex with this name to each that it turns into.

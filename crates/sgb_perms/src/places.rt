@@ -18,7 +18,7 @@ pub(crate) fn index_rows<'a>(alloc: Global, rows: &'a Rows) -> Result<IndexSet<K
 {
     let mut places = IndexSet::with_capacity(alloc, rows.len())?;
     for v in 0..rows.len() {
-        places.insert(Key(rows.row(v)))?;
+        places.insert(Key::new(rows.row(v)))?;
     }
     Ok(places)
 }
@@ -27,5 +27,5 @@ pub(crate) fn index_rows<'a>(alloc: Global, rows: &'a Rows) -> Result<IndexSet<K
 pub(crate) fn place_of(places: &IndexSet<Key<'_>>, row: &[u8]) -> usize
     ensures { result ≡ place_of (shown_by places.now.keys) row.now }
 {
-    places.get_index_of(&Key(row)).unwrap_or(places.len())
+    places.get_index_of(&Key::lent(row)).unwrap_or(places.len())
 }

@@ -3,4 +3,4 @@ use Rattle.std.specs.Prelude.{ℕ, List}
 use Rattle.sgb_plan.specs.declared.key.Key.{Key}
 
 abbrev pub bytes_of : Key → List ℕ
-bytes_of key = key.0.now
+bytes_of key = key

@@ -28,7 +28,7 @@ label_of-requires c =
     let trees : List Key = c.args.trees.now in
     let i : ℕ = c.loop-tree.tree-index in
     let h : i < length trees = c.loop-tree-test.true in
-    subst IsText (sym (name_at trees i _ [] h)) (c.requires i [] (below trees i h))
+    subst IsText (sym (c.bytes.ensures ∙ (c.tree-item.is ∙ name_at trees i _ [] h))) (c.requires i [] (below trees i h))
 
 pub returns-in_err-push_vertex : goal.returns-in_err-push_vertex
 returns-in_err-push_vertex c =
@@ -37,7 +37,7 @@ returns-in_err-push_vertex c =
     let i : ℕ = c.loop-tree.tree-index in
     let h : i < length trees = c.loop-tree-test.true in
     let x : List ℕ = c.in_ok-label.label in
-    let is : x ≡ get_or (names_of trees) i x = c.in_ok-label.ensures.value ∙ name_at trees i _ x h in
+    let is : x ≡ get_or (names_of trees) i x = c.in_ok-label.ensures.value ∙ (c.bytes.ensures ∙ (c.tree-item.is ∙ name_at trees i _ x h)) in
     rw (p.1, p.2)
     (names_of_refused x (below trees i h) is c.loop-tree.invariant (push_refused c.loop-tree.builder x six_zeros c.in_err-push_vertex.ensures.err))
 
@@ -47,7 +47,7 @@ loop-tree-preserved c =
     let i : ℕ = c.loop-tree.tree-index in
     let h : i < length trees = c.loop-tree-test.true in
     let x : List ℕ = c.in_ok-label.label in
-    let is : x ≡ get_or (names_of trees) i x = c.in_ok-label.ensures.value ∙ name_at trees i _ x h in
+    let is : x ≡ get_or (names_of trees) i x = c.in_ok-label.ensures.value ∙ (c.bytes.ensures ∙ (c.tree-item.is ∙ name_at trees i _ x h)) in
     names_of_some x (below trees i h) is c.loop-tree.invariant
     (c.in_ok-push_vertex.ensures.ok ∙ pushed c.loop-tree.builder x six_zeros)
 

@@ -18,11 +18,11 @@ loop-v-preserved c =
     let v : ℕ = c.loop-v._v in
     let rest : List ℕ = c.loop-v.rest.now in
     let keys : List Key = c.loop-v.index.keys in
-    let name : Key = record { 0 = c.split_at.result.0 } in
+    let name : Key = c.new.result in
     let left : List (List ℕ) = pieces width (count - (v + 1)) (drop width rest) in
     let taken = piece_taken width count v rest c.loop-v-test.true in
     let start : names_of keys ++ (bytes_of name ∷ left) ≡ pieces width count c.args.names.now.letters.items =
-    ap (λ ps. names_of keys ++ ps) (ap (λ x. x ∷ left) c.split_at.ensures.front ∙ sym taken) ∙ c.loop-v.invariant.names in
+    ap (λ ps. names_of keys ++ ps) (ap (λ x. x ∷ left) (c.new.ensures ∙ c.split_at.ensures.front) ∙ sym taken) ∙ c.loop-v.invariant.names in
     let added = name_added keys name left (subst Distinct (sym start) c.requires.apart) in
     record {
       names =

@@ -1,5 +1,6 @@
 use Rattle.std.proofs.Common.{◌==◌, ap, sym, ◌∙◌}
 use Rattle.std.specs.Cmp.Lexicographic.{pointwise}
+use Rattle.std.specs.List.{position}
 use Rattle.std.specs.Option.{option_to_list}
 use Rattle.sgb_plan.specs.Key.{bytes_of}
 use Rattle.sgb_binary.proofs.Turning.{position-map}
@@ -7,4 +8,7 @@ use Rattle.sgb_binary.proofs.index.number_of.Goals as goal
 
 pub returns-clause-value : goal.returns-clause-value
 returns-clause-value c =
-    ap option_to_list (c.get_index_of.ensures.index ∙ sym (position-map (pointwise ◌==◌ c.args.name.now) bytes_of c.args.index.now.keys))
+    ap option_to_list
+    (c.get_index_of.ensures.index
+    ∙ (ap (λ name. position (pointwise ◌==◌ name) c.args.index.now.keys) c.lent.ensures
+    ∙ sym (position-map (pointwise ◌==◌ c.args.name.now) bytes_of c.args.index.now.keys)))

@@ -5,4 +5,4 @@ use Rattle.sgb_binary.proofs.Indexing.{names_of}
 use Rattle.sgb_binary.proofs.rotation.insert_rotations.Given as goal
 
 abbrev pub invariant-loop-v : goal.invariant-loop-v
-invariant-loop-v l = LeftFrom l.initial.builder (rotations (names_of l.index.keys)) l.builder (rotations_from (names_of l.index.keys)) l.v (length (names_of l.index.keys))
+invariant-loop-v l = LeftFrom l.fn.builder (rotations (names_of l.index.keys)) l.builder (rotations_from (names_of l.index.keys)) l.v (length (names_of l.index.keys))
