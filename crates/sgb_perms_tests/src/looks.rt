@@ -33,6 +33,16 @@ pub fn counts(graph: &Graph) -> (u32, u32, u32) {
     (graph.n(), graph.m(), graph.made())
 }
 
+/// How many vertices, live arcs and arc numbers the graph of these numbers has.
+pub fn size(
+    alloc: Global,
+    numbers: [i64; 5],
+    max_inv: i64,
+    directed: bool,
+) -> Result<(u32, u32, u32), Refusal> {
+    Ok(counts(&made(alloc, numbers, max_inv, directed)?))
+}
+
 /// Whether the id has these bytes.
 pub fn has_id(graph: &Graph, id: &[u8]) -> bool {
     graph.id() == id
