@@ -53,8 +53,29 @@ pub fn has_name(graph: &Graph, vertex: u32, name: &[u8]) -> bool {
     vertex < graph.n() && graph.label(VertexNo(vertex)) == name
 }
 
-/// Whether the arcs of a vertex lead to these, in this order, and each has the length 1.
-pub fn leads_to(graph: &Graph, vertex: u32, tips: &[u32]) -> bool {
+/// Whether these vertices have these names.
+pub fn have_names(graph: &Graph, names: &[(u32, &str)]) -> bool {
+    for (vertex, name) in names {
+        if !has_name(graph, *vertex, name.as_bytes()) {
+            return false;
+        }
+    }
+    true
+}
+
+/// Whether these are the tips of each vertex in turn, as `leads_to` tells of one.
+pub fn lead_to(graph: &Graph, tips: &[&[u32]]) -> bool {
+    for vertex in 0..graph.n() {
+        match tips.get(vertex as usize) {
+            Some(tips) if leads_to(graph, vertex, tips) => {}
+            _ => return false,
+        }
+    }
+    tips.len() == graph.n() as usize
+}
+
+// Whether the arcs of a vertex lead to these, in this order, and each has the length 1.
+fn leads_to(graph: &Graph, vertex: u32, tips: &[u32]) -> bool {
     if vertex >= graph.n() {
         return false;
     }
