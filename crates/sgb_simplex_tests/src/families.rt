@@ -129,7 +129,7 @@ fn ids(rt: HostRuntime) -> Result<(), Fail> {
 }
 
 #[test]
-fn a_pair_that_meets_itself(rt: HostRuntime) -> Result<(), Fail> {
+fn one_subset(rt: HostRuntime) -> Result<(), Fail> {
     let graph = made(rt.alloc(), 3, [2, 1, 0, 5, 5], 10, true)?;
     assert!(rt; has_id(&graph, b"subsets(3,2,1,0,0,0,0xa,1)"));
     assert!(rt; has_label(&graph, 0, b"2.1"));
