@@ -20,6 +20,11 @@ pub fn refusal(alloc: Global, n: i64, max_height: i64) -> Option<Refusal> {
     trees(alloc, n, max_height, false).err()
 }
 
+/// How many vertices and arcs such a graph has.
+pub fn size(alloc: Global, n: i64, max_height: i64, directed: bool) -> Result<(u32, u32), Refusal> {
+    Ok(counts(&trees(alloc, n, max_height, directed)?))
+}
+
 /// How many vertices and arcs a graph has.
 pub fn counts(graph: &Graph) -> (u32, u32) {
     (graph.n(), graph.m())

@@ -1,6 +1,6 @@
 // Boards of the rows that describe the language, and published facts: a rook's and a bishop's rides on 3 by 4, the
 // knight's 168 moves on a chessboard. Expected values come from another implementation.
-use crate::looks::{counts, has_field, has_label, is_named, lists, sized};
+use crate::looks::{are_counted, counts, has_field, has_label, is_named, lists, sized};
 use sgb_graph::{Refusal, VertexField};
 use sgb_make::{BoardSpec, board};
 use std::test::Fail;
@@ -57,7 +57,7 @@ fn fields(rt: HostRuntime) -> Result<(), Fail> {
     Ok(())
 }
 
-// A knight's vectors on a board whose two coordinates both wrap, in their order, and a rider that comes back.
+// A knight's vectors on a board whose two coordinates both wrap, in their order.
 #[test]
 fn with_ends_joined(rt: HostRuntime) -> Result<(), Fail> {
     let spec = BoardSpec {
@@ -68,6 +68,11 @@ fn with_ends_joined(rt: HostRuntime) -> Result<(), Fail> {
     assert!(rt; is_named(&graph, b"board(3,2,0,0,5,3,1)", b"ZZZIIIZZZZZZZZ"));
     assert!(rt; lists(&graph, 0, &[(5, 1), (5, 1), (2, 1), (2, 1)]));
     assert!(rt; lists(&graph, 3, &[(0, 1), (0, 1), (5, 1), (5, 1)]));
+    Ok(())
+}
+
+#[test]
+fn a_rider_that_comes_back(rt: HostRuntime) -> Result<(), Fail> {
     let spec = BoardSpec {
         directed: true,
         ..sized([2, 2, 0, 0], -5, 1)
@@ -84,7 +89,13 @@ fn with_ends_joined(rt: HostRuntime) -> Result<(), Fail> {
 fn defaults(rt: HostRuntime) -> Result<(), Fail> {
     let graph = board(rt.alloc(), &sized([0, 7, -3, 5], 0, 0))?;
     assert!(rt; is_named(&graph, b"board(8,8,0,0,1,0,0)", b"ZZZIIIZZZZZZZZ"));
-    assert_eq!(rt; (graph.n(), graph.m()), (64, 224));
+    assert!(rt; are_counted(&graph, 64, 224));
+    Ok(())
+}
+
+// The numbers after a negative one stand for nothing.
+#[test]
+fn numbers_that_are_passed_over(rt: HostRuntime) -> Result<(), Fail> {
     let graph = board(rt.alloc(), &sized([5, -3, 7, 7], -2, 3))?;
     assert!(rt; is_named(&graph, b"board(5,-3,0,0,-2,3,0)", b"ZZZIIIZZZZZZZZ"));
     Ok(())

@@ -14,27 +14,29 @@ fn board_again(alloc: Global, spec: &BoardSpec) -> Result<Graph, Refusal> {
     }
 }
 
+// Whether such a board has so many vertices and arcs.
+fn is_counted(alloc: Global, spec: &BoardSpec, n: u32, m: u32) -> Result<bool, Refusal> {
+    Ok(are_counted(&board_again(alloc, spec)?, n, m))
+}
+
 #[test]
 fn growths_of_rides_are_granted_when_asked_again(rt: HostRuntime) -> Result<(), Fail> {
-    let rook = board_again(rt.alloc(), &sized([3, 4, 0, 0], -1, 0))?;
-    assert!(rt; are_counted(&rook, 12, 60));
-    assert!(rt; lists(&rook, 6, &[(10, 1), (2, 1), (7, 1), (5, 1), (4, 2)]));
     let spec = BoardSpec {
         directed: true,
         ..sized([2, 2, 0, 0], -5, 1)
     };
-    let rider = board_again(rt.alloc(), &spec)?;
-    assert!(rt; are_counted(&rider, 4, 4));
+    assert!(rt; is_counted(rt.alloc(), &spec, 4, 4)?);
+    let rook = board_again(rt.alloc(), &sized([3, 4, 0, 0], -1, 0))?;
+    assert!(rt; are_counted(&rook, 12, 60));
+    assert!(rt; lists(&rook, 6, &[(10, 1), (2, 1), (7, 1), (5, 1), (4, 2)]));
     Ok(())
 }
 
 #[test]
 fn growths_of_moves_are_granted_when_asked_again(rt: HostRuntime) -> Result<(), Fail> {
-    let knight = board_again(rt.alloc(), &sized([3, 3, 0, 0], 5, 0))?;
-    assert!(rt; are_counted(&knight, 9, 16));
-    let cube = board_again(rt.alloc(), &sized([2, -3, 0, 0], 1, 0))?;
-    assert!(rt; are_counted(&cube, 8, 24));
-    let apart = board_again(rt.alloc(), &sized([3, 3, 0, 0], 3, 0))?;
-    assert!(rt; are_counted(&apart, 9, 0));
+    let alloc = rt.alloc();
+    assert!(rt; is_counted(alloc, &sized([3, 3, 0, 0], 5, 0), 9, 16)?);
+    assert!(rt; is_counted(alloc, &sized([2, -3, 0, 0], 1, 0), 8, 24)?);
+    assert!(rt; is_counted(alloc, &sized([3, 3, 0, 0], 3, 0), 9, 0)?);
     Ok(())
 }

@@ -1,6 +1,6 @@
 //! What is refused, and what is not quite.
 
-use crate::looks::{counts, made, refusal};
+use crate::looks::{refusal, size};
 use sgb_graph::Refusal;
 use std::test::Fail;
 
@@ -32,10 +32,8 @@ fn too_many_elements(rt: HostRuntime) {
 
 #[test]
 fn most_elements(rt: HostRuntime) -> Result<(), Fail> {
-    let graph = made(rt.alloc(), [255, 0, 0, 0, 0], 0, false)?;
-    assert!(rt; counts(&graph) == (1, 0, 0));
-    let graph = made(rt.alloc(), [127, 128, 0, 0, 0], 1, true)?;
-    assert!(rt; counts(&graph) == (2, 1, 1));
+    assert!(rt; size(rt.alloc(), [255, 0, 0, 0, 0], 0, false)? == (1, 0, 0));
+    assert!(rt; size(rt.alloc(), [127, 128, 0, 0, 0], 1, true)? == (2, 1, 1));
     Ok(())
 }
 

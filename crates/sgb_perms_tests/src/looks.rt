@@ -33,6 +33,16 @@ pub fn counts(graph: &Graph) -> (u32, u32, u32) {
     (graph.n(), graph.m(), graph.made())
 }
 
+/// How many vertices, live arcs and arc numbers the graph of these numbers has.
+pub fn size(
+    alloc: Global,
+    numbers: [i64; 5],
+    max_inv: i64,
+    directed: bool,
+) -> Result<(u32, u32, u32), Refusal> {
+    Ok(counts(&made(alloc, numbers, max_inv, directed)?))
+}
+
 /// Whether the id has these bytes.
 pub fn has_id(graph: &Graph, id: &[u8]) -> bool {
     graph.id() == id
@@ -43,8 +53,29 @@ pub fn has_name(graph: &Graph, vertex: u32, name: &[u8]) -> bool {
     vertex < graph.n() && graph.label(VertexNo(vertex)) == name
 }
 
-/// Whether the arcs of a vertex lead to these, in this order, and each has the length 1.
-pub fn leads_to(graph: &Graph, vertex: u32, tips: &[u32]) -> bool {
+/// Whether these vertices have these names.
+pub fn have_names(graph: &Graph, names: &[(u32, &str)]) -> bool {
+    for (vertex, name) in names {
+        if !has_name(graph, *vertex, name.as_bytes()) {
+            return false;
+        }
+    }
+    true
+}
+
+/// Whether these are the tips of each vertex in turn, as `leads_to` tells of one.
+pub fn lead_to(graph: &Graph, tips: &[&[u32]]) -> bool {
+    for vertex in 0..graph.n() {
+        match tips.get(vertex as usize) {
+            Some(tips) if leads_to(graph, vertex, tips) => {}
+            _ => return false,
+        }
+    }
+    tips.len() == graph.n() as usize
+}
+
+// Whether the arcs of a vertex lead to these, in this order, and each has the length 1.
+fn leads_to(graph: &Graph, vertex: u32, tips: &[u32]) -> bool {
     if vertex >= graph.n() {
         return false;
     }

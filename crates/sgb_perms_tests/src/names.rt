@@ -1,31 +1,24 @@
 //! Small graphs, name by name: expected values come from another implementation.
 
-use crate::looks::{counts, has_id, has_name, leads_to, made};
+use crate::looks::{counts, has_id, has_name, have_names, lead_to, made};
 use std::test::Fail;
 
 #[test]
 fn three_kinds(rt: HostRuntime) -> Result<(), Fail> {
     let graph = made(rt.alloc(), [1, -2, 0, 0, 0], 0, false)?;
+    let names = [
+        (0, "012"),
+        (1, "021"),
+        (2, "201"),
+        (3, "102"),
+        (4, "120"),
+        (5, "210"),
+    ];
+    let tips: [&[u32]; 6] = [&[3, 1], &[2, 0], &[5, 1], &[4, 0], &[5, 3], &[2, 4]];
     assert!(rt; counts(&graph) == (6, 12, 12));
     assert!(rt; has_id(&graph, b"perms(1,-2,0,0,0,3,0)"));
-    assert!(rt; has_name(&graph, 0, b"012"));
-    assert!(rt; has_name(&graph, 1, b"021"));
-    assert!(rt; has_name(&graph, 2, b"201"));
-    assert!(rt; has_name(&graph, 3, b"102"));
-    assert!(rt; has_name(&graph, 4, b"120"));
-    assert!(rt; has_name(&graph, 5, b"210"));
-    Ok(())
-}
-
-#[test]
-fn exchanges_of_three_kinds(rt: HostRuntime) -> Result<(), Fail> {
-    let graph = made(rt.alloc(), [1, -2, 0, 0, 0], 0, false)?;
-    assert!(rt; leads_to(&graph, 0, &[3, 1]));
-    assert!(rt; leads_to(&graph, 1, &[2, 0]));
-    assert!(rt; leads_to(&graph, 2, &[5, 1]));
-    assert!(rt; leads_to(&graph, 3, &[4, 0]));
-    assert!(rt; leads_to(&graph, 4, &[5, 3]));
-    assert!(rt; leads_to(&graph, 5, &[2, 4]));
+    assert!(rt; have_names(&graph, &names));
+    assert!(rt; lead_to(&graph, &tips));
     Ok(())
 }
 
@@ -33,15 +26,11 @@ fn exchanges_of_three_kinds(rt: HostRuntime) -> Result<(), Fail> {
 #[test]
 fn few_inversions(rt: HostRuntime) -> Result<(), Fail> {
     let graph = made(rt.alloc(), [1, -2, 0, 0, 0], 2, true)?;
+    let tips: [&[u32]; 5] = [&[3, 1], &[2], &[], &[4], &[]];
     assert!(rt; counts(&graph) == (5, 4, 4));
     assert!(rt; has_id(&graph, b"perms(1,-2,0,0,0,2,1)"));
-    assert!(rt; has_name(&graph, 2, b"201"));
-    assert!(rt; has_name(&graph, 4, b"120"));
-    assert!(rt; leads_to(&graph, 0, &[3, 1]));
-    assert!(rt; leads_to(&graph, 1, &[2]));
-    assert!(rt; leads_to(&graph, 2, &[]));
-    assert!(rt; leads_to(&graph, 3, &[4]));
-    assert!(rt; leads_to(&graph, 4, &[]));
+    assert!(rt; have_names(&graph, &[(2, "201"), (4, "120")]));
+    assert!(rt; lead_to(&graph, &tips));
     Ok(())
 }
 
@@ -49,26 +38,25 @@ fn few_inversions(rt: HostRuntime) -> Result<(), Fail> {
 #[test]
 fn directed(rt: HostRuntime) -> Result<(), Fail> {
     let graph = made(rt.alloc(), [1, -2, 0, 0, 0], 0, true)?;
+    let tips: [&[u32]; 6] = [&[3, 1], &[2], &[5], &[4], &[5], &[]];
     assert!(rt; counts(&graph) == (6, 6, 6));
-    assert!(rt; leads_to(&graph, 0, &[3, 1]));
-    assert!(rt; leads_to(&graph, 1, &[2]));
-    assert!(rt; leads_to(&graph, 2, &[5]));
-    assert!(rt; leads_to(&graph, 3, &[4]));
-    assert!(rt; leads_to(&graph, 4, &[5]));
-    assert!(rt; leads_to(&graph, 5, &[]));
+    assert!(rt; lead_to(&graph, &tips));
     Ok(())
 }
 
 #[test]
 fn several_of_a_kind(rt: HostRuntime) -> Result<(), Fail> {
     let graph = made(rt.alloc(), [3, 2, 1, 0, 7], 4, true)?;
+    let names = [
+        (0, "000112"),
+        (4, "020011"),
+        (7, "001201"),
+        (11, "001210"),
+        (20, "100102"),
+    ];
     assert!(rt; counts(&graph) == (21, 29, 29));
     assert!(rt; has_id(&graph, b"perms(3,2,1,0,0,4,1)"));
-    assert!(rt; has_name(&graph, 0, b"000112"));
-    assert!(rt; has_name(&graph, 4, b"020011"));
-    assert!(rt; has_name(&graph, 7, b"001201"));
-    assert!(rt; has_name(&graph, 11, b"001210"));
-    assert!(rt; has_name(&graph, 20, b"100102"));
+    assert!(rt; have_names(&graph, &names));
     Ok(())
 }
 

@@ -16,6 +16,16 @@ fn is_refused(alloc: Global, line: &[u8]) -> bool {
     matches!(read(alloc, line), Err(ShellRefusal::ScriptSyntax))
 }
 
+// The place of the first of these lines that is not refused.
+fn first_read(alloc: Global, lines: &[&str]) -> Option<usize> {
+    for (place, line) in lines.iter().enumerate() {
+        if !is_refused(alloc, line.as_bytes()) {
+            return Some(place);
+        }
+    }
+    None
+}
+
 fn is_nothing(alloc: Global, line: &[u8]) -> bool {
     matches!(read(alloc, line), Ok(Line::Nothing))
 }
@@ -392,6 +402,27 @@ fn padded(alloc: Global, bytes: &[u8], count: usize) -> Result<Vec<u8>, AllocErr
     Ok(line)
 }
 
+// The length of an id of so many bytes, as a line gives it.
+fn id_len_of(alloc: Global, count: usize) -> Result<Option<usize>, AllocError> {
+    Ok(id_len(alloc, &id_line(alloc, count)?))
+}
+
+fn is_id_refused(alloc: Global, count: usize) -> Result<bool, AllocError> {
+    Ok(is_refused(alloc, &id_line(alloc, count)?))
+}
+
+fn is_padded_next(alloc: Global, count: usize) -> Result<bool, AllocError> {
+    Ok(is_next(alloc, &padded(alloc, b"next", count)?))
+}
+
+fn is_padded_nothing(alloc: Global, bytes: &[u8], count: usize) -> Result<bool, AllocError> {
+    Ok(is_nothing(alloc, &padded(alloc, bytes, count)?))
+}
+
+fn is_padded_refused(alloc: Global, bytes: &[u8], count: usize) -> Result<bool, AllocError> {
+    Ok(is_refused(alloc, &padded(alloc, bytes, count)?))
+}
+
 // Whether the refusal prints this text.
 fn prints(alloc: Global, refusal: ShellRefusal, text: &str) -> Result<bool, Fail> {
     let printed = format!(in alloc; "{refusal}")?;
@@ -437,14 +468,22 @@ fn refusals_of_the_session_print_their_text(rt: HostRuntime) -> Result<(), Fail>
 
 #[test]
 fn names(rt: HostRuntime) {
-    assert!(rt; is_name(b"a"));
-    assert!(rt; is_name(b"Z9_"));
+    for (bytes, is_one) in [
+        ("a", true),
+        ("Z9_", true),
+        ("", false),
+        ("9x", false),
+        ("_a", false),
+        ("a-b", false),
+    ] {
+        assert!(rt; is_name(bytes.as_bytes()) == is_one, "{bytes}");
+    }
+}
+
+#[test]
+fn long_names(rt: HostRuntime) {
     assert!(rt; is_name(&[b'n'; 32]));
     assert!(rt; !is_name(&[b'n'; 33]));
-    assert!(rt; !is_name(b""));
-    assert!(rt; !is_name(b"9x"));
-    assert!(rt; !is_name(b"_a"));
-    assert!(rt; !is_name(b"a-b"));
 }
 
 #[test]
@@ -467,36 +506,45 @@ fn numbers(rt: HostRuntime) {
 #[test]
 fn what_is_no_number(rt: HostRuntime) {
     let alloc = rt.alloc();
-    assert!(rt; is_refused(alloc, b"seed +1"));
-    assert!(rt; is_refused(alloc, b"seed -"));
-    assert!(rt; is_refused(alloc, b"seed 1x"));
-    assert!(rt; is_refused(alloc, b"seed \"1\""));
-    assert!(rt; is_refused(alloc, b"seed 9223372036854775808"));
-    assert!(rt; is_refused(alloc, b"seed -9223372036854775809"));
+    let refused = [
+        "seed +1",
+        "seed -",
+        "seed 1x",
+        "seed \"1\"",
+        "seed 9223372036854775808",
+        "seed -9223372036854775809",
+    ];
+    assert_eq!(rt; first_read(alloc, &refused), None);
 }
 
 #[test]
 fn wrong_counts_and_words(rt: HostRuntime) {
     let alloc = rt.alloc();
-    assert!(rt; is_refused(alloc, b"seed"));
-    assert!(rt; is_refused(alloc, b"seed 1 2"));
-    assert!(rt; is_refused(alloc, b"next 1"));
-    assert!(rt; is_refused(alloc, b"graph g"));
-    assert!(rt; is_refused(alloc, b"graph 9x 1"));
-    assert!(rt; is_refused(alloc, b"Next"));
-    assert!(rt; is_refused(alloc, b"nexts"));
+    let refused = [
+        "seed",
+        "seed 1 2",
+        "next 1",
+        "graph g",
+        "graph 9x 1",
+        "Next",
+        "nexts",
+    ];
+    assert_eq!(rt; first_read(alloc, &refused), None);
 }
 
 #[test]
 fn quotes(rt: HostRuntime) {
     let alloc = rt.alloc();
-    assert!(rt; is_refused(alloc, b"\"next\""));
-    assert!(rt; is_refused(alloc, b"label g 0 \"x\"y"));
-    assert!(rt; is_refused(alloc, b"label g 0 y\"x\""));
-    assert!(rt; is_refused(alloc, b"label g 0 \"a\"\"b\""));
-    assert!(rt; is_refused(alloc, b"label g 0 x"));
-    assert!(rt; is_refused(alloc, b"id g \"a\\b\""));
-    assert!(rt; is_refused(alloc, b"set g V0 u \"a"));
+    let refused = [
+        "\"next\"",
+        "label g 0 \"x\"y",
+        "label g 0 y\"x\"",
+        "label g 0 \"a\"\"b\"",
+        "label g 0 x",
+        "id g \"a\\b\"",
+        "set g V0 u \"a",
+    ];
+    assert_eq!(rt; first_read(alloc, &refused), None);
 }
 
 #[test]
@@ -530,13 +578,16 @@ fn names_in_lines(rt: HostRuntime) {
 #[test]
 fn wrong_places_and_values(rt: HostRuntime) {
     let alloc = rt.alloc();
-    assert!(rt; is_refused(alloc, b"set g V0 a 1"));
-    assert!(rt; is_refused(alloc, b"set g A0 u 1"));
-    assert!(rt; is_refused(alloc, b"set g G u 1"));
-    assert!(rt; is_refused(alloc, b"set g V u 1"));
-    assert!(rt; is_refused(alloc, b"set g V-1 u 1"));
-    assert!(rt; is_refused(alloc, b"set g V0 u A+1"));
-    assert!(rt; is_refused(alloc, b"set g V9223372036854775808 u 1"));
+    let refused = [
+        "set g V0 a 1",
+        "set g A0 u 1",
+        "set g G u 1",
+        "set g V u 1",
+        "set g V-1 u 1",
+        "set g V0 u A+1",
+        "set g V9223372036854775808 u 1",
+    ];
+    assert_eq!(rt; first_read(alloc, &refused), None);
 }
 
 #[test]
@@ -553,29 +604,35 @@ fn numbers_of_vertices(rt: HostRuntime) {
 fn letters(rt: HostRuntime) {
     let alloc = rt.alloc();
     assert!(rt; is_types(alloc, b"types g ZIVSAZZZZZZZZZ"));
-    assert!(rt; is_refused(alloc, b"types g ZZZZZZZZZZZZZG"));
-    assert!(rt; is_refused(alloc, b"types g ZZZZZZZZZZZZZ"));
-    assert!(rt; is_refused(alloc, b"types g ZZZZZZZZZZZZZZZ"));
+    let refused = [
+        "types g ZZZZZZZZZZZZZG",
+        "types g ZZZZZZZZZZZZZ",
+        "types g ZZZZZZZZZZZZZZZ",
+    ];
+    assert_eq!(rt; first_read(alloc, &refused), None);
 }
 
 #[test]
 fn long_texts(rt: HostRuntime) -> Result<(), Fail> {
-    let longest = id_line(rt.alloc(), 4095)?;
-    assert!(rt; id_len(rt.alloc(), &longest) == Some(4095));
-    let longer = id_line(rt.alloc(), 4096)?;
-    assert!(rt; is_refused(rt.alloc(), &longer));
+    assert!(rt; id_len_of(rt.alloc(), 4095)? == Some(4095));
+    assert!(rt; is_id_refused(rt.alloc(), 4096)?);
     Ok(())
 }
 
 #[test]
 fn long_lines(rt: HostRuntime) -> Result<(), Fail> {
     let alloc = rt.alloc();
-    assert!(rt; is_next(alloc, &padded(alloc, b"next", 8192)?));
-    assert!(rt; is_refused(alloc, &padded(alloc, b"next", 8193)?));
-    assert!(rt; is_nothing(alloc, &padded(alloc, b"#", 8192)?));
-    assert!(rt; is_refused(alloc, &padded(alloc, b"#", 8193)?));
-    assert!(rt; is_nothing(alloc, &padded(alloc, b"", 8192)?));
-    assert!(rt; is_refused(alloc, &padded(alloc, b"", 8193)?));
+    assert!(rt; is_padded_next(alloc, 8192)?);
+    assert!(rt; is_padded_refused(alloc, b"next", 8193)?);
+    Ok(())
+}
+
+#[test]
+fn long_lines_of_nothing(rt: HostRuntime) -> Result<(), Fail> {
+    for front in ["#", ""] {
+        assert!(rt; is_padded_nothing(rt.alloc(), front.as_bytes(), 8192)?);
+        assert!(rt; is_padded_refused(rt.alloc(), front.as_bytes(), 8193)?);
+    }
     Ok(())
 }
 
@@ -586,10 +643,8 @@ fn comments_and_spaces(rt: HostRuntime) {
     assert!(rt; is_nothing(alloc, b"   "));
     assert!(rt; is_nothing(alloc, b"# x"));
     assert!(rt; is_nothing(alloc, b"#seed \"1"));
-    assert!(rt; is_refused(alloc, b" # x"));
-    assert!(rt; is_refused(alloc, b"# \t"));
-    assert!(rt; is_refused(alloc, b"next\r"));
-    assert!(rt; is_refused(alloc, b"next \x7f"));
+    let refused = [" # x", "# \t", "next\r", "next \x7f"];
+    assert_eq!(rt; first_read(alloc, &refused), None);
 }
 
 #[test]
@@ -610,10 +665,8 @@ fn groups(rt: HostRuntime) {
     assert!(rt; is_group(alloc, b"  group "));
     assert!(rt; is_end(alloc, b"end"));
     assert!(rt; is_end(alloc, b" end  "));
-    assert!(rt; is_refused(alloc, b"group 1"));
-    assert!(rt; is_refused(alloc, b"end next"));
-    assert!(rt; is_refused(alloc, b"\"group\""));
-    assert!(rt; is_refused(alloc, b"\"end\""));
+    let refused = ["group 1", "end next", "\"group\"", "\"end\""];
+    assert_eq!(rt; first_read(alloc, &refused), None);
 }
 
 #[test]
@@ -621,11 +674,16 @@ fn lines_that_change(rt: HostRuntime) {
     let alloc = rt.alloc();
     assert!(rt; bound_of(alloc, b"unif -2") == Some(-2));
     assert!(rt; vertices_of(alloc, b"graph g 3") == Some(3));
+    assert!(rt; dropped(alloc, b"drop g") == Name::new(b"g"));
+}
+
+#[test]
+fn lines_that_edit(rt: HostRuntime) {
+    let alloc = rt.alloc();
     assert!(rt; edge_of(alloc, b"edge g 0 1 9") == Some((VertexNo(0), VertexNo(1), 9)));
     assert!(rt; cut_of(alloc, b"cut g 5") == Some(ArcNo(5)));
     assert!(rt; len_of(alloc, b"len g 5 -1") == Some((ArcNo(5), -1)));
     assert!(rt; label_len(alloc, b"label g 2 \"four\"") == Some((VertexNo(2), 4)));
-    assert!(rt; dropped(alloc, b"drop g") == Name::new(b"g"));
 }
 
 #[test]
@@ -633,9 +691,12 @@ fn boards(rt: HostRuntime) {
     let alloc = rt.alloc();
     let knights = board_of(alloc, b"board g 8 9 0 -1 5 3 0");
     assert!(rt; knights == Some(([8, 9, 0, -1, 5, 3], false)));
-    assert!(rt; is_refused(alloc, b"board g 8 9 0 -1 5 3"));
-    assert!(rt; is_refused(alloc, b"board 8 9 0 -1 5 3 0"));
-    assert!(rt; is_refused(alloc, b"board g 8 9 0 x 5 3 0"));
+    let refused = [
+        "board g 8 9 0 -1 5 3",
+        "board 8 9 0 -1 5 3 0",
+        "board g 8 9 0 x 5 3 0",
+    ];
+    assert_eq!(rt; first_read(alloc, &refused), None);
 }
 
 #[test]
@@ -667,10 +728,13 @@ fn families_of_subsets(rt: HostRuntime) {
 fn sizes_of_overlaps(rt: HostRuntime) {
     let alloc = rt.alloc();
     assert!(rt; bits_of(alloc, b"subsets g 2 1 1 1 0 0 0007 0") == Some(7));
-    assert!(rt; is_refused(alloc, b"subsets g 2 1 1 1 0 0 -1 0"));
-    assert!(rt; is_refused(alloc, b"subsets g 2 1 1 1 0 0 -0 0"));
-    assert!(rt; is_refused(alloc, b"subsets g 2 1 1 1 0 0 +1 0"));
-    assert!(rt; is_refused(alloc, b"subsets g 2 1 1 1 0 0 18446744073709551616 0"));
+    let refused = [
+        "subsets g 2 1 1 1 0 0 -1 0",
+        "subsets g 2 1 1 1 0 0 -0 0",
+        "subsets g 2 1 1 1 0 0 +1 0",
+        "subsets g 2 1 1 1 0 0 18446744073709551616 0",
+    ];
+    assert_eq!(rt; first_read(alloc, &refused), None);
 }
 
 #[test]
@@ -746,9 +810,12 @@ fn induced_graphs(rt: HostRuntime) {
     let alloc = rt.alloc();
     let line = induced_of(alloc, b"induced g h \"two words\" 1 0 1", b"two words");
     assert!(rt; line == Some((true, false, true)));
-    assert!(rt; is_refused(alloc, b"induced g h words 1 0 1"));
-    assert!(rt; is_refused(alloc, b"induced g h \"two words\" 1 0"));
-    assert!(rt; is_refused(alloc, b"induced g \"h\" \"two words\" 1 0 1"));
+    let refused = [
+        "induced g h words 1 0 1",
+        "induced g h \"two words\" 1 0",
+        "induced g \"h\" \"two words\" 1 0 1",
+    ];
+    assert_eq!(rt; first_read(alloc, &refused), None);
 }
 
 #[test]
@@ -764,9 +831,8 @@ fn loads(rt: HostRuntime) {
     let alloc = rt.alloc();
     assert!(rt; rule_of(alloc, b"load h check") == Some(CheckRule::Match));
     assert!(rt; rule_of(alloc, b" load h any ") == Some(CheckRule::Any));
-    assert!(rt; is_refused(alloc, b"load h"));
-    assert!(rt; is_refused(alloc, b"load h Check"));
-    assert!(rt; is_refused(alloc, b"load h \"any\""));
+    let refused = ["load h", "load h Check", "load h \"any\""];
+    assert_eq!(rt; first_read(alloc, &refused), None);
 }
 
 #[test]

@@ -48,11 +48,16 @@ fn petersen_names(rt: HostRuntime) -> Result<(), Fail> {
     assert!(rt; has_id(&graph, b"subsets(2,1,-4,0,0,0,0x1,0)"));
     assert!(rt; has_label(&graph, 0, b"0.0.0.1.1"));
     assert!(rt; has_label(&graph, 9, b"1.1.0.0.0"));
-    assert!(rt; leads(&graph, 0, 2, 3));
-    assert!(rt; leads(&graph, 1, 3, 2));
-    assert!(rt; leads(&graph, 10, 5, 6));
-    assert!(rt; leads(&graph, 29, 9, 2));
     assert_eq!(rt; counts(&Ok(graph)), Ok((10, 30, 30)));
+    Ok(())
+}
+
+#[test]
+fn petersen_edges(rt: HostRuntime) -> Result<(), Fail> {
+    let graph = petersen(rt.alloc())?;
+    for (number, owner, tip) in [(0, 2, 3), (1, 3, 2), (10, 5, 6), (29, 9, 2)] {
+        assert!(rt; leads(&graph, number, owner, tip));
+    }
     Ok(())
 }
 
@@ -103,16 +108,32 @@ fn petersen_girth(rt: HostRuntime) -> Result<(), Fail> {
     Ok(())
 }
 
+// Whether the family has this id.
+fn is_called(
+    alloc: Global,
+    n: i64,
+    numbers: [i64; 5],
+    size_bits: u64,
+    id: &str,
+) -> Result<bool, Refusal> {
+    Ok(has_id(&made(alloc, n, numbers, size_bits, false)?, id.as_bytes()))
+}
+
 #[test]
 fn ids(rt: HostRuntime) -> Result<(), Fail> {
-    let graph = made(rt.alloc(), 2, [1, -4, 0, 0, 0], u64::MAX, false)?;
-    assert!(rt; has_id(&graph, b"subsets(2,1,-4,0,0,0,0xffffffffffffffff,0)"));
+    let alloc = rt.alloc();
+    let most = "subsets(2,1,-4,0,0,0,0xffffffffffffffff,0)";
+    assert!(rt; is_called(alloc, 2, [1, -4, 0, 0, 0], u64::MAX, most)?);
+    assert!(rt; is_called(alloc, 1, [0, 0, 0, 0, 0], 0, "subsets(1,-2,0,0,0,0,0x0,0)")?);
+    Ok(())
+}
+
+#[test]
+fn one_subset(rt: HostRuntime) -> Result<(), Fail> {
     let graph = made(rt.alloc(), 3, [2, 1, 0, 5, 5], 10, true)?;
     assert!(rt; has_id(&graph, b"subsets(3,2,1,0,0,0,0xa,1)"));
     assert!(rt; has_label(&graph, 0, b"2.1"));
     assert!(rt; leads(&graph, 0, 0, 0));
-    let graph = made(rt.alloc(), 1, [0, 0, 0, 0, 0], 0, false)?;
-    assert!(rt; has_id(&graph, b"subsets(1,-2,0,0,0,0,0x0,0)"));
     Ok(())
 }
 

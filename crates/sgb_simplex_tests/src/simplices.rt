@@ -34,15 +34,25 @@ fn size(
 fn triangle(rt: HostRuntime) -> Result<(), Fail> {
     let graph = made(rt.alloc(), 2, [0, 0, 0, 0, 0], false)?;
     assert!(rt; has_id(&graph, b"simplex(2,-2,0,0,0,0,0)"));
-    assert!(rt; has_label(&graph, 0, b"0.0.2"));
-    assert!(rt; has_label(&graph, 1, b"0.1.1"));
-    assert!(rt; has_label(&graph, 2, b"0.2.0"));
-    assert!(rt; has_label(&graph, 3, b"1.0.1"));
-    assert!(rt; has_label(&graph, 4, b"1.1.0"));
-    assert!(rt; has_label(&graph, 5, b"2.0.0"));
-    assert!(rt; has_fields(&graph, 0, 0, 0, 2));
-    assert!(rt; has_fields(&graph, 3, 1, 0, 1));
-    assert!(rt; has_fields(&graph, 5, 2, 0, 0));
+    for (vertex, label) in [
+        (0, b"0.0.2"),
+        (1, b"0.1.1"),
+        (2, b"0.2.0"),
+        (3, b"1.0.1"),
+        (4, b"1.1.0"),
+        (5, b"2.0.0"),
+    ] {
+        assert!(rt; has_label(&graph, vertex, label));
+    }
+    Ok(())
+}
+
+#[test]
+fn triangle_fields(rt: HostRuntime) -> Result<(), Fail> {
+    let graph = made(rt.alloc(), 2, [0, 0, 0, 0, 0], false)?;
+    for (vertex, x, y, z) in [(0, 0, 0, 2), (3, 1, 0, 1), (5, 2, 0, 0)] {
+        assert!(rt; has_fields(&graph, vertex, x, y, z));
+    }
     Ok(())
 }
 
@@ -67,6 +77,11 @@ fn bounds_are_cut(rt: HostRuntime) -> Result<(), Fail> {
     assert!(rt; has_fields(&graph, 10, 1, 0, 2));
     assert!(rt; leads(&graph, 53, 14, 17));
     assert!(rt; leads(&graph, 18, 0, 9));
+    Ok(())
+}
+
+#[test]
+fn a_point_has_its_bounds_cut(rt: HostRuntime) -> Result<(), Fail> {
     let graph = made(rt.alloc(), 0, [4, 2, 0, 3, 1], true)?;
     assert!(rt; has_id(&graph, b"simplex(0,0,0,0,0,0,1)"));
     assert!(rt; has_label(&graph, 0, b"0.0"));
