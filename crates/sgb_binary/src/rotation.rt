@@ -32,20 +32,18 @@ pub(crate) fn insert_rotations(
     Ok(())
 }
 
-// How many insertions there are at most, so that room for them is taken once.
+// How many insertions there are at most, so that room for them is taken once. A tree with n dots has n - 1 below others;
+// in all trees together as many stand to the left as to the right, since the mirror image of each is among them, and
+// only those to the left are turned.
 fn count_rotations(index: &IndexSet<Key<'_>>) -> usize {
-    let mut count: usize = 0;
-    for name in index.as_slice() {
-        count = count.saturating_add(count_turns(name.bytes()));
+    let names = index.as_slice();
+    match names.first() {
+        Some(name) => {
+            let dots = name.bytes().len() / 2;
+            names.len().saturating_mul(dots.saturating_sub(1)) / 2
+        }
+        None => 0,
     }
-    count
-}
-
-// At how many places two dots stand.
-fn count_turns(word: &[u8]) -> usize {
-    word.windows(2)
-        .filter(|pair| pair[0] == b'.' && pair[1] == b'.')
-        .count()
 }
 
 // Inserts from the vertex with this name to each that it turns into.
