@@ -1,12 +1,12 @@
 -- What random lengths do to the session.
-use Rattle.std.proofs.Common.{◌≡◌, ◌<◌, ℕ, List, length, refl, Bool, true, false, Option, Some, None, Ok, Err, sym, ap, ◌∙◌, subst, not, inl, inr, arith}
+use Rattle.std.proofs.Common.{◌≡◌, ◌<◌, ℕ, List, length, Bool, true, false, Some, Ok, Err, sym, ap, ◌∙◌, subst, not, inl, inr, arith}
 use Rattle.std.specs.Prelude.{is_some, ◌&&◌, if◌then◌else◌}
 use Rattle.std.proofs.lemmas.List.{length-set}
 use Rattle.sgb_graph.specs.declared.refusal.Refusal.{Refusal}
 use Rattle.sgb_graph.specs.Graph.{GraphOf}
 use Rattle.sgb_lengths.specs.declared.delta.LengthsDelta.{LengthsDelta}
 use Rattle.sgb_lengths.specs.declared.spec.LengthsSpec.{LengthsSpec}
-use Rattle.sgb_lengths.specs.Lengths.{CanRevertLengths, before_lengths, lengthened, lengths_of, refusal_of_lengths}
+use Rattle.sgb_lengths.specs.Lengths.{CanRevertLengths, before_lengths, lengthened, lengths_of}
 use Rattle.sgb_plan.specs.declared.part.Seed.{Seed}
 use Rattle.sgb_undo.specs.Outcome.{Accepted, Refused}
 use Rattle.sgb_script.specs.declared.command.Command.TheVariants.{Lengths}
@@ -22,7 +22,7 @@ use Rattle.sgb_session.specs.State.{State, StepOutcome, step, may_want, lengthen
 use Rattle.sgb_session.specs.Table.{find, entry_in, graph_in, with_graph}
 use Rattle.sgb_session.specs.Private.Making.{AtPlace, Performs}
 use Rattle.sgb_session.specs.Private.Working.{Lengthens, HasLengths, length_draws}
-use Rattle.sgb_session.proofs.Sessions.{state, find_within, graph_there, same_graph_back, replaced_twice, no_room_is}
+use Rattle.sgb_session.proofs.Sessions.{state, graph_there, same_graph_back, replaced_twice, no_room_is}
 use Rattle.sgb_session.proofs.Makings.{can_turn_back, is_turned_back}
 
 -- a graph is there, and its generator is not spent

@@ -1,6 +1,7 @@
 //! The session: a generator and named graphs, as a machine whose commands can be taken back.
 #![tactic(auto)]
 
+mod boxed;
 mod edit;
 mod making;
 mod mark;
@@ -8,6 +9,7 @@ mod reply;
 mod session;
 mod table;
 
+pub use boxed::Boxed;
 pub use mark::Mark;
 pub use reply::{Delta, Reply, Source};
 pub use session::{MOST_DRAWS, MOST_UNIFORM, Session};

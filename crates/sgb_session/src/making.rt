@@ -3,11 +3,12 @@ ghost use Rattle.std.specs.Prelude.{◌≡◌, ◌<◌, ◌^◌, ◌&&◌, [], �
 ghost use Rattle.sgb_script.specs.declared.command.Maker.TheVariants.{Empty, Random, Load};
 ghost use Rattle.sgb_session.specs.Drawing.{drawn_from};
 ghost use Rattle.sgb_session.specs.Make.{empty_graph, goes_on};
-ghost use Rattle.sgb_session.specs.Private.Making.{StandAt, Finds, AnswersGraph, MakesGraph, with_made};
+ghost use Rattle.sgb_session.specs.Private.Making.{StandAt, Finds, AnswersGraph, MakesGraph, CanUnmake, unmade, with_made};
 ghost use Rattle.sgb_session.specs.State.{is_spent};
 ghost use Rattle.sgb_session.specs.Table.{find, has_all};
 ghost use Rattle.sgb_text.specs.Read.{read_as};
 
+use crate::boxed::Boxed;
 use crate::mark::Mark;
 use crate::reply::Delta;
 use crate::table::Table;
@@ -57,8 +58,40 @@ pub(crate) fn goes_on(maker: &Maker) -> bool
     matches!(maker, Maker::Random(_, Seed::Current))
 }
 
-/// Makes a graph. Its operands stand at these places.
-pub(crate) fn make_graph(
+/// Makes a graph, in a box that the table keeps it in. Its operands stand at these places.
+pub(crate) fn make_boxed(
+    alloc: Global,
+    generator: &mut Mark,
+    table: &Table,
+    operands: (usize, usize),
+    maker: &Maker,
+) -> Result<(Boxed<Graph>, Delta), Refusal>
+    requires operands { StandAt table.now maker.now operands }
+    requires fresh { (goes_on maker.now && is_spent generator.old) ≡ false }
+    ensures { MakesGraph generator.old generator.new table.now maker.now result }
+{
+    let (graph, delta) = make_graph(alloc, generator, table, operands, maker)?;
+    match Boxed::new(alloc, graph) {
+        Ok(boxed) => Ok((boxed, delta)),
+        Err(_) => {
+            unmake(generator, delta);
+            Err(Refusal::NoRoom)
+        }
+    }
+}
+
+// Turns the generator back behind a graph that nothing keeps.
+fn unmake(generator: &mut Mark, delta: Delta)
+    requires { CanUnmake delta generator.old }
+    ensures { generator.new ≡ unmade delta generator.old }
+{
+    if let Delta::MadeBy(source) = delta {
+        generator.turn_back(source);
+    }
+}
+
+// Makes a graph.
+fn make_graph(
     alloc: Global,
     generator: &mut Mark,
     table: &Table,

@@ -11,6 +11,7 @@ ghost use Rattle.sgb_session.specs.Drawing.{
 ghost use Rattle.sgb_session.specs.Source.{turned_back, CanTurnBack};
 ghost use Rattle.sgb_session.specs.Private.Working.{DrawsRandom, MakesRandom, DrawsLengths, Lengthens};
 
+use crate::boxed::Boxed;
 use crate::reply::Source;
 use sgb_combine::{LengthsDelta, LengthsSpec, random_lengths};
 use sgb_flip::{Drawn, Flip};
@@ -103,9 +104,9 @@ impl Mark {
     {
         match seed {
             Seed::Number(number) => {
+                let before = Boxed::new(alloc, *self)?;
                 let mut fresh = Mark::new(number);
                 let (graph, _) = fresh.draw_random(alloc, spec, seed)?;
-                let before = *self;
                 *self = fresh;
                 Ok((graph, Source::Seeded(before)))
             }
@@ -146,9 +147,9 @@ impl Mark {
     {
         match seed {
             Seed::Number(number) => {
+                let before = Boxed::new(alloc, *self)?;
                 let mut fresh = Mark::new(number);
                 let (delta, _) = fresh.draw_lengths(alloc, graph, spec, seed)?;
-                let before = *self;
                 *self = fresh;
                 Ok((delta, Source::Seeded(before)))
             }
@@ -182,7 +183,7 @@ impl Mark {
     {
         match source {
             Source::Draws(draws) => self.back_by(draws),
-            Source::Seeded(before) => *self = before,
+            Source::Seeded(before) => *self = *before.get(),
         }
     }
 

@@ -1,5 +1,6 @@
 //! What a command leaves for its undoing, and what it answers.
 
+use crate::boxed::Boxed;
 use crate::mark::Mark;
 use sgb_combine::LengthsDelta;
 use sgb_graph::{ArcNo, Graph, GraphDelta};
@@ -21,7 +22,7 @@ pub enum Delta {
     /// The graph at this place got new lengths.
     Lengths(usize, LengthsDelta, Source),
     /// The graph that left the table, with its place and its name.
-    Dropped(usize, Name, Graph),
+    Dropped(usize, Name, Boxed<Graph>),
 }
 
 /// What turns the generator back behind random work.
@@ -30,7 +31,7 @@ pub enum Source {
     /// How many numbers were drawn from the generator, which went on.
     Draws(u64),
     /// The generator before it was seeded anew.
-    Seeded(Mark),
+    Seeded(Boxed<Mark>),
 }
 
 /// What an accepted command answers.

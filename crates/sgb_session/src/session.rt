@@ -7,7 +7,7 @@ ghost use Rattle.sgb_session.specs.Edits.{refusal_from};
 ghost use Rattle.sgb_session.specs.Private.Making.{Judges, Performs};
 ghost use Rattle.sgb_session.specs.State.{is_spent};
 
-use crate::making::{find_operands, goes_on, make_graph};
+use crate::making::{find_operands, goes_on, make_boxed};
 use crate::mark::Mark;
 use crate::reply::{Delta, Reply};
 use crate::table::{MOST_GRAPHS, Table};
@@ -87,7 +87,7 @@ impl Session {
         requires { place < length self.now.table }
         ensures { result.now ≡ graph_in self.now.table place }
     {
-        &self.table.entry(place).graph
+        self.table.graph(place)
     }
 
     /// The place of the graph of this name.
@@ -132,16 +132,17 @@ impl Session {
         ensures { Performs self.old self.new (commands.Make name maker.now) result }
     {
         let operands = self.judge(&name, maker)?;
-        match make_graph(
+        match make_boxed(
             self.alloc,
             &mut self.generator,
             &self.table,
             operands,
             maker,
         ) {
-            Ok((graph, delta)) => {
+            Ok((boxed, delta)) => {
+                let graph = boxed.get();
                 let reply = Reply::Made(name, graph.n(), graph.m());
-                self.table.push(name, graph);
+                self.table.push(name, boxed);
                 Ok((delta, reply))
             }
             Err(refusal) => Err(refusal_of(refusal)),

@@ -1,5 +1,4 @@
 use Rattle.std.proofs.Common.{◌≡◌, ◌<◌, ap, ◌∙◌, subst, sym, false, Some, Err, length}
-use Rattle.sgb_graph.specs.Graph.{GraphOf}
 use Rattle.sgb_script.specs.declared.command.Command.TheVariants as commands
 use Rattle.sgb_session.specs.Drawing.{drawn_from}
 use Rattle.sgb_session.specs.Private.Making.{AtPlace, Performs}
