@@ -21,42 +21,6 @@ undone
 line 65541: refused 105 journal is full
 ";
 
-static SCRIPTS: [(&str, &str); 9] = [
-    ("", ""),
-    (
-        "seed -314159\nnext\nundo\nnext",
-        "ok\n119318998\nundone\n119318998\n",
-    ),
-    (
-        "next\nseed 7\nundo\nnext\n",
-        "2029883356\nok\nundone\n2073281797\n",
-    ),
-    (
-        "undo\nredo\nnext\nundo\nredo\nredo\n",
-        "line 1: refused 103 nothing to undo\nline 2: refused 104 nothing to redo\n2029883356\nundone\n2029883356\nline 6: refused 104 nothing to redo\n",
-    ),
-    (
-        "seed 2147483648\ngen\nseed -1\ngen\n",
-        "ok\nseed 0, draws 0, unread 54\nok\nseed 2147483647, draws 0, unread 54\n",
-    ),
-    (
-        "seed 9223372036854775808\nseed -9223372036854775808\ngen\n",
-        "line 1: refused 100 bad command\nok\nseed 0, draws 0, unread 54\n",
-    ),
-    (
-        "unif 0\nunif 2147483649\nunif 2147483648\ngen\nunif 1\ngen\n",
-        "line 1: refused 30 bad specification\nline 2: refused 30 bad specification\n2029883356\nseed 0, draws 1, unread 53\n0\nseed 0, draws 2, unread 52\n",
-    ),
-    (
-        "next\nundo\nbogus\nunif 0\nredo\n",
-        "2029883356\nundone\nline 3: refused 100 bad command\nline 4: refused 30 bad specification\n2029883356\n",
-    ),
-    (
-        "# remark\n\n   \n # no remark\nnext\x7f\n\"next\"\n  next  \n",
-        "line 4: refused 100 bad command\nline 5: refused 100 bad command\nline 6: refused 100 bad command\n2029883356\n",
-    ),
-];
-
 /// The transcript of a script.
 pub fn transcript_of(alloc: Global, script: &[u8]) -> Result<Vec<u8>, Fail> {
     let ended = run(alloc, script, Vec::new(alloc));
@@ -64,43 +28,11 @@ pub fn transcript_of(alloc: Global, script: &[u8]) -> Result<Vec<u8>, Fail> {
     Ok(ended.writer.into_inner())
 }
 
-/// Whether a script has this transcript.
-pub fn has_transcript(alloc: Global, script: &str, transcript: &str) -> Result<bool, Fail> {
-    let text = transcript_of(alloc, script.as_bytes())?;
-    Ok(text.as_slice() == transcript.as_bytes())
-}
-
-#[test]
-fn scripts_have_their_transcripts(rt: HostRuntime) -> Result<(), Fail> {
-    for (script, transcript) in SCRIPTS {
-        let text = transcript_of(rt.alloc(), script.as_bytes())?;
-        assert!(rt; text.as_slice() == transcript.as_bytes(), "{script}");
-    }
-    Ok(())
-}
-
 // Adds a line to the script, so many times.
 fn repeat(script: &mut Vec<u8>, count: u32, line: &[u8]) -> Result<(), AllocError> {
     for _ in 0..count {
         script.extend_from_slice(line)?;
     }
-    Ok(())
-}
-
-fn sixty_draws(alloc: Global) -> Result<Vec<u8>, AllocError> {
-    let mut script = Vec::new(alloc);
-    repeat(&mut script, 60, b"next\n")?;
-    repeat(&mut script, 60, b"undo\n")?;
-    repeat(&mut script, 1, b"next\n")?;
-    Ok(script)
-}
-
-#[test]
-fn sixty_draws_are_taken_back(rt: HostRuntime) -> Result<(), Fail> {
-    let script = sixty_draws(rt.alloc())?;
-    let text = transcript_of(rt.alloc(), script.as_slice())?;
-    assert!(rt; text.as_slice().starts_with(b"2029883356\n"));
-    assert!(rt; text.as_slice().ends_with(b"undone\n2029883356\n"));
     Ok(())
 }
 
