@@ -86,7 +86,7 @@ fn delta_of(alloc: Global, session: &mut Session, line: &[u8]) -> Result<Delta, 
 fn gives_back(delta: &Delta, place: usize, name: &[u8], arcs: u32) -> bool {
     match delta {
         Delta::Dropped(at, dropped, graph) => {
-            *at == place && dropped.bytes() == name && graph.m() == arcs
+            *at == place && dropped.bytes() == name && graph.get().m() == arcs
         }
         _ => false,
     }
