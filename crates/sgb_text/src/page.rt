@@ -73,6 +73,7 @@ impl Page {
     }
 
     /// Writes an item, which comes in three parts: a mark, its bytes, and what ends it.
+    #[inline(always)]
     pub(crate) fn item(&mut self, mark: &[u8], bytes: &[u8], end: &[u8]) -> Result<(), AllocError>
         requires mark { length mark.now ≤ 1 }
         requires bytes { length bytes.now ≤ 4095 }
@@ -89,6 +90,7 @@ impl Page {
     }
 
     // A new line, where this one has no room for so many bytes more.
+    #[inline]
     fn make_room(&mut self, width: usize) -> Result<(), AllocError>
         requires { width ≤ 5000 }
         ensures { OnOk result (self.new ≡ (if is_past self.old.column width then with_line self.old (10 ∷ []) else self.old)) }
@@ -100,6 +102,7 @@ impl Page {
     }
 
     // An item for which the line has room.
+    #[inline(always)]
     fn put_short(&mut self, mark: &[u8], bytes: &[u8], end: &[u8]) -> Result<(), AllocError>
         requires { self.old.column + length (mark.now ++ (bytes.now ++ end.now)) ≤ 79 }
         ensures { OnOk result (self.new ≡ with_bytes self.old (mark.now ++ (bytes.now ++ end.now))) }
@@ -112,6 +115,8 @@ impl Page {
     }
 
     // An item that is longer than a line.
+    #[cold]
+    #[inline(never)]
     fn put_long(&mut self, mark: &[u8], bytes: &[u8], end: &[u8]) -> Result<(), AllocError>
         requires mark { length mark.now ≤ 1 }
         requires bytes { length bytes.now ≤ 4095 }
