@@ -11,7 +11,7 @@ use crate::index::index_names;
 use crate::judge::count_trees;
 use crate::lister::list_trees;
 use crate::rotation::insert_rotations;
-use sgb_graph::{Builder, Graph, Refusal, Types, Util};
+use sgb_graph::{Builder, Graph, Refusal, Types};
 use sgb_plan::{Key, Part, id_of, label_of};
 use std::alloc::Global;
 
@@ -82,15 +82,7 @@ fn name_vertices(builder: &mut Builder, alloc: Global, trees: &[Key<'_>]) -> Res
     builder.reserve_vertices(trees.len())?;
     for tree in trees {
         let label = label_of(alloc, tree.bytes())?;
-        let fields = [
-            Util::Zero,
-            Util::Zero,
-            Util::Zero,
-            Util::Zero,
-            Util::Zero,
-            Util::Zero,
-        ];
-        builder.push_vertex(label, fields)?;
+        builder.push_named(label)?;
     }
     Ok(())
 }

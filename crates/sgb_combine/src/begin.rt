@@ -1,11 +1,10 @@
 //! The builder that a combination begins with: its id, and vertices that are named as those of a graph.
 ghost use Rattle.std.specs.Prelude.{◌≡◌, ◌≤◌, length};
-ghost use Rattle.sgb_graph.specs.New.{six_zeros};
 ghost use Rattle.sgb_plan.specs.Plan.{Names};
 ghost use Rattle.sgb_combine.specs.Combined.{vertices_of};
 ghost use Rattle.sgb_combine.specs.Private.Begin.{Begins};
 
-use sgb_graph::{Builder, Graph, Refusal, Text, Types, Util, VertexNo};
+use sgb_graph::{Builder, Graph, Refusal, Text, Types, VertexNo};
 use sgb_plan::label_of;
 use std::alloc::Global;
 
@@ -32,7 +31,7 @@ fn name_vertices(builder: &mut Builder, alloc: Global, graph: &Graph) -> Result<
     builder.reserve_vertices(graph.n() as usize)?;
     for v in 0..graph.n() {
         let label = label_of(alloc, graph.label(VertexNo(v)))?;
-        builder.push_vertex(label, no_fields())?;
+        builder.push_named(label)?;
     }
     Ok(())
 }
@@ -42,18 +41,4 @@ fn name_vertices(builder: &mut Builder, alloc: Global, graph: &Graph) -> Result<
 pub(crate) fn room_of(graph: &Graph, directed: bool) -> usize {
     let arcs = graph.m() as usize;
     if directed { arcs } else { arcs / 2 }
-}
-
-// The fields of a vertex without values.
-pub(crate) fn no_fields() -> [Util; 6]
-    ensures { result ≡ six_zeros }
-{
-    [
-        Util::Zero,
-        Util::Zero,
-        Util::Zero,
-        Util::Zero,
-        Util::Zero,
-        Util::Zero,
-    ]
 }

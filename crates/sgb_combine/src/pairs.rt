@@ -8,7 +8,7 @@ ghost use Rattle.sgb_combine.specs.Private.Begin.{Begins};
 ghost use Rattle.sgb_combine.specs.Private.Pairs.{IsLongest};
 
 use crate::ProductSpec;
-use crate::begin::{no_fields, room_of};
+use crate::begin::room_of;
 use crate::multiply::insert_product;
 use sgb_graph::{Builder, Graph, Label, Refusal, Text, Types, VertexNo};
 use sgb_operand::check_operand;
@@ -152,7 +152,7 @@ fn name_row(
 {
     for b in 0..second.n() {
         let label = name_of(bytes, alloc, first, second, a, VertexNo(b))?;
-        builder.push_vertex(label, no_fields())?;
+        builder.push_named(label)?;
     }
     Ok(())
 }

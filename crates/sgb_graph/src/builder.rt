@@ -14,7 +14,7 @@ pub struct Builder {
 
 impl Builder {
     ghost use Rattle.sgb_graph.specs.Graph.{IsGraph, n_of, made_of};
-    ghost use Rattle.sgb_graph.specs.New.{bare_graph};
+    ghost use Rattle.sgb_graph.specs.New.{bare_graph, six_zeros};
     ghost use Rattle.sgb_graph.specs.Vertex.{NamesNothing, new_vertex, with_vertex_last};
     ghost use Rattle.sgb_graph.specs.Builder.{Inserts, insertion, grown};
 
@@ -52,6 +52,19 @@ impl Builder {
         ensures unchanged { OnErr result (self.new ≡ self.old) }
     {
         self.graph.push_vertex(label, fields)
+    }
+
+    /// Adds a vertex without values, last. Refused `TooLarge` where there are 65,535 vertices.
+    #[inline(always)]
+    pub fn push_named(&mut self, label: Label) -> Result<(), Refusal>
+        ensures ok { OnOk result
+            (self.new ≡ record self.old { graph = with_vertex_last self.old.graph (new_vertex label six_zeros) }) }
+        ensures err { IfErr result
+            (λ e. (e ≡ Refusal.NoRoom) ⊎ ((e ≡ Refusal.TooLarge) × (65535 ≤ n_of self.old.graph))) }
+        ensures room { IsErrOf result Refusal.NoRoom → n_of self.old.graph < 65535 }
+        ensures unchanged { OnErr result (self.new ≡ self.old) }
+    {
+        self.graph.push_named(label)
     }
 
     /// Takes room for so many vertices more, or for as many as a graph may still have.

@@ -1,5 +1,5 @@
 //! Texts: the bytes of ids, labels and fields.
-ghost use Rattle.std.specs.Prelude.{◌≡◌, ◌<◌, ◌≤◌, length, IfOk, IfErr, ◌⊎◌, []};
+ghost use Rattle.std.specs.Prelude.{◌≡◌, ◌<◌, ◌≤◌, length, IfOk, IfErr, IsErr, ◌⊎◌, []};
 ghost use Rattle.std.specs.Result.{IsErrOf};
 ghost use Rattle.std.specs.List.{list_all};
 ghost use Rattle.sgb_graph.specs.Text.{IsText, is_text_byte};
@@ -188,6 +188,20 @@ impl Label {
             return Err(Refusal::BadOperand);
         }
         Ok(Label::short(bytes))
+    }
+
+    /// The label of these bytes, which are a text, copied. Takes memory where they are more than 14.
+    #[inline]
+    pub fn from_text(alloc: Global, bytes: &[u8]) -> Result<Label, AllocError>
+        requires { IsText bytes.now }
+        ensures value { IfOk result (λ l. l ≡ bytes.now) }
+        ensures room { IsErr result → 14 < length bytes.now }
+    {
+        if bytes.len() <= SHORT {
+            return Ok(Label::short(bytes));
+        }
+        let copy = Vec::from_slice(alloc, bytes)?;
+        Ok(Label::new(Text::from_bytes(alloc, copy)?))
     }
 
     // The label of these bytes, which are few.

@@ -7,7 +7,7 @@ ghost use Rattle.sgb_perms.specs.Perms.{name_of, perms_id, row_vertex, row_at};
 use crate::PermsSpec;
 use crate::counts::numbers_of;
 use crate::rows::Rows;
-use sgb_graph::{Builder, Refusal, Text, Util};
+use sgb_graph::{Builder, Refusal, Text};
 use sgb_plan::{Part, id_of, label_of, shown_at};
 use std::alloc::Global;
 
@@ -47,15 +47,7 @@ pub(crate) fn name_vertices(
     for v in 0..rows.len() {
         write_name(&mut name, rows.row(v))?;
         let label = label_of(alloc, &name)?;
-        let fields = [
-            Util::Zero,
-            Util::Zero,
-            Util::Zero,
-            Util::Zero,
-            Util::Zero,
-            Util::Zero,
-        ];
-        builder.push_vertex(label, fields)?;
+        builder.push_named(label)?;
     }
     Ok(())
 }

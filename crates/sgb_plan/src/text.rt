@@ -15,10 +15,11 @@ pub fn text_of(alloc: Global, bytes: &[u8]) -> Result<Text, Refusal>
 }
 
 /// The label of these bytes, copied. No more than 14 take no memory.
+#[inline]
 pub fn label_of(alloc: Global, bytes: &[u8]) -> Result<Label, Refusal>
     requires { IsText bytes.now }
     ensures value { IfOk result (λ label. label ≡ bytes.now) }
     ensures err { IfErr result (λ e. e ≡ Refusal.NoRoom) }
 {
-    Label::from_bytes(alloc, bytes)
+    Ok(Label::from_text(alloc, bytes)?)
 }

@@ -10,7 +10,7 @@ ghost use Rattle.sgb_random.specs.Private.Progress.{IsWithin, insertion_of};
 use crate::RandomSpec;
 use crate::progress::Edge;
 use crate::spec::wanted;
-use sgb_graph::{Builder, Graph, Refusal, Text, Types, Util, VertexNo};
+use sgb_graph::{Builder, Graph, Refusal, Text, Types, VertexNo};
 use sgb_plan::{Part, Seed, append_dotted, id_of, label_of};
 use std::alloc::Global;
 
@@ -66,15 +66,7 @@ fn name_vertices(builder: &mut Builder, alloc: Global, n: u32) -> Result<(), Ref
         name.clear();
         append_dotted(&mut name, &[v])?;
         let label = label_of(alloc, &name)?;
-        let fields = [
-            Util::Zero,
-            Util::Zero,
-            Util::Zero,
-            Util::Zero,
-            Util::Zero,
-            Util::Zero,
-        ];
-        builder.push_vertex(label, fields)?;
+        builder.push_named(label)?;
     }
     Ok(())
 }

@@ -108,6 +108,19 @@ impl Vertices {
         Ok(())
     }
 
+    /// Adds a vertex without arcs and values, last.
+    #[inline]
+    pub fn push_named(&mut self, label: Label) -> Result<(), AllocError>
+        ensures ok { OnOk result (self.new ≡ self.old ++ unlinked label six_zeros ∷ []) }
+        ensures unchanged { OnErr result (self.new ≡ self.old) }
+    {
+        make_room(&mut self.labels, &mut self.fields, 1)?;
+        self.firsts.reserve(1)?;
+        self.labels.push_reserved(label);
+        self.firsts.push_reserved(Link::none());
+        Ok(())
+    }
+
     #[inline]
     pub fn label(&self, vertex: VertexNo) -> &Label
         requires { vertex.0 < length self.now }

@@ -30,16 +30,16 @@ label_of-requires c =
     let h : i < length trees = c.loop-tree-test.true in
     subst IsText (sym (c.bytes.ensures ∙ (c.tree-item.is ∙ name_at trees i _ [] h))) (c.requires i [] (below trees i h))
 
-pub returns-in_err-push_vertex : goal.returns-in_err-push_vertex
-returns-in_err-push_vertex c =
-    let p = err_from_is_err_and c.from_residual-in_err-push_vertex.result c.from_residual-in_err-push_vertex.ensures.1 in
+pub returns-in_err-push_named : goal.returns-in_err-push_named
+returns-in_err-push_named c =
+    let p = err_from_is_err_and c.from_residual-in_err-push_named.result c.from_residual-in_err-push_named.ensures.1 in
     let trees : List Key = c.args.trees.now in
     let i : ℕ = c.loop-tree.tree-index in
     let h : i < length trees = c.loop-tree-test.true in
     let x : List ℕ = c.in_ok-label.label in
     let is : x ≡ get_or (names_of trees) i x = c.in_ok-label.ensures.value ∙ (c.bytes.ensures ∙ (c.tree-item.is ∙ name_at trees i _ x h)) in
     rw (p.1, p.2)
-    (names_of_refused x (below trees i h) is c.loop-tree.invariant (push_refused c.loop-tree.builder x six_zeros c.in_err-push_vertex.ensures.err))
+    (names_of_refused x (below trees i h) is c.loop-tree.invariant (push_refused c.loop-tree.builder x six_zeros c.in_err-push_named.ensures.err))
 
 pub loop-tree-preserved : goal.loop-tree-preserved
 loop-tree-preserved c =
@@ -49,7 +49,7 @@ loop-tree-preserved c =
     let x : List ℕ = c.in_ok-label.label in
     let is : x ≡ get_or (names_of trees) i x = c.in_ok-label.ensures.value ∙ (c.bytes.ensures ∙ (c.tree-item.is ∙ name_at trees i _ x h)) in
     names_of_some x (below trees i h) is c.loop-tree.invariant
-    (c.in_ok-push_vertex.ensures.ok ∙ pushed c.loop-tree.builder x six_zeros)
+    (c.in_ok-push_named.ensures.ok ∙ pushed c.loop-tree.builder x six_zeros)
 
 pub returns : goal.returns
 returns c =

@@ -14,20 +14,19 @@ loop-v-init c =
     subst (λ b. NamesFrom start (vertices_of g) b (named_as g) 0 (n_of g)) (sym c.in_ok-reserve_vertices.ensures.same)
     (names_from_start start (named_as g) (n_of g))
 
-pub returns-in_err-push_vertex : goal.returns-in_err-push_vertex
-returns-in_err-push_vertex c =
-    let p = err_from_is_err_and c.from_residual-in_err-push_vertex.result c.from_residual-in_err-push_vertex.ensures.1 in
+pub returns-in_err-push_named : goal.returns-in_err-push_named
+returns-in_err-push_named c =
+    let p = err_from_is_err_and c.from_residual-in_err-push_named.result c.from_residual-in_err-push_named.ensures.1 in
     rw (p.1, p.2) (names_from_refused (omega arith) c.loop-v.invariant
-    (push_refused c.loop-v.builder (label_of c.args.graph.now c.loop-v.v) six_zeros c.in_err-push_vertex.ensures.err))
+    (push_refused c.loop-v.builder (label_of c.args.graph.now c.loop-v.v) six_zeros c.in_err-push_named.ensures.err))
 
 pub loop-v-preserved : goal.loop-v-preserved
 loop-v-preserved c =
     let builder = c.loop-v.builder in
     names_from_some (omega arith) c.loop-v.invariant
-    (c.in_ok-push_vertex.ensures.ok
-    ∙ (pushed builder c.in_ok-label.label c.no_fields.result
-    ∙ (ap (λ label. with_named builder (record { label = label; fields = c.no_fields.result } ∷ [])) (c.in_ok-label.ensures.value ∙ c.label.ensures.value)
-    ∙ ap (λ fs. with_named builder (record { label = label_of c.args.graph.now c.loop-v.v; fields = fs } ∷ [])) c.no_fields.ensures)))
+    (c.in_ok-push_named.ensures.ok
+    ∙ (pushed builder c.in_ok-label.label six_zeros
+    ∙ ap (λ label. with_named builder (record { label = label; fields = six_zeros } ∷ [])) (c.in_ok-label.ensures.value ∙ c.label.ensures.value)))
 
 pub returns : goal.returns
 returns c = names_from_end (omega arith) c.loop-v.invariant

@@ -10,21 +10,20 @@ use Rattle.sgb_combine.proofs.pairs.name_row.Goals as goal
 pub name_of-requires-clause-short : goal.name_of-requires-clause-short
 name_of-requires-clause-short c = short_pair c.args.first.now c.args.second.now c.args.a.0 c.loop-b.b c.requires.a (omega arith) c.requires.short
 
-pub returns-in_err-push_vertex : goal.returns-in_err-push_vertex
-returns-in_err-push_vertex c =
-    let p = err_from_is_err_and c.from_residual-in_err-push_vertex.result c.from_residual-in_err-push_vertex.ensures.1 in
+pub returns-in_err-push_named : goal.returns-in_err-push_named
+returns-in_err-push_named c =
+    let p = err_from_is_err_and c.from_residual-in_err-push_named.result c.from_residual-in_err-push_named.ensures.1 in
     let name = pair_name c.args.first.now c.args.second.now c.args.a.0 c.loop-b.b in
-    rw (p.1, p.2) (names_from_refused (omega arith) c.loop-b.invariant (push_refused c.loop-b.builder name.label six_zeros c.in_err-push_vertex.ensures.err))
+    rw (p.1, p.2) (names_from_refused (omega arith) c.loop-b.invariant (push_refused c.loop-b.builder name.label six_zeros c.in_err-push_named.ensures.err))
 
 pub loop-b-preserved : goal.loop-b-preserved
 loop-b-preserved c =
     let builder = c.loop-b.builder in
     let name = pair_name c.args.first.now c.args.second.now c.args.a.0 c.loop-b.b in
     names_from_some (omega arith) c.loop-b.invariant
-    (c.in_ok-push_vertex.ensures.ok
-    ∙ (pushed builder c.in_ok-label.label c.no_fields.result
-    ∙ (ap (λ label. with_named builder (record { label = label; fields = c.no_fields.result } ∷ [])) (c.in_ok-label.ensures.value)
-    ∙ ap (λ fs. with_named builder (record { label = name.label; fields = fs } ∷ [])) c.no_fields.ensures)))
+    (c.in_ok-push_named.ensures.ok
+    ∙ (pushed builder c.in_ok-label.label six_zeros
+    ∙ ap (λ label. with_named builder (record { label = label; fields = six_zeros } ∷ [])) c.in_ok-label.ensures.value))
 
 pub returns : goal.returns
 returns c = names_from_end (omega arith) c.loop-b.invariant

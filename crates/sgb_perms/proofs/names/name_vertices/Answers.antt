@@ -40,17 +40,17 @@ label_of-requires c =
     (name_is_text (get_or rows c.loop-v.v []) (c.requires c.loop-v.v [] less)
     (omega (arith, long, c.row.ensures.long, c.width.ensures.value, c.width.ensures.narrow)))
 
-pub returns-in_err-push_vertex : goal.returns-in_err-push_vertex
-returns-in_err-push_vertex c =
-    let p = err_from_is_err_and c.from_residual-in_err-push_vertex.result c.from_residual-in_err-push_vertex.ensures.1 in
+pub returns-in_err-push_named : goal.returns-in_err-push_named
+returns-in_err-push_named c =
+    let p = err_from_is_err_and c.from_residual-in_err-push_named.result c.from_residual-in_err-push_named.ensures.1 in
     let rows = c.args.rows.now.rows in
     let row = c.row.result.now in
     let less : c.loop-v.v < length rows = omega (arith, c.len-v-end.ensures.value) in
     let is : row ≡ get_or rows c.loop-v.v row = c.row.ensures.value ∙ get_or_default rows c.loop-v.v [] row less in
     let named : c.in_ok-label.label ≡ name_of row = c.in_ok-label.ensures.value ∙ (c.deref.ensures.value ∙ c.in_ok-write_name.ensures.ok) in
-    let refused : RefusesNames c.loop-v.builder (row_vertex row ∷ []) c.in_err-push_vertex.field-0.0 =
-    subst (λ label. RefusesNames c.loop-v.builder (record { label = label; fields = six_zeros } ∷ []) c.in_err-push_vertex.field-0.0) named
-    (push_refused c.loop-v.builder c.in_ok-label.label six_zeros c.in_err-push_vertex.ensures.err) in
+    let refused : RefusesNames c.loop-v.builder (row_vertex row ∷ []) c.in_err-push_named.field-0.0 =
+    subst (λ label. RefusesNames c.loop-v.builder (record { label = label; fields = six_zeros } ∷ []) c.in_err-push_named.field-0.0) named
+    (push_refused c.loop-v.builder c.in_ok-label.label six_zeros c.in_err-push_named.ensures.err) in
     rw (p.1, p.2) (names_of_refused row less is c.loop-v.invariant refused)
 
 pub loop-v-preserved : goal.loop-v-preserved
@@ -61,7 +61,7 @@ loop-v-preserved c =
     let is : row ≡ get_or rows c.loop-v.v row = c.row.ensures.value ∙ get_or_default rows c.loop-v.v [] row less in
     let named : c.in_ok-label.label ≡ name_of row = c.in_ok-label.ensures.value ∙ (c.deref.ensures.value ∙ c.in_ok-write_name.ensures.ok) in
     names_of_some row less is c.loop-v.invariant
-    (c.in_ok-push_vertex.ensures.ok
+    (c.in_ok-push_named.ensures.ok
     ∙ (pushed c.loop-v.builder c.in_ok-label.label six_zeros
     ∙ ap (λ label. with_named c.loop-v.builder (record { label = label; fields = six_zeros } ∷ [])) named))
 
