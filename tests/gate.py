@@ -16,7 +16,7 @@ import threading
 import time
 from concurrent.futures import FIRST_COMPLETED, ThreadPoolExecutor, wait
 
-from edits import rt, rtlib
+from edits import MEMORY, rt, rtlib
 
 PROGRAM = 'bin/sgb'
 REFUSING, FAILING = 'tests/out/refuse_growth.so', 'tests/out/fail_io.so'
@@ -223,6 +223,9 @@ class Gate:
             proved, told = os.pipe()
             with os.fdopen(told, 'w', buffering=1) as self.names:
                 beside = pool.submit(self.try_edits, proved)
+                # One job a check: several on one check take half as much processor again, and the edits use what is idle.
+                lanes = max(1, min(rt.processors(), rt.free() // MEMORY))
+                os.environ.setdefault('RT_JOBS', str(lanes))
                 self.part('rt ci', ['rt', 'ci'], self.tell)
             self.run_program()
             beside.result()
