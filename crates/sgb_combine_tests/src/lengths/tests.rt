@@ -1,6 +1,6 @@
 //! The lengths that seeds 0 and 5 give, and the order of the refusals.
 
-use crate::graphs::{
+use crate::lengths::graphs::{
     Made, has_id, has_lengths, keeps_id, keeps_lengths, kept, lengthen, lengthen_and_back, mixed,
     one_edge, paired, without,
 };

@@ -1,6 +1,6 @@
 //! What refused growths lead to: who asks again has what is asked for. The lengths are those of seed 5.
 
-use crate::graphs::{Made, has_id, has_lengths, lengthen, paired};
+use crate::lengths::graphs::{Made, has_id, has_lengths, lengthen, paired};
 use sgb_flip::Flip;
 use sgb_graph::Refusal;
 use sgb_lengths::LengthsSpec;
