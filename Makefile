@@ -52,6 +52,12 @@ growths: bin/sgb tests/out/refuse_growth.so
 program: bin/sgb
 	python3 tests/program.py bin/sgb
 
+.PHONY: large
+
+# Runs the program on long sessions and on large graphs.
+large: bin/sgb
+	python3 tests/large.py bin/sgb
+
 .PHONY: wants ends
 
 # Runs one script of every command, and the programs beside the script, with each growth refused.

@@ -260,6 +260,7 @@ class Gate:
         yield 'growths', [sys.executable, 'tests/growths.py', PROGRAM, REFUSING]
         yield 'wants', [sys.executable, 'tests/wants.py', PROGRAM, REFUSING]
         yield 'ends', [sys.executable, 'tests/ends.py', PROGRAM, FAILING]
+        yield 'large', [sys.executable, 'tests/large.py', PROGRAM]
         if os.path.isfile('tests/program.py'):
             yield 'program', [sys.executable, 'tests/program.py', PROGRAM]
 

@@ -170,7 +170,7 @@ fn has_arcs(graph: &Graph, wanted: &[Line]) -> bool {
     true
 }
 
-fn view_of(line: &Line) -> ArcView {
+pub fn view_of(line: &Line) -> ArcView {
     ArcView {
         owner: VertexNo(line.0),
         tip: Tip::To(VertexNo(line.1)),

@@ -1,19 +1,18 @@
-//! Tests of operands, complements, unions, intersections and products.
+//! Tests of operands, combinations and random lengths: what no script shows of them. Scripts that show combinations stand
+//! in tests/corpus/.
 #![tactic(auto)]
 
-#[cfg(test)]
-mod complements;
 #[cfg(test)]
 mod graphs;
 #[cfg(test)]
 mod growths;
 #[cfg(test)]
-mod intersections;
+mod induced;
+#[cfg(test)]
+mod laws;
+#[cfg(test)]
+mod lengths;
 #[cfg(test)]
 mod operands;
-#[cfg(test)]
-mod products;
-#[cfg(test)]
-mod refused;
 #[cfg(test)]
 mod unions;

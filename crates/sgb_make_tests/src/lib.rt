@@ -1,8 +1,6 @@
-//! Tests of generated graphs.
+//! Tests of standard and random graphs: what no script shows of them. Scripts that show the graphs stand in tests/corpus/.
 #![tactic(auto)]
 
-#[cfg(test)]
-mod boards;
 #[cfg(test)]
 mod growths;
 #[cfg(test)]
@@ -10,4 +8,4 @@ mod laws;
 #[cfg(test)]
 mod looks;
 #[cfg(test)]
-mod others;
+mod seeds;

@@ -1,48 +1,38 @@
-//! How a graph looks: questions that promise nothing, so that the proof of a test stays short.
-use sgb_graph::{Graph, Place, Refusal, Tip, Util, VertexField, VertexNo};
-use sgb_make::{BoardSpec, board};
-use std::alloc::Global;
+//! How a graph looks: questions that promise nothing, so that the proof of a test stays short. For the same reason
+//! graphs are handed about with their refusals.
+use sgb_graph::{Graph, Refusal, Tip, VertexNo};
 
-/// A board of these sizes, undirected.
-pub fn sized(sizes: [i64; 4], piece: i64, wrap: i64) -> BoardSpec {
-    BoardSpec {
-        n1: sizes[0],
-        n2: sizes[1],
-        n3: sizes[2],
-        n4: sizes[3],
-        piece,
-        wrap,
-        directed: false,
+/// A graph, or its refusal.
+pub type Made = Result<Graph, Refusal>;
+
+/// How many vertices, arcs and numbers there are, or why there is no graph.
+pub type Counts = Result<(u32, u32, u32), Refusal>;
+
+/// The counts of a graph.
+pub fn counts(made: &Made) -> Counts {
+    match made {
+        Ok(graph) => Ok((graph.n(), graph.m(), graph.made())),
+        Err(refusal) => Err(*refusal),
     }
 }
 
-/// How many vertices and arcs the board has, or why it is refused. Where a growth is refused, it is asked for once
-/// more.
-pub fn counts(alloc: Global, spec: &BoardSpec) -> Result<(u32, u32), Refusal> {
-    let graph = match board(alloc, spec) {
-        Err(Refusal::NoRoom) => board(alloc, spec)?,
-        made => made?,
-    };
-    Ok((graph.n(), graph.m()))
-}
-
-/// Whether the graph has so many vertices and arcs.
-pub fn are_counted(graph: &Graph, n: u32, m: u32) -> bool {
-    graph.n() == n && graph.m() == m
-}
-
-/// Whether the graph has this id and these letters.
-pub fn is_named(graph: &Graph, id: &[u8], letters: &[u8]) -> bool {
-    graph.id() == id && graph.types().letters().as_slice() == letters
-}
-
 /// Whether a vertex has this label.
-pub fn has_label(graph: &Graph, vertex: u32, label: &[u8]) -> bool {
-    vertex < graph.n() && graph.label(VertexNo(vertex)) == label
+pub fn has_label(made: &Made, vertex: u32, label: &[u8]) -> bool {
+    match made {
+        Ok(graph) => vertex < graph.n() && graph.label(VertexNo(vertex)) == label,
+        Err(_) => false,
+    }
 }
 
 /// Whether the list of a vertex has these tips and lengths, newest first.
-pub fn lists(graph: &Graph, vertex: u32, wanted: &[(u32, i64)]) -> bool {
+pub fn lists(made: &Made, vertex: u32, wanted: &[(u32, i64)]) -> bool {
+    match made {
+        Ok(graph) => has_list(graph, vertex, wanted),
+        Err(_) => false,
+    }
+}
+
+fn has_list(graph: &Graph, vertex: u32, wanted: &[(u32, i64)]) -> bool {
     if vertex >= graph.n() {
         return false;
     }
@@ -57,16 +47,4 @@ pub fn lists(graph: &Graph, vertex: u32, wanted: &[(u32, i64)]) -> bool {
         }
     }
     wanted.next().is_none()
-}
-
-/// Whether a field of a vertex holds this number, where 0 stands for `Zero`.
-pub fn has_field(graph: &Graph, vertex: u32, field: VertexField, number: i64) -> bool {
-    if vertex >= graph.n() {
-        return false;
-    }
-    match graph.util(Place::Vertex(VertexNo(vertex), field)) {
-        Util::Zero => number == 0,
-        Util::Int(value) => *value == number,
-        _ => false,
-    }
 }

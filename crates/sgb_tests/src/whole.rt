@@ -10,47 +10,6 @@ const FIRST: &[u8] = b"seed -314159\nnext\nundo\nnext\n";
 
 const FIRST_TRANSCRIPT: &[u8] = b"ok\n119318998\nundone\n119318998\n";
 
-// After 65,535 numbers nothing more is performed, until the last number is taken back; it comes again.
-const FULL: &[u8] = b"next\ndrop nobody\nshow nobody\nundo\nnext\nnext\n";
-
-const FULL_ENDING: &[u8] = b"line 65536: refused 105 journal is full
-line 65537: refused 105 journal is full
-line 65538: refused 50 no such graph
-undone
-1104040056
-line 65541: refused 105 journal is full
-";
-
-/// The transcript of a script.
-pub fn transcript_of(alloc: Global, script: &[u8]) -> Result<Vec<u8>, Fail> {
-    let ended = run(alloc, script, Vec::new(alloc));
-    ended.end?;
-    Ok(ended.writer.into_inner())
-}
-
-// Adds a line to the script, so many times.
-fn repeat(script: &mut Vec<u8>, count: u32, line: &[u8]) -> Result<(), AllocError> {
-    for _ in 0..count {
-        script.extend_from_slice(line)?;
-    }
-    Ok(())
-}
-
-fn full_journal(alloc: Global) -> Result<Vec<u8>, AllocError> {
-    let mut script = Vec::new(alloc);
-    repeat(&mut script, 65_535, b"next\n")?;
-    repeat(&mut script, 1, FULL)?;
-    Ok(script)
-}
-
-#[test]
-fn a_full_journal_is_told(rt: HostRuntime) -> Result<(), Fail> {
-    let script = full_journal(rt.alloc())?;
-    let text = transcript_of(rt.alloc(), script.as_slice())?;
-    assert!(rt; text.as_slice().ends_with(FULL_ENDING));
-    Ok(())
-}
-
 // How a run ends, and what a writer keeps of it that has so much room, and takes so many bytes at a time.
 fn written<R: Read + Drop>(
     alloc: Global,
@@ -232,26 +191,5 @@ fn lines_within_the_limit_are_answered(rt: HostRuntime) -> Result<(), Fail> {
     let script = cut_by_the_limit(rt.alloc())?;
     let end = Err(RunFault::TooLong);
     assert!(rt; ends(rt.alloc(), script.as_slice(), end, b"2029883356\n"));
-    Ok(())
-}
-
-// A remark of so many bytes, and a draw.
-fn long_remark(alloc: Global, count: u32) -> Result<Vec<u8>, AllocError> {
-    let mut script = Vec::new(alloc);
-    for _ in 0..count {
-        script.push(b'#')?;
-    }
-    script.extend_from_slice(b"\nnext\n")?;
-    Ok(script)
-}
-
-#[test]
-fn a_line_has_its_limit(rt: HostRuntime) -> Result<(), Fail> {
-    let longest = long_remark(rt.alloc(), 8192)?;
-    let text = transcript_of(rt.alloc(), longest.as_slice())?;
-    assert!(rt; text.as_slice() == b"2029883356\n".as_slice());
-    let longer = long_remark(rt.alloc(), 8193)?;
-    let text = transcript_of(rt.alloc(), longer.as_slice())?;
-    assert!(rt; text.as_slice() == b"line 1: refused 100 bad command\n2029883356\n".as_slice());
     Ok(())
 }

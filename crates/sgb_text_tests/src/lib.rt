@@ -1,13 +1,14 @@
-//! Tests of saved texts: whole texts, read with ample memory.
+//! Tests of saved texts, of their grammar and of the graph of linked parts: what no script shows of them. Scripts that load
+//! and save stand in tests/corpus/.
 #![tactic(auto)]
 
 #[cfg(test)]
+mod computed;
+#[cfg(test)]
+mod grammar;
+#[cfg(test)]
 mod growths;
 #[cfg(test)]
-mod outcome;
-#[cfg(test)]
-mod read;
+mod laws;
 #[cfg(test)]
 mod refused;
-#[cfg(test)]
-mod written;

@@ -1,0 +1,51 @@
+//! What refused growths lead to: who asks again has what is asked for. The lengths are those of seed 5.
+
+use crate::lengths::graphs::{Made, has_id, has_lengths, lengthen, paired};
+use sgb_flip::Flip;
+use sgb_graph::Refusal;
+use sgb_lengths::LengthsSpec;
+use sgb_plan::Seed;
+use std::alloc::Global;
+use std::process::Abort;
+use std::test::Fail;
+
+// A graph of edges. Where a growth is refused, it is asked for once more.
+fn paired_again(alloc: Global) -> Made {
+    match paired(alloc) {
+        Err(Refusal::NoRoom) => paired(alloc),
+        made => made,
+    }
+}
+
+fn lengthen_one(alloc: Global, made: &mut Made, flip: &mut Flip) -> Result<u64, Refusal> {
+    let spec = LengthsSpec {
+        directed: false,
+        min: 1,
+        max: 1000,
+    };
+    lengthen(alloc, made, flip, &spec, Seed::Number(5))
+}
+
+// Where a growth is refused nothing has changed, and the lengths are asked for once more.
+fn lengthen_again(rt: &impl Abort, alloc: Global, made: &mut Made, flip: &mut Flip) -> Option<u64> {
+    let unread = flip.unread();
+    match lengthen_one(alloc, made, flip) {
+        Err(Refusal::NoRoom) => {
+            assert!(rt; has_lengths(made, &[7, 7, 8, 8, 2, 2, 4, 4]));
+            assert!(rt; has_id(made, b"gb_new_graph(4)"));
+            assert!(rt; flip.unread() == unread);
+            lengthen_one(alloc, made, flip).ok()
+        }
+        draws => draws.ok(),
+    }
+}
+
+#[test]
+fn growths_are_granted_when_asked_again(rt: HostRuntime) -> Result<(), Fail> {
+    let mut made = paired_again(rt.alloc());
+    let mut flip = Flip::new(5);
+    assert!(rt; lengthen_again(&rt, rt.alloc(), &mut made, &mut flip) == Some(4));
+    assert!(rt; has_lengths(&made, &[467, 467, 978, 978, 709, 709, 122, 122]));
+    assert!(rt; has_id(&made, b"random_lengths(gb_new_graph(4),0,1,1000,0,5)"));
+    Ok(())
+}
