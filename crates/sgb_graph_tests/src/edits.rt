@@ -1,7 +1,7 @@
 //! Edits whose deltas are not kept, and edits that are undone at once.
 
 use crate::looks::{is_hole, lists};
-use sgb_graph::{ArcNo, Graph, Place, Refusal, Text, Util, VertexNo};
+use sgb_graph::{ArcNo, Graph, Refusal, Text, VertexNo};
 use std::alloc::Global;
 
 /// A graph of so many vertices.
@@ -12,6 +12,12 @@ pub fn new_graph(alloc: Global, n: u32) -> Result<Graph, Refusal> {
 /// The text of these bytes.
 pub fn text(alloc: Global, bytes: &[u8]) -> Result<Text, Refusal> {
     Text::new(alloc, bytes)
+}
+
+/// A text of so many letters.
+pub fn letters(alloc: Global, count: usize) -> Result<Text, Refusal> {
+    let bytes = vec![in alloc; b'a'; count]?;
+    text(alloc, &bytes)
 }
 
 /// A new arc's number.
@@ -29,12 +35,6 @@ pub fn edge(graph: &mut Graph, from: u32, to: u32, len: i64) -> Result<u32, Refu
 /// Cuts an arc.
 pub fn cut(graph: &mut Graph, number: u32) -> Result<(), Refusal> {
     let _delta = graph.cut(ArcNo(number))?;
-    Ok(())
-}
-
-/// Gives a field a value.
-pub fn set(graph: &mut Graph, place: Place, value: Util) -> Result<(), Refusal> {
-    let _delta = graph.set_util(place, value)?;
     Ok(())
 }
 

@@ -1,6 +1,6 @@
 //! Utility fields, labels, ids and letters.
 
-use crate::edits::{arc, cut, new_graph, set, text};
+use crate::edits::{arc, cut, letters, new_graph, text};
 use crate::looks::{has_counts, has_id, has_label, is_arc};
 use sgb_graph::{
     ArcField, ArcNo, Graph, GraphDelta, Place, Refusal, Text, Types, Util, VertexField, VertexNo,
@@ -17,13 +17,39 @@ fn one_loop(alloc: Global) -> Result<Graph, Refusal> {
     Ok(graph)
 }
 
+// The value of this number that a letter allows. No test holds it beside a graph: both would be dropped at each way out.
+fn value(alloc: Global, letter: u8, number: u32) -> Result<Util, Refusal> {
+    Ok(match letter {
+        b'I' => Util::Int(i64::from(number)),
+        b'V' => Util::Vertex(VertexNo(number)),
+        b'A' => Util::Arc(ArcNo(number)),
+        b'S' if number == 0 => Util::Text(text(alloc, b"")?),
+        b'S' => Util::Text(text(alloc, b"y")?),
+        _ => Util::Zero,
+    })
+}
+
+// Gives the field an arc or a vertex.
+fn set(graph: &mut Graph, value: Util) -> Result<(), Refusal> {
+    let _delta = graph.set_util(FIELD, value)?;
+    Ok(())
+}
+
+fn set_arc(graph: &mut Graph, number: u32) -> Result<(), Refusal> {
+    set(graph, Util::Arc(ArcNo(number)))
+}
+
+fn set_vertex(graph: &mut Graph, number: u32) -> Result<(), Refusal> {
+    set(graph, Util::Vertex(VertexNo(number)))
+}
+
 #[test]
 fn a_field_names_what_is_there(rt: HostRuntime) -> Result<(), Fail> {
     let mut graph = new_graph(rt.alloc(), 1)?;
-    assert!(rt; set(&mut graph, FIELD, Util::Arc(ArcNo(0))) == Err(Refusal::BadOperand));
+    assert!(rt; set_arc(&mut graph, 0) == Err(Refusal::BadOperand));
     arc(&mut graph, 0, 0, 1)?;
-    set(&mut graph, FIELD, Util::Arc(ArcNo(0)))?;
-    assert!(rt; set(&mut graph, FIELD, Util::Vertex(VertexNo(1))) == Err(Refusal::BadOperand));
+    set_arc(&mut graph, 0)?;
+    assert!(rt; set_vertex(&mut graph, 1) == Err(Refusal::BadOperand));
     Ok(())
 }
 
@@ -47,26 +73,41 @@ fn a_named_arc_is_not_cut(rt: HostRuntime) -> Result<(), Fail> {
     Ok(())
 }
 
-// Whether the field held nothing before it got the value.
-fn was_zero(graph: &mut Graph, value: Util) -> Result<bool, Refusal> {
+// What the field held before it got the value: nothing, a text, or another value.
+fn before(graph: &mut Graph, value: Util) -> Result<u8, Refusal> {
     let old = graph.set_util(FIELD, value)?;
-    Ok(matches!(old, GraphDelta::SetUtil(_, Util::Zero)))
+    Ok(match old {
+        GraphDelta::SetUtil(_, Util::Zero) => b'Z',
+        GraphDelta::SetUtil(_, Util::Text(_)) => b'S',
+        _ => b'I',
+    })
 }
 
-// Whether the field held a text before it got the value.
-fn was_text(graph: &mut Graph, value: Util) -> Result<bool, Refusal> {
-    let old = graph.set_util(FIELD, value)?;
-    Ok(matches!(old, GraphDelta::SetUtil(_, Util::Text(_))))
+// What the field held before each of these values. Answers the place of the first that held something else.
+fn first_unlike(
+    alloc: Global,
+    graph: &mut Graph,
+    values: &[(u8, u32, u8)],
+) -> Result<Option<usize>, Refusal> {
+    for (place, (letter, number, held)) in values.iter().enumerate() {
+        if before(graph, value(alloc, *letter, *number)?)? != *held {
+            return Ok(Some(place));
+        }
+    }
+    Ok(None)
 }
 
 #[test]
 fn values_are_kept(rt: HostRuntime) -> Result<(), Fail> {
     let mut graph = one_loop(rt.alloc())?;
-    assert!(rt; was_zero(&mut graph, Util::Int(0))?);
-    assert!(rt; was_zero(&mut graph, Util::Text(text(rt.alloc(), b"")?))?);
-    assert!(rt; was_zero(&mut graph, Util::Text(text(rt.alloc(), b"y")?))?);
-    assert!(rt; was_text(&mut graph, Util::Zero)?);
-    assert!(rt; was_zero(&mut graph, Util::Int(7))?);
+    let values = [
+        (b'I', 0, b'Z'),
+        (b'S', 0, b'Z'),
+        (b'S', 1, b'Z'),
+        (b'Z', 0, b'S'),
+        (b'I', 7, b'Z'),
+    ];
+    assert_eq!(rt; first_unlike(rt.alloc(), &mut graph, &values)?, None);
     assert!(rt; is_seven(&graph));
     assert!(rt; are_others_zero(&graph));
     Ok(())
@@ -96,12 +137,6 @@ fn id_and_back(graph: &mut Graph, id: Text) -> Result<usize, Refusal> {
     let len = graph.id().len();
     graph.revert(delta);
     Ok(len)
-}
-
-// A text of so many letters.
-fn letters(alloc: Global, count: usize) -> Result<Text, Refusal> {
-    let bytes = vec![in alloc; b'a'; count]?;
-    text(alloc, &bytes)
 }
 
 #[test]
@@ -182,32 +217,36 @@ fn is_honest_with(graph: &mut Graph, letter: u8, value: Util) -> Result<bool, Re
     Ok(honest)
 }
 
-#[test]
-fn z_and_i_allow_no_references(rt: HostRuntime) -> Result<(), Fail> {
-    let mut graph = one_loop(rt.alloc())?;
-    assert!(rt; is_honest_with(&mut graph, b'Z', Util::Zero)?);
-    assert!(rt; !is_honest_with(&mut graph, b'Z', Util::Int(1))?);
-    assert!(rt; is_honest_with(&mut graph, b'I', Util::Int(2))?);
-    assert!(rt; !is_honest_with(&mut graph, b'I', Util::Vertex(VertexNo(0)))?);
-    Ok(())
+// The place of the first of these letters that allows the value behind it, or does not, against what stands behind that.
+fn first_wrong(
+    alloc: Global,
+    graph: &mut Graph,
+    table: &[(u8, u8, u32, bool)],
+) -> Result<Option<usize>, Refusal> {
+    for (place, (letter, kind, number, allowed)) in table.iter().enumerate() {
+        if is_honest_with(graph, *letter, value(alloc, *kind, *number)?)? != *allowed {
+            return Ok(Some(place));
+        }
+    }
+    Ok(None)
 }
 
 #[test]
-fn v_allows_a_vertex_and_1(rt: HostRuntime) -> Result<(), Fail> {
+fn letters_allow_values(rt: HostRuntime) -> Result<(), Fail> {
     let mut graph = one_loop(rt.alloc())?;
-    assert!(rt; is_honest_with(&mut graph, b'V', Util::Vertex(VertexNo(0)))?);
-    assert!(rt; is_honest_with(&mut graph, b'V', Util::Int(1))?);
-    assert!(rt; !is_honest_with(&mut graph, b'V', Util::Int(2))?);
-    Ok(())
-}
-
-#[test]
-fn a_and_s_allow_arcs_and_texts(rt: HostRuntime) -> Result<(), Fail> {
-    let mut graph = one_loop(rt.alloc())?;
-    let word = Util::Text(text(rt.alloc(), b"a")?);
-    assert!(rt; is_honest_with(&mut graph, b'A', Util::Arc(ArcNo(0)))?);
-    assert!(rt; !is_honest_with(&mut graph, b'A', Util::Vertex(VertexNo(0)))?);
-    assert!(rt; is_honest_with(&mut graph, b'S', word)?);
-    assert!(rt; !is_honest_with(&mut graph, b'S', Util::Int(1))?);
+    let table = [
+        (b'Z', b'Z', 0, true),
+        (b'Z', b'I', 1, false),
+        (b'I', b'I', 2, true),
+        (b'I', b'V', 0, false),
+        (b'V', b'V', 0, true),
+        (b'V', b'I', 1, true),
+        (b'V', b'I', 2, false),
+        (b'A', b'A', 0, true),
+        (b'A', b'V', 0, false),
+        (b'S', b'S', 1, true),
+        (b'S', b'I', 1, false),
+    ];
+    assert_eq!(rt; first_wrong(rt.alloc(), &mut graph, &table)?, None);
     Ok(())
 }

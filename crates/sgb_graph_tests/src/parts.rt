@@ -20,28 +20,28 @@ fn zeros() -> [Util; 6] {
 }
 
 // A vertex with the number 7 in its last field, and a number 0 in its first.
-fn vertex(alloc: Global, label: &[u8], first: Option<u32>) -> Result<VertexPart, Refusal> {
+fn vertex(alloc: Global, label: &[u8], first: Option<ArcNo>) -> Result<VertexPart, Refusal> {
     let mut fields = zeros();
     fields[0] = Util::Int(0);
     fields[5] = Util::Int(7);
     Ok(VertexPart {
         label: Label::new(Text::new(alloc, label)?),
         fields,
-        first: first.map(ArcNo),
+        first,
     })
 }
 
-fn record(tip: u32, value: Util, next: Option<u32>) -> ArcPart {
+fn record(tip: u32, value: Util, next: Option<ArcNo>) -> ArcPart {
     ArcPart {
         tip: Tip::To(VertexNo(tip)),
         len: 5,
         fields: [value, Util::Vertex(VertexNo(1))],
-        next: next.map(ArcNo),
+        next,
     }
 }
 
 // The records of an edge that names its second arc, and one that no chain reaches. A next arc is the same for all.
-fn records(alloc: Global, next: Option<u32>) -> Result<Items<ArcPart>, Refusal> {
+fn records(alloc: Global, next: Option<ArcNo>) -> Result<Items<ArcPart>, Refusal> {
     let mut arcs = Items::new(alloc);
     arcs.reserve(3)?;
     arcs.push(record(1, Util::Arc(ArcNo(1)), next))?;
@@ -53,8 +53,8 @@ fn records(alloc: Global, next: Option<u32>) -> Result<Items<ArcPart>, Refusal> 
 // Two vertices of these records, with their first arcs.
 fn two_vertices(
     alloc: Global,
-    first: Option<u32>,
-    second: Option<u32>,
+    first: Option<ArcNo>,
+    second: Option<ArcNo>,
     arcs: Items<ArcPart>,
 ) -> Result<Parts, Refusal> {
     let vertices = vec![in alloc; vertex(alloc, b"a", first)?, vertex(alloc, b"b", second)?]?;
@@ -67,18 +67,33 @@ fn two_vertices(
     })
 }
 
+// The graph of these vertices, where the arcs are followed by none or by this one.
 fn graph_of_parts(
     alloc: Global,
-    first: Option<u32>,
-    second: Option<u32>,
+    first: Option<ArcNo>,
+    second: Option<ArcNo>,
+    next: Option<ArcNo>,
 ) -> Result<Graph, Refusal> {
-    let parts = two_vertices(alloc, first, second, records(alloc, None)?)?;
+    let parts = two_vertices(alloc, first, second, records(alloc, next)?)?;
     Graph::build(alloc, parts)
+}
+
+// The graph of an edge.
+fn one_edge(alloc: Global) -> Result<Graph, Refusal> {
+    graph_of_parts(alloc, Some(ArcNo(0)), Some(ArcNo(1)), None)
+}
+
+// Where a growth is refused, the graph is asked for once more.
+fn one_edge_again(alloc: Global) -> Result<Graph, Refusal> {
+    match one_edge(alloc) {
+        Err(Refusal::NoRoom) => one_edge(alloc),
+        built => built,
+    }
 }
 
 #[test]
 fn a_graph_of_parts(rt: HostRuntime) -> Result<(), Fail> {
-    let graph = graph_of_parts(rt.alloc(), Some(0), Some(1))?;
+    let graph = one_edge_again(rt.alloc())?;
     assert!(rt; has_id(&graph, b"two"));
     assert!(rt; has_counts(&graph, 3, 2));
     assert!(rt; lists(&graph, 0, &[0]));
@@ -88,42 +103,34 @@ fn a_graph_of_parts(rt: HostRuntime) -> Result<(), Fail> {
     Ok(())
 }
 
+fn why_refused(
+    alloc: Global,
+    first: u32,
+    second: Option<ArcNo>,
+    next: Option<ArcNo>,
+) -> Option<Refusal> {
+    graph_of_parts(alloc, Some(ArcNo(first)), second, next).err()
+}
+
 #[test]
-fn parts_of_no_graph(rt: HostRuntime) -> Result<(), Fail> {
+fn parts_of_no_graph(rt: HostRuntime) {
     for (first, second) in [
-        (0, Some(0)),
-        (0, Some(3)),
-        (2, Some(1)),
-        (1, Some(2)),
+        (0, Some(ArcNo(0))),
+        (0, Some(ArcNo(3))),
+        (2, Some(ArcNo(1))),
+        (1, Some(ArcNo(2))),
         (0, None),
     ] {
-        let refused = graph_of_parts(rt.alloc(), Some(first), second).err();
+        let refused = why_refused(rt.alloc(), first, second, None);
         assert!(rt; refused == Some(Refusal::BadOperand));
     }
-    Ok(())
 }
 
-// The same parts, where each arc is followed by the first.
-fn returning(alloc: Global) -> Result<Graph, Refusal> {
-    let parts = two_vertices(alloc, Some(0), Some(1), records(alloc, Some(0))?)?;
-    Graph::build(alloc, parts)
-}
-
+// Each arc is followed by the first.
 #[test]
-fn a_chain_that_returns(rt: HostRuntime) -> Result<(), Fail> {
-    assert!(rt; returning(rt.alloc()).err() == Some(Refusal::BadOperand));
-    Ok(())
-}
-
-// Where a growth is refused, the graph is asked for once more.
-#[test]
-fn graphs_are_built_when_asked_again(rt: HostRuntime) -> Result<(), Fail> {
-    let graph = match graph_of_parts(rt.alloc(), Some(0), Some(1)) {
-        Err(Refusal::NoRoom) => graph_of_parts(rt.alloc(), Some(0), Some(1))?,
-        built => built?,
-    };
-    assert!(rt; has_counts(&graph, 3, 2));
-    Ok(())
+fn a_chain_that_returns(rt: HostRuntime) {
+    let refused = why_refused(rt.alloc(), 0, Some(ArcNo(1)), Some(ArcNo(0)));
+    assert!(rt; refused == Some(Refusal::BadOperand));
 }
 
 // How many items there are before and after one is added, and whether the list then is the one of these numbers.
@@ -133,7 +140,8 @@ fn pushed(alloc: Global, number: u32, numbers: &[u32]) -> Result<(usize, usize, 
     items.push(number)?;
     let after = items.len();
     let is_same = items.as_slice() == numbers && !items.is_empty();
-    Ok((before, after, is_same && items.into_vec().len() == after))
+    let len = items.into_vec().len();
+    Ok((before, after, is_same && len == after))
 }
 
 #[test]

@@ -1,6 +1,6 @@
 //! Texts, letters and refusals.
 
-use crate::edits::text;
+use crate::edits::{letters, text};
 use sgb_graph::{ArcField, GraphField, Label, Refusal, Text, Types, Util, VertexField, VertexNo};
 use std::alloc::Global;
 use std::mem::size_of;
@@ -11,20 +11,25 @@ fn text_len(alloc: Global, bytes: &[u8]) -> Result<usize, Refusal> {
     Ok(text(alloc, bytes)?.bytes().len())
 }
 
+// How long the text of so many letters is.
+fn letters_len(alloc: Global, count: usize) -> Result<usize, Refusal> {
+    Ok(letters(alloc, count)?.bytes().len())
+}
+
 #[test]
 fn texts_have_a_limit(rt: HostRuntime) -> Result<(), Fail> {
-    let long = vec![in rt.alloc(); b'a'; 4096]?;
-    assert!(rt; text_len(rt.alloc(), &long[..4095])? == 4095);
-    assert!(rt; text_len(rt.alloc(), &long) == Err(Refusal::BadOperand));
+    assert!(rt; letters_len(rt.alloc(), 4095)? == 4095);
+    assert!(rt; letters_len(rt.alloc(), 4096) == Err(Refusal::BadOperand));
     assert!(rt; text_len(rt.alloc(), b"")? == 0);
     Ok(())
 }
 
 #[test]
 fn texts_are_plain(rt: HostRuntime) -> Result<(), Fail> {
-    for bad in [b"a\"b", b"a\\b", b"a\x1fb", b"a\x7fb"] {
-        assert!(rt; text_len(rt.alloc(), bad.as_slice()) == Err(Refusal::BadOperand));
-    }
+    assert!(rt; text_len(rt.alloc(), b"a\"b") == Err(Refusal::BadOperand));
+    assert!(rt; text_len(rt.alloc(), b"a\\b") == Err(Refusal::BadOperand));
+    assert!(rt; text_len(rt.alloc(), b"a\x1fb") == Err(Refusal::BadOperand));
+    assert!(rt; text_len(rt.alloc(), b"a\x7fb") == Err(Refusal::BadOperand));
     assert!(rt; text_len(rt.alloc(), b" ~'")? == 3);
     Ok(())
 }
@@ -36,11 +41,15 @@ fn letters_are_fourteen(rt: HostRuntime) {
     assert!(rt; Types::new(b"ZIVSAZIVSAZIV").is_none());
 }
 
+// Whether the label of a text of these bytes has them.
+fn label_has(alloc: Global, bytes: &[u8]) -> Result<bool, Refusal> {
+    Ok(Label::new(text(alloc, bytes)?).bytes() == bytes)
+}
+
 #[test]
 fn labels_have_the_bytes_of_their_texts(rt: HostRuntime) -> Result<(), Fail> {
     assert!(rt; Label::empty().bytes().is_empty());
-    let label = Label::new(text(rt.alloc(), b"a name")?);
-    assert!(rt; label.bytes() == b"a name".as_slice());
+    assert!(rt; label_has(rt.alloc(), b"a name")?);
     Ok(())
 }
 
@@ -81,12 +90,26 @@ fn texts_and_values_are_small(rt: HostRuntime) {
     assert!(rt; size_of::<Util>() == 16);
 }
 
+fn are_same(alloc: Global, bytes: &[u8], others: &[u8]) -> Result<bool, Refusal> {
+    let first = text(alloc, bytes)?;
+    let second = text(alloc, others)?;
+    Ok(first == second && !(first != second))
+}
+
+fn is_empty_label(alloc: Global, bytes: &[u8]) -> Result<bool, Refusal> {
+    Ok(Label::new(text(alloc, bytes)?) == Label::empty())
+}
+
+fn allows_a_vertex(letter: u8) -> bool {
+    Util::Vertex(VertexNo(1)).is_allowed(letter)
+}
+
 #[test]
 fn texts_are_compared_by_their_bytes(rt: HostRuntime) -> Result<(), Fail> {
-    assert!(rt; text(rt.alloc(), b"a")? == text(rt.alloc(), b"a")?);
-    assert!(rt; text(rt.alloc(), b"a")? != text(rt.alloc(), b"b")?);
-    assert!(rt; Label::new(text(rt.alloc(), b"")?) == Label::empty());
-    assert!(rt; Util::Vertex(VertexNo(1)).is_allowed(b'V'));
-    assert!(rt; !Util::Vertex(VertexNo(1)).is_allowed(b'A'));
+    assert!(rt; are_same(rt.alloc(), b"a", b"a")?);
+    assert!(rt; !are_same(rt.alloc(), b"a", b"b")?);
+    assert!(rt; is_empty_label(rt.alloc(), b"")?);
+    assert!(rt; allows_a_vertex(b'V'));
+    assert!(rt; !allows_a_vertex(b'A'));
     Ok(())
 }
