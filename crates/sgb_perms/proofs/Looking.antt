@@ -1,11 +1,13 @@
 -- Lemmas on rows that are looked up.
-use Rattle.std.proofs.Common.{◌≡◌, ◌≢◌, ◌<◌, ◌≤◌, ◌+◌, ℕ, List, [], ◌∷◌, ◌++◌, length, get_or, take, Bool, false, not, All, inl, inr, refl, sym, ap, ap₂, subst, ◌∙◌, arith}
+use Rattle.std.proofs.Common.{◌≡◌, ◌≢◌, ◌<◌, ◌≤◌, ◌+◌, ℕ, List, [], ◌∷◌, ◌++◌, length, get_or, take, drop, map, Bool, true, false, ◌==◌, not, All, inl, inr, refl, sym, ap, ap₂, subst, ◌∙◌, arith}
 use Rattle.std.specs.List.{list_any, position, position_or_len}
 use Rattle.std.specs.Option.{unwrap_or}
-use Rattle.std.proofs.lemmas.Bool.{cases_Bool, cases_lt, lt-ltb, le-ltb}
-use Rattle.std.proofs.lemmas.List.{map-append, take_more, length-take-le, get_or-take, get_or_default}
+use Rattle.std.proofs.lemmas.Bool.{false≢true, cases_Bool, cases_lt, lt-ltb, le-ltb, eq-eqb, ne_eqb}
+use Rattle.std.proofs.lemmas.List.{map-append, length-map, take_more, length-take-le, get_or-take, get_or_default, get_or-map, at_drop_more, at_drop_all}
 use Rattle.std.proofs.lemmas.List.Elements.{All-head, All-tail}
-use Rattle.std.proofs.lemmas.List.Sums.{prefix_len-le-length}
+use Rattle.std.proofs.lemmas.List.Sums.{prefix_len-le-length, position_or_len_is, passes_at_first}
+use Rattle.std.proofs.lemmas.List.Folds.{list_any_at}
+use Rattle.std.proofs.lemmas.List.Quantifiers.{all_pairs_push}
 use Rattle.indexmap.specs.IndexSet.{insert_key}
 use Rattle.sgb_plan.specs.Distinct.{Distinct}
 use Rattle.sgb_plan.specs.declared.key.Key.{Key}
@@ -13,7 +15,7 @@ use Rattle.sgb_plan.specs.Key.{bytes_of}
 use Rattle.sgb_plan.proofs.Distincts.{position_or_len-map}
 use Rattle.sgb_perms.specs.Arrangement.{same_list}
 use Rattle.sgb_perms.specs.Perms.{place_of}
-use Rattle.sgb_perms.specs.Private.Places.{shown_by}
+use Rattle.sgb_perms.specs.Private.Places.{shown_by, with_digit, word_from, word_of, IsWordsOf}
 use Rattle.sgb_perms.proofs.Arranged.{same_from_test}
 
 -- the comparison by which keys are looked up
@@ -54,3 +56,55 @@ pub found : (row : List ℕ) (keys : List Key) → unwrap_or (position (λ k. sa
 found row keys =
     position_or_end (λ k. same_list row (bytes_of k)) keys
     ∙ sym (position_or_len-map (same_list row) bytes_of keys)
+
+-- ---- by words
+pub word_more : (word : ℕ) (row : List ℕ) (i : ℕ) → i < length row → word_from word (drop i row) ≡ word_from (with_digit word (get_or row i 0)) (drop (i + 1) row)
+unfolding word_from
+word_more word row i less = at_drop_more (word_from word) row i 0 less
+
+pub word_all : (word : ℕ) (row : List ℕ) (i : ℕ) → length row ≤ i → word_from word (drop i row) ≡ word
+unfolding word_from
+word_all word row i past = at_drop_all (word_from word) row i past
+
+pub words_none : (words : List ℕ) → words ≡ [] → IsWordsOf [] words
+words_none words none = record {
+  are = none;
+  apart = λ i j d low within same. absurd (omega (arith, within, ap length none));
+}
+
+-- the rows up to one have their words; this one has a word of its own, which goes last
+pub words_more : (rows : List (List ℕ)) (i word : ℕ) (words after : List ℕ) → i < length rows → word ≡ word_of (get_or rows i []) → IsWordsOf (take i rows) words → true ≡ not (list_any (λ k. word == k) words) → after ≡ insert_key ◌==◌ words word → IsWordsOf (take (i + 1) rows) after
+words_more rows i word words after less is known added put =
+    let fresh : list_any (λ k. word == k) words ≡ false =
+    elim (cases_Bool (list_any (λ k. word == k) words)) [
+      | inl old ↦ absurd (false≢true (sym (added ∙ ap not old)))
+      | inr new ↦ new
+    ] in
+    let grown : after ≡ words ++ word ∷ [] = put ∙ rw fresh refl in
+    record {
+      are =
+          grown
+          ∙ (ap₂ (λ xs y. xs ++ y ∷ []) known.are is
+          ∙ (sym (map-append word_of (take i rows) (get_or rows i [] ∷ []))
+          ∙ ap (map word_of) (sym (take_more rows i [] less))));
+      apart =
+          subst Distinct (sym grown)
+          (all_pairs_push (λ x y. x ≢ y) words word known.apart
+          (λ k d low same. false≢true
+          (sym fresh ∙ list_any_at (λ j. word == j) words k d low (eq-eqb word (get_or words k d) (sym same)))));
+    }
+
+-- a row that is listed is found by its word
+pub word_found : (rows : List (List ℕ)) (words : List ℕ) (row : List ℕ) → IsWordsOf rows words → place_of rows row < length rows → unwrap_or (position (λ k. word_of row == k) words) (length rows) ≡ place_of rows row
+word_found rows words row known within =
+    let p = place_of rows row in
+    let word = word_of row in
+    let long : length words ≡ length rows = ap length known.are ∙ length-map rows word_of in
+    let here : row ≡ get_or rows p [] = same_from_test row (get_or rows p []) (passes_at_first (same_list row) rows [] within) in
+    let mine : word ≡ get_or words p 0 =
+    ap word_of here ∙ (sym (get_or-map word_of rows p [] 0 within) ∙ ap (λ ws. get_or ws p 0) (sym known.are)) in
+    ap (unwrap_or (position (λ k. word == k) words)) (sym long)
+    ∙ (position_or_end (λ k. word == k) words
+    ∙ position_or_len_is (λ k. word == k) words p 0 (omega (arith, within, long))
+    (λ k low. ne_eqb word (get_or words k 0) (λ same. known.apart k p 0 low (omega (arith, within, long)) (sym same ∙ mine)))
+    (λ less. eq-eqb word (get_or words p 0) mine))

@@ -4,13 +4,11 @@ ghost use Rattle.sgb_graph.specs.Builder.{Inserts};
 ghost use Rattle.sgb_graph.specs.Graph.{n_of};
 ghost use Rattle.sgb_perms.specs.Arrangement.{is_descent, exchanged};
 ghost use Rattle.sgb_perms.specs.Perms.{exchanges, exchanges_of, place_of, row_at};
-ghost use Rattle.sgb_perms.specs.Private.Places.{shown_by, IsClosed, LeadsWithin};
+ghost use Rattle.sgb_perms.specs.Private.Places.{IsIndexOf, IsClosed, LeadsWithin};
 
-use crate::places::place_of;
+use crate::places::{Places, find_row};
 use crate::rows::Rows;
-use indexmap::IndexSet;
 use sgb_graph::{Builder, Refusal, VertexNo};
-use sgb_plan::Key;
 use std::alloc::Global;
 
 // Inserts the exchanges that lead to each row.
@@ -18,10 +16,10 @@ pub(crate) fn insert_exchanges(
     builder: &mut Builder,
     alloc: Global,
     rows: &Rows,
-    places: &IndexSet<Key<'_>>,
+    places: &Places<'_>,
 ) -> Result<(), Refusal>
     requires vertices { n_of builder.old.graph ≡ length rows.now.rows }
-    requires places { shown_by places.now.keys ≡ rows.now.rows }
+    requires places { IsIndexOf rows.now.rows places.now }
     requires closed { IsClosed rows.now.rows }
     ensures { Inserts builder.old builder.new (exchanges rows.now.rows) result }
 {
@@ -30,7 +28,7 @@ pub(crate) fn insert_exchanges(
     for v in 0..rows.len() {
         row.clear();
         row.extend_from_slice(rows.row(v))?;
-        insert_to(builder, VertexNo(v as u32), &mut row, places)?;
+        insert_to(builder, rows, VertexNo(v as u32), &mut row, places)?;
     }
     Ok(())
 }
@@ -38,20 +36,22 @@ pub(crate) fn insert_exchanges(
 // Inserts the exchanges that lead to the vertex, whose row this is.
 fn insert_to(
     builder: &mut Builder,
+    rows: &Rows,
     to: VertexNo,
     row: &mut [u8],
-    places: &IndexSet<Key<'_>>,
+    places: &Places<'_>,
 ) -> Result<(), Refusal>
     requires vertex { to.0 < n_of builder.old.graph }
-    requires vertices { n_of builder.old.graph ≡ length (shown_by places.now.keys) }
+    requires vertices { n_of builder.old.graph ≡ length rows.now.rows }
+    requires places { IsIndexOf rows.now.rows places.now }
     requires few { n_of builder.old.graph ≤ 65535 }
-    requires closed { LeadsWithin (shown_by places.now.keys) row.old }
-    ensures { Inserts builder.old builder.new (exchanges_of (shown_by places.now.keys) to.0 row.old) result }
+    requires closed { LeadsWithin rows.now.rows row.old }
+    ensures { Inserts builder.old builder.new (exchanges_of rows.now.rows to.0 row.old) result }
 {
     for place in 0..row.len().saturating_sub(1) {
         if row[place + 1] < row[place] {
             row.swap(place, place + 1);
-            let from = place_of(places, row);
+            let from = find_row(rows, places, row);
             row.swap(place, place + 1);
             builder.insert(VertexNo(from as u32), to, 1)?;
         }

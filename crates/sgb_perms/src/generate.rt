@@ -10,7 +10,7 @@ use crate::exchanges::insert_exchanges;
 use crate::judge::count_arrangements;
 use crate::listing::list_arrangements;
 use crate::names::{id_of_perms, name_vertices};
-use crate::places::index_rows;
+use crate::places::index_places;
 use sgb_graph::{Builder, Graph, Refusal, Types};
 use std::alloc::Global;
 
@@ -38,7 +38,7 @@ pub fn perms(alloc: Global, spec: &PermsSpec) -> Result<Graph, Refusal>
     let id = id_of_perms(alloc, spec, most as u32)?;
     let mut builder = Builder::new(alloc, id, Types::none(), spec.directed);
     name_vertices(&mut builder, alloc, &rows)?;
-    let places = index_rows(alloc, &rows)?;
+    let places = index_places(alloc, &rows)?;
     insert_exchanges(&mut builder, alloc, &rows, &places)?;
     Ok(builder.finish())
 }

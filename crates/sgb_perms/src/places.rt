@@ -1,8 +1,8 @@
 //! Finds the vertex of an arrangement.
-ghost use Rattle.std.specs.Prelude.{◌≡◌, IfOk, IfErr};
+ghost use Rattle.std.specs.Prelude.{◌≡◌, ◌<◌, length, IfOk, IfErr, IfSome};
 ghost use Rattle.sgb_plan.specs.Distinct.{Distinct};
 ghost use Rattle.sgb_perms.specs.Perms.{place_of};
-ghost use Rattle.sgb_perms.specs.Private.Places.{shown_by};
+ghost use Rattle.sgb_perms.specs.Private.Places.{shown_by, word_of, IsWordsOf, IsIndexOf};
 
 use crate::rows::Rows;
 use indexmap::IndexSet;
@@ -10,8 +10,54 @@ use sgb_graph::Refusal;
 use sgb_plan::Key;
 use std::alloc::Global;
 
+// The rows as they are looked up: by their words where no two rows have the same, and else by their bytes.
+#[derive(Drop)]
+pub(crate) enum Places<'a> {
+    ByWord(IndexSet<u64>),
+    ByBytes(IndexSet<Key<'a>>),
+}
+
 // The rows as they are looked up.
-pub(crate) fn index_rows<'a>(alloc: Global, rows: &'a Rows) -> Result<IndexSet<Key<'a>>, Refusal>
+pub(crate) fn index_places<'a>(alloc: Global, rows: &'a Rows) -> Result<Places<'a>, Refusal>
+    requires { Distinct rows.now.rows }
+    ensures ok { IfOk result (λ places. IsIndexOf rows.now.rows places) }
+    ensures err { IfErr result (λ e. e ≡ Refusal.NoRoom) }
+{
+    match index_words(alloc, rows)? {
+        Some(words) => Ok(Places::ByWord(words)),
+        None => Ok(Places::ByBytes(index_rows(alloc, rows)?)),
+    }
+}
+
+// The words of the rows, or none where two rows have the same.
+fn index_words(alloc: Global, rows: &Rows) -> Result<Option<IndexSet<u64>>, Refusal>
+    ensures ok { IfOk result (λ found. IfSome found (λ words. IsWordsOf rows.now.rows words.keys)) }
+    ensures err { IfErr result (λ e. e ≡ Refusal.NoRoom) }
+{
+    let mut words = IndexSet::with_capacity(alloc, rows.len())?;
+    for v in 0..rows.len() {
+        let is_new = words.insert(word_of(rows.row(v)))?;
+        if !is_new {
+            return Ok(None);
+        }
+    }
+    Ok(Some(words))
+}
+
+// A number of the row. Rows of up to 12 elements, which are below 16, have different ones.
+#[inline]
+fn word_of(row: &[u8]) -> u64
+    ensures { result ≡ word_of row.now }
+{
+    let mut word: u64 = 0;
+    for kind in row {
+        word = word.wrapping_mul(31).wrapping_add(*kind as u64);
+    }
+    word
+}
+
+// The bytes of the rows.
+fn index_rows<'a>(alloc: Global, rows: &'a Rows) -> Result<IndexSet<Key<'a>>, Refusal>
     requires { Distinct rows.now.rows }
     ensures ok { IfOk result (λ places. shown_by places.keys ≡ rows.now.rows) }
     ensures err { IfErr result (λ e. e ≡ Refusal.NoRoom) }
@@ -24,8 +70,20 @@ pub(crate) fn index_rows<'a>(alloc: Global, rows: &'a Rows) -> Result<IndexSet<K
 }
 
 // The place of the row, or how many there are where it is none of them.
-pub(crate) fn place_of(places: &IndexSet<Key<'_>>, row: &[u8]) -> usize
+fn place_of(places: &IndexSet<Key<'_>>, row: &[u8]) -> usize
     ensures { result ≡ place_of (shown_by places.now.keys) row.now }
 {
     places.get_index_of(&Key::lent(row)).unwrap_or(places.len())
+}
+
+// The place of the row, which is one of them.
+pub(crate) fn find_row(rows: &Rows, places: &Places<'_>, row: &[u8]) -> usize
+    requires places { IsIndexOf rows.now.rows places.now }
+    requires within { place_of rows.now.rows row.now < length rows.now.rows }
+    ensures { result ≡ place_of rows.now.rows row.now }
+{
+    match places {
+        Places::ByWord(words) => words.get_index_of(&word_of(row)).unwrap_or(rows.len()),
+        Places::ByBytes(keys) => place_of(keys, row),
+    }
 }

@@ -1,12 +1,35 @@
 -- Rows by which a vertex is looked up.
-use Rattle.std.specs.Prelude.{◌≡◌, ◌<◌, ◌+◌, ℕ, List, length, map, true}
+use Rattle.std.specs.Prelude.{◌≡◌, ◌<◌, ◌+◌, ◌*◌, ◌^◌, ◌%◌, ℕ, List, [], ◌∷◌, length, map, true}
 use Rattle.sgb_plan.specs.declared.key.Key.{Key}
+use Rattle.sgb_plan.specs.Distinct.{Distinct}
 use Rattle.sgb_plan.specs.Key.{bytes_of}
+use Rattle.sgb_perms.specs.declared.places.Places.{Places}
+use Rattle.sgb_perms.specs.declared.places.Places.TheVariants.{ByWord, ByBytes}
 use Rattle.sgb_perms.specs.Arrangement.{is_descent, exchanged}
 use Rattle.sgb_perms.specs.Perms.{place_of, row_at}
 
 abbrev pub shown_by : List Key → List (List ℕ)
 shown_by keys = map bytes_of keys
+
+-- a row's word: its kinds are digits, as far as a word has room
+abbrev pub with_digit : ℕ → ℕ → ℕ
+with_digit word kind = (word * 31 % 2 ^ 64 + kind) % 2 ^ 64
+
+unfoldable pub word_from : ℕ → List ℕ → ℕ
+word_from word [] = word
+word_from word (kind ∷ kinds) = word_from (with_digit word kind) kinds
+
+abbrev pub word_of : List ℕ → ℕ
+word_of row = word_from 0 row
+
+-- the words of the rows, of which no two have the same
+pub record IsWordsOf (rows : List (List ℕ)) (words : List ℕ) : Type 0 where
+  pub are : words ≡ map word_of rows
+  pub apart : Distinct words
+
+abbrev pub IsIndexOf : List (List ℕ) → Places → Type 0
+IsIndexOf rows (ByWord words) = IsWordsOf rows words.keys
+IsIndexOf rows (ByBytes keys) = shown_by keys.keys ≡ rows
 
 -- each exchange of the row leads to one of the rows
 abbrev pub LeadsWithin : List (List ℕ) → List ℕ → Type 0

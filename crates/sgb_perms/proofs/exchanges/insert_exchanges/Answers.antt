@@ -4,11 +4,8 @@ use Rattle.sgb_graph.specs.declared.builder.Builder.{Builder}
 use Rattle.sgb_graph.specs.Builder.{grown}
 use Rattle.sgb_graph.proofs.Inserting.{LeftFrom, RefusesInsertions, from_start, from_some, from_refused, from_end, from_n}
 use Rattle.sgb_perms.specs.Perms.{exchanges, exchanges_of, row_at}
-use Rattle.sgb_perms.specs.Private.Places.{shown_by, LeadsWithin}
+use Rattle.sgb_perms.specs.Private.Places.{LeadsWithin}
 use Rattle.sgb_perms.proofs.exchanges.insert_exchanges.Goals as goal
-
-leads : (rows keys : List (List ℕ)) (a row : List ℕ) → keys ≡ rows → row ≡ a → LeadsWithin rows a → LeadsWithin keys row
-leads rows keys a row same is closed = subst (λ rs. LeadsWithin rs row) (sym same) (subst (LeadsWithin rows) (sym is) closed)
 
 exchanges_start : (b : Builder) (rows : List (List ℕ)) → LeftFrom b (exchanges rows) b (λ v. exchanges_of rows v (row_at rows v)) 0 (length rows)
 unfolding exchanges
@@ -24,7 +21,7 @@ pub insert_to-requires-clause-vertex : goal.insert_to-requires-clause-vertex
 insert_to-requires-clause-vertex c = omega (arith, from_n c.loop-v.invariant, c.requires.vertices, c.len-v-end.ensures.value)
 
 pub insert_to-requires-clause-vertices : goal.insert_to-requires-clause-vertices
-insert_to-requires-clause-vertices c = from_n c.loop-v.invariant ∙ (c.requires.vertices ∙ ap length (sym c.requires.places))
+insert_to-requires-clause-vertices c = from_n c.loop-v.invariant ∙ c.requires.vertices
 
 pub insert_to-requires-clause-few : goal.insert_to-requires-clause-few
 insert_to-requires-clause-few c = omega (arith, from_n c.loop-v.invariant, c.requires.vertices, c.len-v-end.ensures.value, c.len-v-end.ensures.few)
@@ -34,7 +31,7 @@ insert_to-requires-clause-closed c =
     let rows = c.args.rows.now.rows in
     let is : c.deref_mut.result.now ≡ row_at rows c.loop-v.v =
     c.deref_mut.ensures.value ∙ (c.in_ok-extend_from_slice.ensures.items ∙ ap₂ (λ xs ys. xs ++ ys) c.clear.ensures.items c.row.ensures.value) in
-    leads rows (shown_by c.args.places.now.keys) (row_at rows c.loop-v.v) c.deref_mut.result.now c.requires.places is
+    subst (LeadsWithin rows) (sym is)
     (c.requires.closed c.loop-v.v (omega (arith, c.len-v-end.ensures.value)))
 
 pub returns-in_err-insert_to : goal.returns-in_err-insert_to
@@ -45,7 +42,7 @@ returns-in_err-insert_to c =
     c.deref_mut.ensures.value ∙ (c.in_ok-extend_from_slice.ensures.items ∙ ap₂ (λ xs ys. xs ++ ys) c.clear.ensures.items c.row.ensures.value) in
     let refused : RefusesInsertions c.loop-v.builder (exchanges_of rows c.loop-v.v (row_at rows c.loop-v.v)) c.in_err-insert_to.field-0.0 =
     subst (λ es. RefusesInsertions c.loop-v.builder es c.in_err-insert_to.field-0.0)
-    (ap₂ (λ rs a. exchanges_of rs c.loop-v.v a) c.requires.places is) c.in_err-insert_to.ensures in
+    (ap (exchanges_of rows c.loop-v.v) is) c.in_err-insert_to.ensures in
     rw (p.1, p.2) (from_refused (omega (arith, c.len-v-end.ensures.value)) c.loop-v.invariant refused)
 
 pub loop-v-preserved : goal.loop-v-preserved
@@ -54,7 +51,7 @@ loop-v-preserved c =
     let is : c.deref_mut.result.now ≡ row_at rows c.loop-v.v =
     c.deref_mut.ensures.value ∙ (c.in_ok-extend_from_slice.ensures.items ∙ ap₂ (λ xs ys. xs ++ ys) c.clear.ensures.items c.row.ensures.value) in
     from_some (omega (arith, c.len-v-end.ensures.value)) c.loop-v.invariant
-    (c.in_ok-insert_to.ensures ∙ ap₂ (λ rs a. grown c.loop-v.builder (exchanges_of rs c.loop-v.v a)) c.requires.places is)
+    (c.in_ok-insert_to.ensures ∙ ap (λ a. grown c.loop-v.builder (exchanges_of rows c.loop-v.v a)) is)
 
 pub returns : goal.returns
 returns c = from_end (omega (arith, c.len-v-end.ensures.value)) c.loop-v.invariant

@@ -159,8 +159,8 @@ returns-in_err-name_vertices-clause-made c =
     rw (p.1, p.2)
     (names_refused s counts most rows c.new-builder.result c.in_err-name_vertices.field-0.0 known are begun_so c.in_err-name_vertices.ensures)
 
-pub index_rows-requires : goal.index_rows-requires
-index_rows-requires c =
+pub index_places-requires : goal.index_places-requires
+index_places-requires c =
     subst Distinct (sym (ap (λ (r : RowsOf). r.rows) c.in_ok-rows.ensures.ok)) (arrangements_differ (take c.in_ok-kinds.kinds c.counts_of.new.places) c.most_of-most.result)
 
 pub insert_exchanges-requires-clause-vertices : goal.insert_exchanges-requires-clause-vertices
