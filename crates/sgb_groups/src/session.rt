@@ -6,7 +6,7 @@ use crate::grouped::{GroupedCommand, GroupedDelta, GroupedReply};
 use sgb_script::ShellRefusal;
 use sgb_session::Session;
 use sgb_undo::{GroupRefusal, Reversible, apply_all, revert_all};
-use std::alloc::Global;
+use std::alloc::{AllocError, Global};
 use std::marker::Model;
 
 /// A session whose commands come one by one or in groups. It is seen as its session, and keeps the laws of
@@ -104,6 +104,11 @@ impl Reversible for GroupedSession {
             GroupedDelta::One(one) => self.session.revert(one),
             GroupedDelta::Group(members) => revert_all(&mut self.session, members),
         }
+    }
+
+    /// Takes the room that the session takes.
+    fn reserve(&mut self, count: usize) -> Result<(), AllocError> {
+        self.session.reserve(count)
     }
 
     fn is_memory(refusal: &ShellRefusal) -> bool {

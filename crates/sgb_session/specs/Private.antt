@@ -1,4 +1,5 @@
 -- What serves private functions only.
 pub mod Slots
+pub mod Past
 pub mod Working
 pub mod Making

@@ -5,12 +5,14 @@ mod boxed;
 mod edit;
 mod making;
 mod mark;
+mod past;
 mod reply;
 mod session;
 mod table;
 
 pub use boxed::Boxed;
 pub use mark::Mark;
+pub use past::Past;
 pub use reply::{Delta, Reply, Source};
 pub use session::{MOST_DRAWS, MOST_UNIFORM, Session};
 pub use table::{Entry, MOST_GRAPHS};

@@ -54,6 +54,19 @@ impl Mark {
         }
     }
 
+    /// The generator of a seed, from which so many numbers were drawn.
+    pub(crate) fn drawn_anew(seed: u32, draws: u64) -> Mark
+        requires small { seed < 2 ^ 31 }
+        requires few { draws < 2 ^ 63 }
+        ensures { result ≡ record { seed = seed; draws = draws } }
+    {
+        let mut flip = Flip::new(i64::from(seed));
+        for _draw in 0..draws {
+            let _number = flip.next();
+        }
+        Mark { flip, seed, draws }
+    }
+
     /// Draws one number below 2^31.
     #[inline]
     pub fn next(&mut self) -> u32

@@ -2,6 +2,7 @@
 
 use crate::boxed::Boxed;
 use crate::mark::Mark;
+use crate::past::Past;
 use sgb_combine::LengthsDelta;
 use sgb_graph::{ArcNo, Graph, GraphDelta};
 use sgb_script::Name;
@@ -9,8 +10,8 @@ use sgb_script::Name;
 /// What undoing a command needs beside the command. It holds no copy of a graph or of the table.
 #[derive(Drop, PartialEq, Eq)]
 pub enum Delta {
-    /// The generator before a seeding.
-    Seed(Mark),
+    /// The generator before a seeding, by its seed and its draws.
+    Seed(Past),
     /// How many numbers were drawn.
     Draws(u64),
     /// A graph was made; it stands last in the table.

@@ -9,6 +9,7 @@ ghost use Rattle.sgb_session.specs.State.{is_spent};
 
 use crate::making::{find_operands, goes_on, make_boxed};
 use crate::mark::Mark;
+use crate::past::{Past, keep, take_back};
 use crate::reply::{Delta, Reply};
 use crate::table::{MOST_GRAPHS, Table};
 use sgb_combine::LengthsSpec;
@@ -16,7 +17,7 @@ use sgb_graph::{Graph, Refusal};
 use sgb_make::Seed;
 use sgb_script::{Command, Edit, Maker, Name, ShellRefusal};
 use sgb_undo::Reversible;
-use std::alloc::Global;
+use std::alloc::{AllocError, Global};
 use std::marker::Model;
 
 /// No number is drawn any more where so many were drawn since the seeding.
@@ -30,6 +31,8 @@ pub const MOST_UNIFORM: i64 = 1 << 31;
 pub struct Session {
     alloc: Global,
     generator: Mark,
+    // Generators that seedings replaced, as far as there was room for them. They make the undoing of a seeding quick.
+    marks: Vec<Mark>,
     table: Table,
 }
 
@@ -52,6 +55,7 @@ impl Session {
         Session {
             alloc,
             generator: Mark::new(0),
+            marks: Vec::new(alloc),
             table: Table::new(),
         }
     }
@@ -281,7 +285,8 @@ impl Reversible for Session {
     {
         match command {
             Command::Seed(seed) => {
-                let before = self.generator;
+                let before = Past::of(&self.generator);
+                keep(&mut self.marks, &self.generator);
                 self.generator = Mark::new(*seed);
                 Ok((Delta::Seed(before), Reply::Done))
             }
@@ -296,7 +301,7 @@ impl Reversible for Session {
 
     fn revert(&mut self, delta: Delta) {
         match delta {
-            Delta::Seed(mark) => self.generator = mark,
+            Delta::Seed(past) => self.generator = take_back(&mut self.marks, past),
             Delta::Draws(draws) => self.generator.back_by(draws),
             Delta::Made => self.table.pop(),
             Delta::MadeBy(source) => {
@@ -310,6 +315,11 @@ impl Reversible for Session {
             }
             Delta::Dropped(place, name, graph) => self.table.insert(place, name, graph),
         }
+    }
+
+    /// Takes room for the generators that so many seedings replace.
+    fn reserve(&mut self, count: usize) -> Result<(), AllocError> {
+        self.marks.reserve(count)
     }
 
     fn is_memory(refusal: &ShellRefusal) -> bool {

@@ -24,7 +24,8 @@ fn seed_and_back(
     mark: &Mark,
 ) -> Result<Option<(u32, u64, u32)>, ShellRefusal> {
     let (delta, reply) = session.apply(&Command::Seed(seed))?;
-    let is_kept = matches!(&delta, Delta::Seed(before) if before == mark);
+    let is_kept =
+        matches!(&delta, Delta::Seed(before) if (before.seed(), before.draws()) == (mark.seed(), mark.draws()));
     let between = session.generator();
     session.revert(delta);
     if is_kept && reply == Reply::Done {

@@ -24,7 +24,7 @@ pub use sgb_script::{
     Command, Edit, LINE_LIMIT, Line, Maker, NAME_LIMIT, Name, Query, ShellRefusal, parse,
 };
 pub use sgb_session::{
-    Boxed, Delta, Entry, MOST_DRAWS, MOST_GRAPHS, MOST_UNIFORM, Mark, Reply, Session, Source,
+    Boxed, Delta, Entry, MOST_DRAWS, MOST_GRAPHS, MOST_UNIFORM, Mark, Past, Reply, Session, Source,
 };
 pub use sgb_text::CheckRule;
 pub use status::exit_status;

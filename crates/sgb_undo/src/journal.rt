@@ -76,7 +76,7 @@ impl<M: Reversible> Journal<M> {
         if standing == MOST_COMMANDS {
             return Err(JournalRefusal::Full);
         }
-        if make_place(&mut self.commands, &mut self.deltas).is_err() {
+        if make_place(&mut self.machine, &mut self.commands, &mut self.deltas).is_err() {
             return Err(JournalRefusal::NoRoom);
         }
         match self.machine.apply(&command) {
@@ -175,11 +175,17 @@ impl<M: Reversible> Journal<M> {
     }
 }
 
-/// Makes a place for one more command and its delta. It takes memory only where each command has its
-/// delta, so that nothing is undone, and a multiple of [`GROWTH`] stand.
-fn make_place<C, D>(commands: &mut Vec<C>, deltas: &mut Vec<D>) -> Result<(), AllocError>
+/// Makes a place for one more command and its delta, and for what the machine keeps of it. It takes
+/// memory only where each command has its delta, so that nothing is undone, and a multiple of
+/// [`GROWTH`] stand.
+fn make_place<M: Reversible>(
+    machine: &mut M,
+    commands: &mut Vec<M::Command>,
+    deltas: &mut Vec<M::Delta>,
+) -> Result<(), AllocError>
     requires within { vec_len deltas.old ≤ vec_len commands.old }
     requires placed { vec_len commands.old ≤ places (vec_capacity commands.old) (vec_capacity deltas.old) }
+    ensures machine { machine.new ≡ machine.old }
     ensures commands { commands.new.items ≡ commands.old.items }
     ensures deltas { deltas.new.items ≡ deltas.old.items }
     ensures place { OnOk result (vec_len deltas.new < places (vec_capacity commands.new) (vec_capacity deltas.new)) }
@@ -191,6 +197,7 @@ fn make_place<C, D>(commands: &mut Vec<C>, deltas: &mut Vec<D>) -> Result<(), Al
     if deltas.len() == commands.len() && deltas.len() % GROWTH == 0 {
         commands.reserve(GROWTH)?;
         deltas.reserve(GROWTH)?;
+        machine.reserve(GROWTH)?;
     }
     Ok(())
 }

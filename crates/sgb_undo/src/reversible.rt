@@ -3,6 +3,8 @@
 ghost use Rattle.std.specs.Prelude.{◌≡◌, ◌⊎◌, Bool, true, IfOk, IfErr, OnErr};
 ghost use Rattle.sgb_undo.specs.Outcome.{Outcome, Accepted, Refused};
 
+use std::alloc::AllocError;
+
 /// A machine that answers each accepted command with a reply and with a delta, from which the
 /// value before the command can be had back.
 ///
@@ -46,6 +48,13 @@ pub trait Reversible: Drop {
     fn revert(&mut self, delta: Self::Delta)
         requires { can_revert self.old delta }
         ensures { self.new ≡ before self.old delta };
+
+    /// Takes room for what so many commands keep beside their deltas. Most machines keep nothing there.
+    fn reserve(&mut self, _count: usize) -> Result<(), AllocError>
+        ensures same { self.new ≡ self.old }
+    {
+        Ok(())
+    }
 
     /// Whether a refusal is for want of memory.
     fn is_memory(refusal: &Self::Refusal) -> bool

@@ -9,8 +9,8 @@ use Rattle.sgb_undo.proofs.journal.Journal.apply.Goals.{After-push_reserved-in-O
 abbrev answer : (g : Over) (c : After-push_reserved-in-Ok g) → Answers g.M.Reversible.step g.M.Reversible.before g.M.Reversible.can_revert c.self.inside.machine c.args.command c.in-Ok.delta c.apply.new.self
 answer g c = record {
   reply = c.in-Ok.reply;
-  accepted = c.in-Ok.ensures.accepted;
-  back = c.in-Ok.ensures.before;
+  accepted = ap (λ m. g.M.Reversible.step m c.args.command) (sym c.make_place.ensures.machine) ∙ c.in-Ok.ensures.accepted;
+  back = c.in-Ok.ensures.before ∙ c.make_place.ensures.machine;
   revertible = c.in-Ok.ensures.can_revert;
 }
 
@@ -39,7 +39,7 @@ make_place-requires-clause-within g c =
 
 pub returns-then-is_err-clause-sound : goal.returns-then-is_err-clause-sound
 returns-then-is_err-clause-sound g c =
-    IsJournal-same c.self.invariant refl c.make_place.ensures.commands c.make_place.ensures.deltas c.make_place.new.deltas.ok.0
+    IsJournal-same c.self.invariant c.make_place.ensures.machine c.make_place.ensures.commands c.make_place.ensures.deltas c.make_place.new.deltas.ok.0
 
 pub invariant_of-self-in-Ok : goal.invariant_of-self-in-Ok
 invariant_of-self-in-Ok g c =
@@ -72,7 +72,7 @@ returns-in-Err-clause-full g c = (
 
 pub returns-in-Err-clause-sound : goal.returns-in-Err-clause-sound
 returns-in-Err-clause-sound g c =
-    IsJournal-same c.self.invariant c.in-Err.ensures.err c.make_place.ensures.commands c.make_place.ensures.deltas c.make_place.new.deltas.ok.0
+    IsJournal-same c.self.invariant (c.in-Err.ensures.err ∙ c.make_place.ensures.machine) c.make_place.ensures.commands c.make_place.ensures.deltas c.make_place.new.deltas.ok.0
 
 pub returns-in-Ok-clause-start : goal.returns-in-Ok-clause-start
 returns-in-Ok-clause-start g c = let ok = returns-in-Ok-clause-ok g c in ok.start
