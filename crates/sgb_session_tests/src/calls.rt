@@ -1,15 +1,12 @@
-//! Single calls of the session's graphs.
+//! Single calls of the session's graphs. What a line is answered stands in `tests/corpus/`.
 
-use crate::journals::{apply, undo};
-use sgb_shell::{
-    Command, Delta, Edit, Line, Maker, Name, Query, Reply, Session, ShellRefusal, parse,
-};
-use sgb_undo::{Journal, Reversible};
+use sgb_shell::{Command, Delta, Line, Name, Reply, Session, ShellRefusal, parse};
+use sgb_undo::Reversible;
 use std::alloc::Global;
 use std::test::Fail;
 
-/// What a line asks for.
-pub fn read(alloc: Global, line: &[u8]) -> Result<Line, ShellRefusal> {
+// What a line asks for.
+fn read(alloc: Global, line: &[u8]) -> Result<Line, ShellRefusal> {
     parse(alloc, line)
 }
 
@@ -58,17 +55,11 @@ fn found(session: &Session, name: &[u8]) -> Result<Option<usize>, ShellRefusal> 
 }
 
 #[test]
-fn graphs_are_counted_and_named(rt: HostRuntime) -> Result<(), Fail> {
+fn graphs_are_counted_and_found(rt: HostRuntime) -> Result<(), Fail> {
     let session = two_graphs(rt.alloc())?;
     assert!(rt; session.len() == 2);
     assert!(rt; is_named(&session, 0, b"a"));
     assert!(rt; counts_of(&session, 1) == Some((2, 3, 3)));
-    Ok(())
-}
-
-#[test]
-fn graphs_are_found_by_name(rt: HostRuntime) -> Result<(), Fail> {
-    let session = two_graphs(rt.alloc())?;
     for (name, place) in [(b"a", Some(0)), (b"b", Some(1)), (b"A", None)] {
         assert!(rt; found(&session, name)? == place);
     }
@@ -92,17 +83,29 @@ fn gives_back(delta: &Delta, place: usize, name: &[u8], arcs: u32) -> bool {
     }
 }
 
+// What a line's delta takes back: a seed, one draw, a new graph, or the drop of b with three arcs.
+fn kind_of(
+    alloc: Global,
+    session: &mut Session,
+    line: &[u8],
+) -> Result<&'static str, ShellRefusal> {
+    let delta = delta_of(alloc, session, line)?;
+    Ok(match &delta {
+        Delta::Seed(_) => "seed",
+        Delta::Draws(1) => "draw",
+        Delta::Made => "graph",
+        other if gives_back(other, 1, b"b", 3) => "drop",
+        _ => "another",
+    })
+}
+
 #[test]
 fn each_kind_of_delta_is_left(rt: HostRuntime) -> Result<(), Fail> {
     let mut session = two_graphs(rt.alloc())?;
-    let seeded = delta_of(rt.alloc(), &mut session, b"seed 3")?;
-    assert!(rt; matches!(seeded, Delta::Seed(_)));
-    let drawn = delta_of(rt.alloc(), &mut session, b"unif 1")?;
-    assert!(rt; matches!(drawn, Delta::Draws(1)));
-    let made = delta_of(rt.alloc(), &mut session, b"graph c 3")?;
-    assert!(rt; matches!(made, Delta::Made));
-    let dropped = delta_of(rt.alloc(), &mut session, b"drop b")?;
-    assert!(rt; gives_back(&dropped, 1, b"b", 3));
+    assert!(rt; kind_of(rt.alloc(), &mut session, b"seed 3")? == "seed");
+    assert!(rt; kind_of(rt.alloc(), &mut session, b"unif 1")? == "draw");
+    assert!(rt; kind_of(rt.alloc(), &mut session, b"graph c 3")? == "graph");
+    assert!(rt; kind_of(rt.alloc(), &mut session, b"drop b")? == "drop");
     Ok(())
 }
 
@@ -131,34 +134,6 @@ fn an_edit_tells_its_place(rt: HostRuntime) -> Result<(), Fail> {
     Ok(())
 }
 
-// What a line is answered.
-fn reply_to(alloc: Global, session: &mut Session, line: &[u8]) -> Result<Reply, ShellRefusal> {
-    let (_delta, reply) = done(alloc, session, line)?;
-    Ok(reply)
-}
-
-#[test]
-fn each_kind_of_reply_is_given(rt: HostRuntime) -> Result<(), Fail> {
-    let mut session = two_graphs(rt.alloc())?;
-    let answered = reply_to(rt.alloc(), &mut session, b"id a \"\"")?;
-    assert!(rt; matches!(answered, Reply::Done));
-    let drawn = reply_to(rt.alloc(), &mut session, b"next")?;
-    assert!(rt; matches!(drawn, Reply::Number(2_029_883_356)));
-    let made = reply_to(rt.alloc(), &mut session, b"graph c 3")?;
-    assert!(rt; matches!(made, Reply::Made(_, 3, 0)));
-    Ok(())
-}
-
-#[test]
-fn replies_give_the_numbers_of_arcs(rt: HostRuntime) -> Result<(), Fail> {
-    let mut session = two_graphs(rt.alloc())?;
-    let arc = reply_to(rt.alloc(), &mut session, b"arc b 1 1 0")?;
-    assert!(rt; matches!(arc, Reply::Arc(number) if number.0 == 3));
-    let edge = reply_to(rt.alloc(), &mut session, b"edge b 1 1 0")?;
-    assert!(rt; matches!(edge, Reply::Edge(first, second) if first.0 == 4 && second.0 == 5));
-    Ok(())
-}
-
 // The number of a new arc of b.
 fn arc_made(alloc: Global, session: &mut Session) -> Result<u32, ShellRefusal> {
     match done(alloc, session, b"arc b 0 1 7")? {
@@ -174,96 +149,4 @@ fn thousands_of_arcs_are_applied(rt: HostRuntime) -> Result<(), Fail> {
         assert!(rt; arc_made(rt.alloc(), &mut session)? == number);
     }
     Ok(())
-}
-
-// What is said to a line that ends in a text of so many letters.
-fn text_refused(
-    alloc: Global,
-    session: &mut Session,
-    front: &str,
-    letters: usize,
-) -> Result<Option<ShellRefusal>, Fail> {
-    let text = vec![in alloc; b'a'; letters]?;
-    let mut line = Vec::from_slice(alloc, front.as_bytes())?;
-    line.extend_from_slice(&text)?;
-    line.push(b'"')?;
-    Ok(done(alloc, session, line.as_slice()).err())
-}
-
-#[test]
-fn the_longest_texts_are_applied(rt: HostRuntime) -> Result<(), Fail> {
-    let mut session = two_graphs(rt.alloc())?;
-    for front in [
-        "label b 0 \"",
-        "set b V0 u \"",
-        "set b A0 a \"",
-        "set b G zz \"",
-    ] {
-        let refused = text_refused(rt.alloc(), &mut session, front, 4095)?;
-        assert!(rt; refused.is_none(), "{front}");
-    }
-    let bad = Some(ShellRefusal::BadOperand);
-    for (letters, want) in [(4095, bad), (161, bad), (160, None)] {
-        let refused = text_refused(rt.alloc(), &mut session, "id b \"", letters)?;
-        assert!(rt; refused == want, "{letters} letters");
-    }
-    Ok(())
-}
-
-// Where the graph of this name stands.
-fn place_of(journal: &Journal<Session>, name: &Name) -> Option<usize> {
-    journal.machine().find(name)
-}
-
-#[test]
-fn a_journal_takes_a_drop_back(rt: HostRuntime) -> Result<(), Fail> {
-    let mut journal = Journal::new(rt.alloc(), two_graphs(rt.alloc())?);
-    let name = named(b"a")?;
-    assert!(rt; apply(&mut journal, Command::Drop(name)) == Some(Reply::Done));
-    assert!(rt; place_of(&journal, &name).is_none());
-    assert!(rt; undo(&mut journal));
-    assert!(rt; place_of(&journal, &name) == Some(0));
-    assert!(rt; place_of(&journal, &named(b"b")?) == Some(1));
-    Ok(())
-}
-
-// The number of vertices that a line gives a graph.
-fn vertices_of(alloc: Global, line: &[u8]) -> Option<i64> {
-    match read(alloc, line) {
-        Ok(Line::Change(Command::Make(_, Maker::Empty(n)))) => Some(n),
-        _ => None,
-    }
-}
-
-fn is_cut(alloc: Global, line: &[u8]) -> bool {
-    matches!(
-        read(alloc, line),
-        Ok(Line::Change(Command::Edit(_, Edit::Cut(_))))
-    )
-}
-
-fn is_list(alloc: Global, line: &[u8]) -> bool {
-    matches!(read(alloc, line), Ok(Line::Ask(Query::List)))
-}
-
-fn is_show(alloc: Global, line: &[u8]) -> bool {
-    matches!(read(alloc, line), Ok(Line::Ask(Query::Show(_))))
-}
-
-fn is_undo(alloc: Global, line: &[u8]) -> bool {
-    matches!(read(alloc, line), Ok(Line::Undo))
-}
-
-fn is_redo(alloc: Global, line: &[u8]) -> bool {
-    matches!(read(alloc, line), Ok(Line::Redo))
-}
-
-#[test]
-fn lines_of_graphs_are_read(rt: HostRuntime) {
-    assert!(rt; vertices_of(rt.alloc(), b"graph g -5") == Some(-5));
-    assert!(rt; is_cut(rt.alloc(), b"cut g -1"));
-    assert!(rt; is_list(rt.alloc(), b"list"));
-    assert!(rt; is_show(rt.alloc(), b"show g"));
-    assert!(rt; is_undo(rt.alloc(), b" undo"));
-    assert!(rt; is_redo(rt.alloc(), b"redo "));
 }

@@ -1,9 +1,7 @@
-//! Tests of single calls of a session, of its journal, and of the language of its lines.
+//! Tests of single calls of a session.
 #![tactic(auto)]
 
 #[cfg(test)]
 mod calls;
-#[cfg(test)]
-mod journals;
 #[cfg(test)]
 mod session;

@@ -1,12 +1,7 @@
-//! Single calls of the session's generator, and what is printed of refusals.
+//! Single calls of the session's generator, which refusal is for memory, and how a run ends.
 
-use crate::calls::read;
-use crate::journals::{apply, counts, generator, redo, undo};
-use sgb_shell::{
-    Command, Delta, Line, Mark, Query, Reply, RunFault, Session, ShellRefusal, exit_status,
-};
-use sgb_undo::{Journal, Reversible};
-use std::alloc::Global;
+use sgb_shell::{Command, Delta, Mark, Reply, RunFault, Session, ShellRefusal, exit_status};
+use sgb_undo::Reversible;
 use std::test::Fail;
 
 // The number that is drawn, where the delta counts one draw.
@@ -85,93 +80,26 @@ fn a_mark_goes_forward_and_back(rt: HostRuntime) {
 }
 
 #[test]
-fn a_journal_takes_a_seed_back(rt: HostRuntime) {
-    let mut journal = Journal::new(rt.alloc(), Session::new(rt.alloc()));
-    assert!(rt;
-        matches!(
-            apply(&mut journal, Command::Unif(6)),
-            Some(Reply::Number(_))
-        )
-    );
-    assert!(rt; apply(&mut journal, Command::Seed(5)) == Some(Reply::Done));
-    assert!(rt; generator(&journal) == (5, 0, 54));
-    assert!(rt; undo(&mut journal));
-    assert!(rt; generator(&journal) == (0, 1, 53));
-    assert!(rt; undo(&mut journal));
-    assert!(rt; generator(&journal) == (0, 0, 54));
-    assert!(rt; matches!(redo(&mut journal), Some(Reply::Number(_))));
-    assert!(rt; counts(&journal) == (1, 1));
-}
-
-// Whether the refusal prints this text.
-fn prints(alloc: Global, refusal: ShellRefusal, text: &str) -> Result<bool, Fail> {
-    let printed = refusal.to_string(alloc)?;
-    Ok(printed.as_str() == text)
-}
-
-#[test]
-fn refusals_print_their_texts(rt: HostRuntime) -> Result<(), Fail> {
-    let table = [
-        (ShellRefusal::NoRoom, 1, "no room"),
-        (ShellRefusal::CheckWrong, 11, "check number is wrong"),
-        (ShellRefusal::Syntax, 20, "bad saved graph"),
-        (ShellRefusal::BadSpecs, 30, "bad specification"),
-        (ShellRefusal::LengthRange, 31, "length range too wide"),
-        (ShellRefusal::TooLarge, 40, "too large"),
-        (ShellRefusal::NoGraph, 50, "no such graph"),
-        (ShellRefusal::BadOperand, 60, "bad operand"),
-        (ShellRefusal::ScriptSyntax, 100, "bad command"),
-        (ShellRefusal::TableFull, 101, "table is full"),
-        (ShellRefusal::NameTaken, 102, "name is taken"),
-        (ShellRefusal::NothingToUndo, 103, "nothing to undo"),
-        (ShellRefusal::NothingToRedo, 104, "nothing to redo"),
-        (ShellRefusal::JournalFull, 105, "journal is full"),
-        (ShellRefusal::Stuck, 106, "stuck"),
-    ];
-    for (refusal, number, text) in table {
-        assert!(rt; refusal.number() == number);
-        assert!(rt; refusal.text() == text);
-        assert!(rt; prints(rt.alloc(), refusal, text)?);
-        assert!(rt; Session::is_memory(&refusal) == (number == 1));
+fn one_refusal_is_for_memory(rt: HostRuntime) {
+    for refusal in [
+        ShellRefusal::CheckWrong,
+        ShellRefusal::Syntax,
+        ShellRefusal::BadSpecs,
+        ShellRefusal::LengthRange,
+        ShellRefusal::TooLarge,
+        ShellRefusal::NoGraph,
+        ShellRefusal::BadOperand,
+        ShellRefusal::ScriptSyntax,
+        ShellRefusal::TableFull,
+        ShellRefusal::NameTaken,
+        ShellRefusal::NothingToUndo,
+        ShellRefusal::NothingToRedo,
+        ShellRefusal::JournalFull,
+        ShellRefusal::Stuck,
+    ] {
+        assert!(rt; !Session::is_memory(&refusal));
     }
-    Ok(())
-}
-
-// The seed that a line gives.
-fn seed_of(alloc: Global, line: &[u8]) -> Option<i64> {
-    match read(alloc, line) {
-        Ok(Line::Change(Command::Seed(seed))) => Some(seed),
-        _ => None,
-    }
-}
-
-// The bound that a line gives a uniform number.
-fn bound_of(alloc: Global, line: &[u8]) -> Option<i64> {
-    match read(alloc, line) {
-        Ok(Line::Change(Command::Unif(bound))) => Some(bound),
-        _ => None,
-    }
-}
-
-fn is_gen(alloc: Global, line: &[u8]) -> bool {
-    matches!(read(alloc, line), Ok(Line::Ask(Query::Gen)))
-}
-
-fn is_nothing(alloc: Global, line: &[u8]) -> bool {
-    matches!(read(alloc, line), Ok(Line::Nothing))
-}
-
-fn is_refused(alloc: Global, line: &[u8]) -> bool {
-    matches!(read(alloc, line), Err(ShellRefusal::ScriptSyntax))
-}
-
-#[test]
-fn lines_are_read(rt: HostRuntime) {
-    assert!(rt; seed_of(rt.alloc(), b"  seed  -0007 ") == Some(-7));
-    assert!(rt; bound_of(rt.alloc(), b"unif 6") == Some(6));
-    assert!(rt; is_gen(rt.alloc(), b"gen"));
-    assert!(rt; is_nothing(rt.alloc(), b"# gen"));
-    assert!(rt; is_refused(rt.alloc(), b"gen gen"));
+    assert!(rt; Session::is_memory(&ShellRefusal::NoRoom));
 }
 
 #[test]
