@@ -3,6 +3,7 @@
 use crate::looks::{has_counts, has_id, has_label, is_arc};
 use sgb_graph::{Builder, Graph, Label, Refusal, Text, Types, Util, VertexNo};
 use std::alloc::Global;
+use std::process::Abort;
 use std::test::Fail;
 
 fn begun(alloc: Global, directed: bool) -> Result<Builder, Refusal> {
@@ -45,23 +46,35 @@ fn two_vertices(alloc: Global, directed: bool) -> Result<Graph, Refusal> {
 }
 
 // Where a growth is refused, the graph is asked for once more.
+fn two_vertices_again(alloc: Global) -> Result<Graph, Refusal> {
+    match two_vertices(alloc, false) {
+        Err(Refusal::NoRoom) => two_vertices(alloc, false),
+        made => made,
+    }
+}
+
 #[test]
 fn an_edge_is_inserted(rt: HostRuntime) -> Result<(), Fail> {
-    let graph = match two_vertices(rt.alloc(), false) {
-        Err(Refusal::NoRoom) => two_vertices(rt.alloc(), false)?,
-        made => made?,
-    };
-    assert!(rt; has_id(&graph, b"two"));
-    assert!(rt; has_label(&graph, 1, b"b"));
-    assert!(rt; has_counts(&graph, 2, 2));
-    assert!(rt; is_arc(&graph, 1, 1, 0, 9));
+    let graph = two_vertices_again(rt.alloc())?;
+    expect_edge(&rt, &graph);
     Ok(())
+}
+
+fn expect_edge(rt: &impl Abort, graph: &Graph) {
+    assert!(rt; has_id(graph, b"two"));
+    assert!(rt; has_label(graph, 1, b"b"));
+    assert!(rt; has_counts(graph, 2, 2));
+    assert!(rt; is_arc(graph, 1, 1, 0, 9));
 }
 
 #[test]
 fn an_arc_is_inserted(rt: HostRuntime) -> Result<(), Fail> {
     let graph = two_vertices(rt.alloc(), true)?;
-    assert!(rt; has_counts(&graph, 1, 1));
-    assert!(rt; is_arc(&graph, 0, 1, 0, 9));
+    expect_arc(&rt, &graph);
     Ok(())
+}
+
+fn expect_arc(rt: &impl Abort, graph: &Graph) {
+    assert!(rt; has_counts(graph, 1, 1));
+    assert!(rt; is_arc(graph, 0, 1, 0, 9));
 }

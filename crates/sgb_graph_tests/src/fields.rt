@@ -6,6 +6,7 @@ use sgb_graph::{
     ArcField, ArcNo, Graph, GraphDelta, Place, Refusal, Text, Types, Util, VertexField, VertexNo,
 };
 use std::alloc::Global;
+use std::process::Abort;
 use std::test::Fail;
 
 const FIELD: Place = Place::Vertex(VertexNo(0), VertexField::U);
@@ -46,10 +47,14 @@ fn set_vertex(graph: &mut Graph, number: u32) -> Result<(), Refusal> {
 #[test]
 fn a_field_names_what_is_there(rt: HostRuntime) -> Result<(), Fail> {
     let mut graph = new_graph(rt.alloc(), 1)?;
-    assert!(rt; set_arc(&mut graph, 0) == Err(Refusal::BadOperand));
-    arc(&mut graph, 0, 0, 1)?;
-    set_arc(&mut graph, 0)?;
-    assert!(rt; set_vertex(&mut graph, 1) == Err(Refusal::BadOperand));
+    name_in_field(&rt, &mut graph)
+}
+
+fn name_in_field(rt: &impl Abort, graph: &mut Graph) -> Result<(), Fail> {
+    assert!(rt; set_arc(graph, 0) == Err(Refusal::BadOperand));
+    arc(graph, 0, 0, 1)?;
+    set_arc(graph, 0)?;
+    assert!(rt; set_vertex(graph, 1) == Err(Refusal::BadOperand));
     Ok(())
 }
 
@@ -67,9 +72,13 @@ fn is_kept_by_its_own_field(graph: &mut Graph) -> Result<bool, Refusal> {
 #[test]
 fn a_named_arc_is_not_cut(rt: HostRuntime) -> Result<(), Fail> {
     let mut graph = one_loop(rt.alloc())?;
-    assert!(rt; is_kept_by_its_own_field(&mut graph)?);
-    cut(&mut graph, 0)?;
-    assert!(rt; has_counts(&graph, 1, 0));
+    cut_named(&rt, &mut graph)
+}
+
+fn cut_named(rt: &impl Abort, graph: &mut Graph) -> Result<(), Fail> {
+    assert!(rt; is_kept_by_its_own_field(graph)?);
+    cut(graph, 0)?;
+    assert!(rt; has_counts(graph, 1, 0));
     Ok(())
 }
 
@@ -100,6 +109,10 @@ fn first_unlike(
 #[test]
 fn values_are_kept(rt: HostRuntime) -> Result<(), Fail> {
     let mut graph = one_loop(rt.alloc())?;
+    keep_values(rt.alloc(), &rt, &mut graph)
+}
+
+fn keep_values(alloc: Global, rt: &impl Abort, graph: &mut Graph) -> Result<(), Fail> {
     let values = [
         (b'I', 0, b'Z'),
         (b'S', 0, b'Z'),
@@ -107,9 +120,9 @@ fn values_are_kept(rt: HostRuntime) -> Result<(), Fail> {
         (b'Z', 0, b'S'),
         (b'I', 7, b'Z'),
     ];
-    assert_eq!(rt; first_unlike(rt.alloc(), &mut graph, &values)?, None);
-    assert!(rt; is_seven(&graph));
-    assert!(rt; are_others_zero(&graph));
+    assert_eq!(rt; first_unlike(alloc, graph, &values)?, None);
+    assert!(rt; is_seven(graph));
+    assert!(rt; are_others_zero(graph));
     Ok(())
 }
 
@@ -142,10 +155,14 @@ fn id_and_back(graph: &mut Graph, id: Text) -> Result<usize, Refusal> {
 #[test]
 fn ids_have_a_limit(rt: HostRuntime) -> Result<(), Fail> {
     let mut graph = new_graph(rt.alloc(), 1)?;
-    let refused = id_and_back(&mut graph, letters(rt.alloc(), 161)?);
+    limit_ids(rt.alloc(), &rt, &mut graph)
+}
+
+fn limit_ids(alloc: Global, rt: &impl Abort, graph: &mut Graph) -> Result<(), Fail> {
+    let refused = id_and_back(graph, letters(alloc, 161)?);
     assert!(rt; refused == Err(Refusal::BadOperand));
-    assert!(rt; id_and_back(&mut graph, letters(rt.alloc(), 160)?)? == 160);
-    assert!(rt; has_id(&graph, b"gb_new_graph(1)"));
+    assert!(rt; id_and_back(graph, letters(alloc, 160)?)? == 160);
+    assert!(rt; has_id(graph, b"gb_new_graph(1)"));
     Ok(())
 }
 
@@ -157,9 +174,13 @@ fn set_label(graph: &mut Graph, vertex: u32, label: Text) -> Result<(), Refusal>
 #[test]
 fn labels_are_set(rt: HostRuntime) -> Result<(), Fail> {
     let mut graph = new_graph(rt.alloc(), 1)?;
-    set_label(&mut graph, 0, text(rt.alloc(), b"a name")?)?;
-    assert!(rt; has_label(&graph, 0, b"a name"));
-    let refused = set_label(&mut graph, 1, text(rt.alloc(), b"x")?);
+    set_labels(rt.alloc(), &rt, &mut graph)
+}
+
+fn set_labels(alloc: Global, rt: &impl Abort, graph: &mut Graph) -> Result<(), Fail> {
+    set_label(graph, 0, text(alloc, b"a name")?)?;
+    assert!(rt; has_label(graph, 0, b"a name"));
+    let refused = set_label(graph, 1, text(alloc, b"x")?);
     assert!(rt; refused == Err(Refusal::BadOperand));
     Ok(())
 }
@@ -188,19 +209,27 @@ fn swap_id(graph: &mut Graph, id: Text) -> Option<usize> {
 #[test]
 fn lengths_and_ids_are_swapped(rt: HostRuntime) -> Result<(), Fail> {
     let mut graph = one_loop(rt.alloc())?;
-    assert!(rt; swap_len(&mut graph, 0, 8) == Some(1));
-    assert!(rt; is_arc(&graph, 0, 0, 0, 8));
-    assert!(rt; swap_id(&mut graph, text(rt.alloc(), b"two")?) == Some(15));
-    assert!(rt; has_id(&graph, b"two"));
+    swap_both(rt.alloc(), &rt, &mut graph)
+}
+
+fn swap_both(alloc: Global, rt: &impl Abort, graph: &mut Graph) -> Result<(), Fail> {
+    assert!(rt; swap_len(graph, 0, 8) == Some(1));
+    assert!(rt; is_arc(graph, 0, 0, 0, 8));
+    assert!(rt; swap_id(graph, text(alloc, b"two")?) == Some(15));
+    assert!(rt; has_id(graph, b"two"));
     Ok(())
 }
 
 #[test]
 fn lengths_are_set(rt: HostRuntime) -> Result<(), Fail> {
     let mut graph = one_loop(rt.alloc())?;
-    set_len(&mut graph, 0, -9)?;
-    assert!(rt; is_arc(&graph, 0, 0, 0, -9));
-    assert!(rt; set_len(&mut graph, 1, 1) == Err(Refusal::BadOperand));
+    set_lengths(&rt, &mut graph)
+}
+
+fn set_lengths(rt: &impl Abort, graph: &mut Graph) -> Result<(), Fail> {
+    set_len(graph, 0, -9)?;
+    assert!(rt; is_arc(graph, 0, 0, 0, -9));
+    assert!(rt; set_len(graph, 1, 1) == Err(Refusal::BadOperand));
     Ok(())
 }
 
@@ -234,6 +263,10 @@ fn first_wrong(
 #[test]
 fn letters_allow_values(rt: HostRuntime) -> Result<(), Fail> {
     let mut graph = one_loop(rt.alloc())?;
+    allow_by_letters(rt.alloc(), &rt, &mut graph)
+}
+
+fn allow_by_letters(alloc: Global, rt: &impl Abort, graph: &mut Graph) -> Result<(), Fail> {
     let table = [
         (b'Z', b'Z', 0, true),
         (b'Z', b'I', 1, false),
@@ -247,6 +280,6 @@ fn letters_allow_values(rt: HostRuntime) -> Result<(), Fail> {
         (b'S', b'S', 1, true),
         (b'S', b'I', 1, false),
     ];
-    assert_eq!(rt; first_wrong(rt.alloc(), &mut graph, &table)?, None);
+    assert_eq!(rt; first_wrong(alloc, graph, &table)?, None);
     Ok(())
 }

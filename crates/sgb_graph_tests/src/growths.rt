@@ -37,10 +37,14 @@ fn edge_again(rt: &impl Abort, graph: &mut Graph, from: VertexNo, to: VertexNo) 
 #[test]
 fn growths_are_granted_when_asked_again(rt: HostRuntime) -> Result<(), Fail> {
     let mut graph = three_vertices(rt.alloc())?;
+    grow_again(&rt, &mut graph)
+}
+
+fn grow_again(rt: &impl Abort, graph: &mut Graph) -> Result<(), Fail> {
     for number in 0..40u32 {
-        arc_again(&rt, &mut graph, VertexNo(number % 3), VertexNo(number % 2));
-        edge_again(&rt, &mut graph, VertexNo(number % 3), VertexNo(number % 2));
+        arc_again(&rt, graph, VertexNo(number % 3), VertexNo(number % 2));
+        edge_again(&rt, graph, VertexNo(number % 3), VertexNo(number % 2));
     }
-    assert!(rt; counts(&graph) == (120, 120));
+    assert!(rt; counts(graph) == (120, 120));
     Ok(())
 }

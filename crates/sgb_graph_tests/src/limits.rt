@@ -4,6 +4,7 @@ use crate::edits::{arc, arc_and_back, cut, cut_and_back, edge, new_graph};
 use crate::looks::has_counts;
 use sgb_graph::{Graph, MOST_ARCS, MOST_VERTICES, Refusal, VertexNo};
 use std::alloc::Global;
+use std::process::Abort;
 use std::test::Fail;
 
 #[test]
@@ -35,13 +36,17 @@ fn cut_all(graph: &mut Graph, count: u32) -> Result<(), Refusal> {
 #[test]
 fn no_more_numbers_than_a_million(rt: HostRuntime) -> Result<(), Fail> {
     let mut graph = with_arcs(rt.alloc(), 999_999)?;
-    assert!(rt; edge(&mut graph, 0, 1, 1) == Err(Refusal::TooLarge));
-    assert!(rt; arc_and_back(&mut graph, 0, 1)? == 999_999);
-    assert!(rt; arc(&mut graph, 0, 1, 1)? == 999_999);
-    assert!(rt; arc(&mut graph, 0, 1, 1) == Err(Refusal::TooLarge));
-    cut_all(&mut graph, 1_000_000)?;
-    assert!(rt; has_counts(&graph, 1_000_000, 0));
-    assert!(rt; arc(&mut graph, 0, 1, 1) == Err(Refusal::TooLarge));
+    fill_up(&rt, &mut graph)
+}
+
+fn fill_up(rt: &impl Abort, graph: &mut Graph) -> Result<(), Fail> {
+    assert!(rt; edge(graph, 0, 1, 1) == Err(Refusal::TooLarge));
+    assert!(rt; arc_and_back(graph, 0, 1)? == 999_999);
+    assert!(rt; arc(graph, 0, 1, 1)? == 999_999);
+    assert!(rt; arc(graph, 0, 1, 1) == Err(Refusal::TooLarge));
+    cut_all(graph, 1_000_000)?;
+    assert!(rt; has_counts(graph, 1_000_000, 0));
+    assert!(rt; arc(graph, 0, 1, 1) == Err(Refusal::TooLarge));
     Ok(())
 }
 
@@ -59,10 +64,14 @@ fn listed(graph: &Graph) -> u32 {
 #[test]
 fn the_largest_graph(rt: HostRuntime) -> Result<(), Fail> {
     let mut graph = with_arcs(rt.alloc(), MOST_ARCS)?;
-    assert!(rt; listed(&graph) == MOST_ARCS);
+    walk_and_cut(&rt, &mut graph)
+}
+
+fn walk_and_cut(rt: &impl Abort, graph: &mut Graph) -> Result<(), Fail> {
+    assert!(rt; listed(graph) == MOST_ARCS);
     for number in 0..1000u32 {
-        assert!(rt; cut_and_back(&mut graph, number * 999)? == Some(999_999));
+        assert!(rt; cut_and_back(graph, number * 999)? == Some(999_999));
     }
-    assert!(rt; has_counts(&graph, MOST_ARCS, MOST_ARCS));
+    assert!(rt; has_counts(graph, MOST_ARCS, MOST_ARCS));
     Ok(())
 }
