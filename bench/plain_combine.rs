@@ -762,8 +762,8 @@ fn time_drawn(draws: &str, reverts: &str, layout: Layout) {
     time_lengths(draws, reverts, &mut with_edges(1000, 400, 20, 0, layout));
 }
 
-// The small ones come first, so that what they take is memory that was taken before: where it is not, the system
-// clears it, which takes longer than they do.
+// The small ones come first, so that they take memory that was taken before: else a good part of their time is the
+// system's, which clears it.
 fn main() {
     for _ in 0..5 {
         time_next();
