@@ -28,9 +28,9 @@ def main():
     (ours, plain), checks = best(sys.argv[-2:])
     if same and checks[0] != checks[1]:
         sys.exit('different results: %s' % sorted(checks[0] ^ checks[1]))
-    print('%-16s %14s %14s %7s' % ('', 'ours, ns', 'plain, ns', 'ratio'))
+    print('%-20s %14s %14s %7s' % ('', 'ours, ns', 'plain, ns', 'ratio'))
     for name in ours:
-        print('%-16s %14.3f %14.3f %7.2f' % (name, ours[name] / 1000, plain[name] / 1000,
+        print('%-20s %14.3f %14.3f %7.2f' % (name, ours[name] / 1000, plain[name] / 1000,
                                             ours[name] / plain[name]))
     if 'back_by' in ours:
         print('back to next: %.2f; back_by to back: %.2f' % (ours['back'] / ours['next'],

@@ -1,4 +1,4 @@
-// The same combinations and random lengths in plain Rust, over an arena with 32 bytes an arc, and how long whole calls
+// The same combinations and random lengths in plain Rust, over an arena with 24 bytes an arc, and how long whole calls
 // take.
 use std::time::Instant;
 
@@ -158,10 +158,15 @@ fn complement(graph: &Graph, copy: bool, loops: bool, directed: bool) -> Result<
         for (_, arc) in graph.walk(u, true) {
             mark[arc.tip as usize] = u;
         }
-        for w in low..n {
-            if mark[w as usize] != u && (loops || w != u) {
-                made.insert(u, w, 1, directed)?;
-            }
+        if !loops {
+            mark[u as usize] = u;
+        }
+        // The runs between marks.
+        let mut start = low;
+        while start < n {
+            let run = mark[start as usize..].iter().take_while(|&&by| by != u).count() as u32;
+            made.arena.insert_run(u, start..start + run, 1, directed)?;
+            start += run + 1;
         }
     }
     Ok(made)
@@ -294,10 +299,24 @@ fn product(g: &Graph, h: &Graph, kind: i64, directed: bool) -> Result<Graph, Ref
     Ok(made)
 }
 
+// How many arcs or edges a product is made of.
+fn count_products(g: &Graph, first: &Rows, all: &Rows, upward: &Rows, kind: i64, directed: bool) -> usize {
+    let (n, k) = (first.starts.len() - 1, all.starts.len() - 1);
+    let sides = if kind == 1 { 0 } else { first.spokes.len() * k + n * upward.spokes.len() };
+    if kind == 0 {
+        return sides;
+    }
+    let others = |a: u32, to: u32| if directed || a < to { all.spokes.len() } else { upward.spokes.len() };
+    let across = (0..g.n()).map(|a| first.row(a).iter().map(|&(to, _)| others(a, to)).sum::<usize>());
+    sides + across.sum::<usize>()
+}
+
 // Where edges are made, only those to a pair that is not below are looked at.
 fn multiply(made: &mut Graph, g: &Graph, h: &Graph, kind: i64, directed: bool) -> Result<(), Refusal> {
     let (first, all, upward) = (Rows::of(g, directed, directed), Rows::of(h, directed, true), Rows::of(h, directed, directed));
     let k = h.n();
+    let count = count_products(g, &first, &all, &upward, kind, directed);
+    made.arena.reserve(if directed { count } else { 2 * count });
     for a in 0..g.n() {
         for b in 0..k {
             let number = a * k + b;
@@ -587,6 +606,9 @@ fn revert_lengths(graph: &mut Graph, delta: LengthsDelta) {
     graph.id = delta.id;
 }
 
+// Where the edges of a second operand begin.
+const SECOND: u32 = 1_000_003;
+
 // The operands, by a simple formula.
 fn mixed(number: u32) -> u32 {
     let a = number.wrapping_mul(2_654_435_761);
@@ -602,18 +624,35 @@ fn named(n: u32) -> Graph {
     graph
 }
 
-// The arcs of a list are far from one another in memory, or those of the next list stand beside them.
-fn with_edges(n: u32, edges: u32, begin: u32, far: bool) -> Graph {
+// How the arcs of the lists lie in memory.
+#[derive(Clone, Copy)]
+enum Layout {
+    // Nearly in the order of the lists.
+    InOrder,
+    // From place to place, in even strides.
+    Strewn,
+    // Anywhere.
+    Scattered,
+}
+
+// As many edges as the degree for each of `n` vertices; in order, as many of them in parallel as asked for.
+fn with_edges(n: u32, degree: u32, parallel: u32, begin: u32, layout: Layout) -> Graph {
     let mut graph = named(n);
-    for i in 0..edges {
-        let (from, to) = if far {
-            (mixed(begin + 2 * i), mixed(begin + 2 * i + 1))
-        } else {
-            (i, i + begin + i / n * 7 + 1)
+    for i in 0..n * degree {
+        let (from, to) = match layout {
+            Layout::InOrder => in_order_ends(i, degree, parallel, begin),
+            Layout::Strewn => (i, i + begin + i / n * 7 + 1),
+            Layout::Scattered => (mixed(begin + 2 * i), mixed(begin + 2 * i + 1)),
         };
         let _ = graph.arena.new_edge(from % n, to % n, i64::from(1 + i % 1000));
     }
     graph
+}
+
+// The second operand leads three vertices further than the first, so that they share part of their pairs.
+fn in_order_ends(i: u32, degree: u32, parallel: u32, begin: u32) -> (u32, u32) {
+    let from = i / degree;
+    (from, from + 1 + begin % 8 + i % degree / parallel)
 }
 
 fn cycle(n: u32) -> Graph {
@@ -690,49 +729,59 @@ fn time_lengths(draws: &str, reverts: &str, graph: &mut Graph) {
     }
 }
 
-struct Operands {
-    first: Graph,
-    second: Graph,
-    dense: Graph,
-    other: Graph,
-    fated: Graph,
-}
-
-impl Operands {
-    fn new(far: bool) -> Operands {
-        Operands {
-            first: with_edges(10_000, 240_000, 0, far),
-            second: with_edges(10_000, 240_000, 1_000_003, far),
-            dense: with_edges(1000, 400_000, 0, far),
-            other: with_edges(1000, 400_000, 1_000_003, far),
-            fated: with_fates(with_edges(1000, 400_000, 0, far)),
-        }
-    }
-}
-
 fn time(name: &str, call: impl FnOnce() -> Result<Graph, Refusal>) {
     let start = Instant::now();
     let made = call();
     tell(name, start, made);
 }
 
+fn time_small() {
+    let empty = named(990);
+    time("complement", || complement(&empty, false, false, true));
+    time("complement_edges", || complement(&empty, false, false, false));
+    let cycle = cycle(250);
+    time("product", || product(&cycle, &cycle, 2, false));
+}
+
+fn time_union(name: &str, multi: bool, layout: Layout) {
+    let [first, second] = [0, SECOND].map(|begin| with_edges(10_000, 24, 3, begin, layout));
+    time(name, || gunion(&first, &second, multi, false));
+}
+
+fn time_intersection(name: &str, layout: Layout) {
+    let [first, second] = [0, SECOND].map(|begin| with_edges(1000, 400, 20, begin, layout));
+    time(name, || intersection(&first, &second, false));
+}
+
+fn time_induced(name: &str, layout: Layout) {
+    let fated = with_fates(with_edges(1000, 400, 20, 0, layout));
+    time(name, || induced(&fated, "classes", false, false, false));
+}
+
+fn time_drawn(draws: &str, reverts: &str, layout: Layout) {
+    time_lengths(draws, reverts, &mut with_edges(1000, 400, 20, 0, layout));
+}
+
+// The small ones come first, so that they take memory that was taken before: else a good part of their time is the
+// system's, which clears it.
 fn main() {
-    let (mut near, mut far) = (Operands::new(false), Operands::new(true));
     for _ in 0..5 {
         time_next();
-        let empty = named(990);
-        time("complement", || complement(&empty, false, false, true));
-        time("complement_edges", || complement(&empty, false, false, false));
-        let cycle = cycle(250);
-        time("product", || product(&cycle, &cycle, 2, false));
-        time("gunion_multi", || gunion(&near.first, &near.second, true, false));
-        time("gunion", || gunion(&near.first, &near.second, false, false));
-        time("intersection", || intersection(&near.dense, &near.other, false));
-        time("induced", || induced(&near.fated, "classes", false, false, false));
-        time_lengths("random_lengths", "revert_lengths", &mut near.dense);
-        time("gunion_far", || gunion(&far.first, &far.second, false, false));
-        time("intersection_far", || intersection(&far.dense, &far.other, false));
-        time("induced_far", || induced(&far.fated, "classes", false, false, false));
-        time_lengths("lengths_far", "revert_far", &mut far.dense);
+        time_small();
+    }
+    for _ in 0..5 {
+        time_union("gunion_multi", true, Layout::InOrder);
+        time_union("gunion", false, Layout::InOrder);
+        time_union("gunion_strewn", false, Layout::Strewn);
+        time_union("gunion_far", false, Layout::Scattered);
+        time_intersection("intersection", Layout::InOrder);
+        time_induced("induced", Layout::InOrder);
+        time_drawn("lengths", "revert", Layout::InOrder);
+        time_intersection("intersection_strewn", Layout::Strewn);
+        time_induced("induced_strewn", Layout::Strewn);
+        time_drawn("lengths_strewn", "revert_strewn", Layout::Strewn);
+        time_intersection("intersection_far", Layout::Scattered);
+        time_induced("induced_far", Layout::Scattered);
+        time_drawn("lengths_far", "revert_far", Layout::Scattered);
     }
 }

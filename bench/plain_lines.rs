@@ -293,7 +293,7 @@ impl Graph {
         let held = match place {
             Place::Graph => &mut self.fields[field],
             Place::Vertex(v) => &mut self.vertices[v as usize].fields.get_or_insert_with(|| Box::new(SIX))[field],
-            Place::Arc(k) => &mut self.arena.arcs[k as usize].fields.get_or_insert_with(|| Box::new(TWO))[field],
+            Place::Arc(k) => &mut self.arena.fields_mut(k).get_or_insert_with(|| Box::new(TWO))[field],
         };
         swap(held, value);
         let gained = if let Util::Arc(k) = held { Some(*k) } else { None };
@@ -307,7 +307,7 @@ impl Graph {
 
     // Counts the arcs that the fields of an arc name, or no longer counts them.
     fn count_names(&mut self, number: u32, are_counted: bool) {
-        let Some(fields) = &self.arena.arcs[number as usize].fields else { return };
+        let Some(fields) = self.arena.fields_of(number) else { return };
         let named = [0, 1].map(|i| if let Util::Arc(k) = fields[i] { Some(k) } else { None });
         for k in named.into_iter().flatten() {
             let names = &mut self.arena.arcs[k as usize].names;
@@ -344,8 +344,8 @@ impl Graph {
                 out.put_with(b" V", u64::from(arc.tip));
                 out.put(b" ");
                 out.put_signed(arc.len);
-                match &arc.fields {
-                    Some(fields) => show_fields(&ARC_FIELDS, &**fields, out),
+                match self.arena.fields_of(k) {
+                    Some(fields) => show_fields(&ARC_FIELDS, fields, out),
                     None => out.put(b"\n"),
                 }
                 out.pass_block();

@@ -1,7 +1,4 @@
-// The same graphs in plain Rust, and how long each call takes: the same insertions into an arena of 32 bytes an arc.
-use std::collections::HashMap;
-use std::collections::hash_map::Entry;
-use std::hash::{BuildHasherDefault, Hasher};
+// The same graphs in plain Rust, and how long each call takes: the same insertions into an arena of 24 bytes an arc.
 use std::hint::black_box;
 use std::time::{Duration, Instant};
 
@@ -21,7 +18,6 @@ enum Refusal {
     BadSpecs,
     LengthRange,
     TooLarge,
-    BadOperand,
     Stuck,
 }
 
@@ -38,55 +34,57 @@ enum Util {
 
 const ZEROS: [Util; 6] = [Util::Zero, Util::Zero, Util::Zero, Util::Zero, Util::Zero, Util::Zero];
 
-struct Vertex {
-    name: Box<[u8]>,
-    fields: [Util; 6],
-}
-
 #[allow(dead_code)]
 struct Graph {
     id: String,
     types: [u8; 14],
     fields: [Util; 6],
-    vertices: Vec<Vertex>,
+    // The names of the vertices, and their fields as far as one was ever set.
+    names: Vec<Box<[u8]>>,
+    vertex_fields: Vec<[Util; 6]>,
     arena: Arena,
     directed: bool,
 }
 
 impl Graph {
     fn new(id: String, types: &[u8; 14], directed: bool) -> Graph {
-        Graph { id, types: *types, fields: ZEROS, vertices: Vec::new(), arena: Arena::new(0), directed }
+        let (names, vertex_fields) = (Vec::new(), Vec::new());
+        Graph { id, types: *types, fields: ZEROS, names, vertex_fields, arena: Arena::new(0), directed }
     }
 
     fn reserve_vertices(&mut self, count: usize) {
-        self.vertices.reserve(count);
+        self.names.reserve(count);
         self.arena.firsts.reserve(count);
     }
 
-    fn push_vertex(&mut self, name: &[u8], fields: [Util; 6]) -> Result<(), Refusal> {
-        if self.vertices.len() >= MOST_VERTICES {
+    // A vertex with these coordinates, of which it keeps three.
+    fn push_vertex(&mut self, name: &[u8], parts: &[u32]) -> Result<(), Refusal> {
+        if self.names.len() >= MOST_VERTICES {
             return Err(Refusal::TooLarge);
         }
-        self.vertices.push(Vertex { name: name.into(), fields });
+        if parts.iter().take(3).any(|part| *part > 0) {
+            if self.vertex_fields.is_empty() {
+                self.vertex_fields.reserve_exact(self.names.capacity());
+            }
+            self.vertex_fields.resize_with(self.names.len(), || ZEROS);
+            self.vertex_fields.push(coordinates(parts));
+        }
+        self.names.push(name.into());
         self.arena.firsts.push(NONE);
         Ok(())
     }
 
-    #[inline]
+    #[inline(always)]
     fn insert(&mut self, from: u32, to: u32, len: i64) -> Result<(), Refusal> {
-        let n = self.arena.n();
-        if from >= n || to >= n {
-            return Err(Refusal::BadOperand);
-        }
         self.arena.insert(from, to, len, self.directed).map(|_| ()).map_err(|_| Refusal::TooLarge)
     }
 
     // A number of all that the graph is: its id, its vertices, and its arcs in the order of their lists.
     fn check(&self) -> u64 {
         let mut check = with_bytes(0, self.id.as_bytes());
-        for vertex in &self.vertices {
-            check = with_bytes(check, &vertex.name);
-            for field in &vertex.fields {
+        for (v, name) in self.names.iter().enumerate() {
+            check = with_bytes(check, name);
+            for field in self.vertex_fields.get(v).unwrap_or(&ZEROS) {
                 let number = if let Util::Int(number) = field { number.unsigned_abs() } else { 0 };
                 check = with_number(check, number);
             }
@@ -223,7 +221,7 @@ fn name_positions(graph: &mut Graph, sides: &[Side], count: usize) -> Result<(),
     let mut name = Vec::new();
     for _ in 0..count {
         dotted(&mut name, &position);
-        graph.push_vertex(&name, coordinates(&position))?;
+        graph.push_vertex(&name, &position)?;
         for (x, side) in position.iter_mut().zip(sides).rev() {
             *x += 1;
             if *x < side.size {
@@ -423,7 +421,7 @@ impl Points {
         for v in 0..self.count {
             let point = self.point(v);
             dotted(&mut name, point);
-            graph.push_vertex(&name, coordinates(point))?;
+            graph.push_vertex(&name, point)?;
         }
         Ok(())
     }
@@ -594,7 +592,7 @@ fn perms(numbers: [i64; 5], max_inv: i64, directed: bool) -> Result<Graph, Refus
     for row in rows.chunks_exact(width) {
         name.clear();
         name.extend(row.iter().map(|kind| b"0123456789ABCDEF"[*kind as usize]));
-        graph.push_vertex(&name, ZEROS)?;
+        graph.push_vertex(&name, &[])?;
     }
     let index = Index::new(&rows, width);
     let count =
@@ -671,7 +669,7 @@ fn binary(n: i64, max_height: i64, directed: bool) -> Result<Graph, Refusal> {
     let mut graph = Graph::new(id, b"ZZZZZZZZZZZZZZ", directed);
     graph.reserve_vertices(words.len() / width);
     for word in words.chunks_exact(width) {
-        graph.push_vertex(word, ZEROS)?;
+        graph.push_vertex(word, &[])?;
     }
     let mut word = vec![0; 8 * index.width];
     let mut row = vec![0; index.width];
@@ -746,27 +744,37 @@ impl Trees {
 
 // Random graphs.
 
-#[derive(Default)]
-struct Mixing {
-    hash: u64,
+// The pairs that are joined, each as one number, by open addressing.
+struct Pairs {
+    keys: Vec<u32>,
+    shift: u32,
 }
 
-impl Hasher for Mixing {
-    fn write(&mut self, _bytes: &[u8]) {
-        unreachable!()
+impl Pairs {
+    // Room for so many, of which a third stays free.
+    fn new(count: usize) -> Pairs {
+        let places = (count + count / 2 + 1).next_power_of_two();
+        Pairs { keys: vec![NONE; places], shift: 64 - places.trailing_zeros() }
     }
 
-    fn write_u32(&mut self, number: u32) {
-        self.hash = u64::from(number).wrapping_mul(FACTOR).rotate_left(26);
-    }
-
-    fn finish(&self) -> u64 {
-        self.hash
+    // The place of a pair, and whether it is new there.
+    #[inline]
+    fn insert(&mut self, key: u32) -> (usize, bool) {
+        let last = self.keys.len() - 1;
+        let mut at = (u64::from(key).wrapping_mul(FACTOR) >> self.shift) as usize & last;
+        loop {
+            let held = &mut self.keys[at];
+            if *held == NONE {
+                *held = key;
+                return (at, true);
+            }
+            if *held == key {
+                return (at, false);
+            }
+            at = (at + 1) & last;
+        }
     }
 }
-
-// The pairs that are joined, each by a number, with their first arcs.
-type Pairs = HashMap<u32, u32, BuildHasherDefault<Mixing>>;
 
 #[derive(Clone, Copy)]
 struct Random {
@@ -777,6 +785,35 @@ struct Random {
     directed: bool,
     min: i64,
     max: i64,
+}
+
+// An arc or edge to be inserted, and by how much its length is above the least.
+#[derive(Clone, Copy)]
+struct Edge {
+    from: u16,
+    to: u16,
+    more: u32,
+}
+
+// What is drawn for a random graph.
+#[derive(Clone, Copy)]
+struct Draws {
+    ends: Below,
+    lengths: Below,
+}
+
+impl Draws {
+    #[inline]
+    fn pair(self, flip: &mut Flip) -> (u32, u32) {
+        let from = flip.uniform(self.ends).0;
+        let to = flip.uniform(self.ends).0;
+        (from, to)
+    }
+
+    #[inline]
+    fn length(self, flip: &mut Flip) -> u32 {
+        if self.lengths.bound == 1 { 0 } else { flip.uniform(self.lengths).0 }
+    }
 }
 
 fn random_graph(spec: Random, seed: i64) -> Result<Graph, Refusal> {
@@ -801,49 +838,68 @@ fn random_graph(spec: Random, seed: i64) -> Result<Graph, Refusal> {
     let mut name = Vec::new();
     for v in 0..n as u32 {
         dotted(&mut name, &[v]);
-        graph.push_vertex(&name, ZEROS)?;
+        graph.push_vertex(&name, &[])?;
     }
-    graph.arena.reserve((m * numbers) as usize);
-    let mut flip = Flip::new(seed);
     let (ends, lengths) = (Below::new(n as u32), Below::new(max.abs_diff(min) as u32 + 1));
-    let length = |flip: &mut Flip| match lengths.bound {
-        1 => min,
-        _ => min + i64::from(flip.uniform(lengths).0),
-    };
-    let pairs = if multi > 0 { 0 } else { m as usize };
-    let mut pairs = Pairs::with_capacity_and_hasher(pairs, Default::default());
-    let mut made = 0;
+    let draws = Draws { ends, lengths };
+    if multi > 0 {
+        graph.arena.reserve((m * numbers) as usize);
+        insert_drawn(&mut graph, spec, draws, Flip::new(seed))?;
+        return Ok(graph);
+    }
+    let edges = drawn_edges(spec, draws, Flip::new(seed))?;
+    graph.arena.reserve(edges.len() * numbers as usize);
+    for Edge { from, to, more } in edges {
+        graph.insert(from.into(), to.into(), min + i64::from(more))?;
+    }
+    Ok(graph)
+}
+
+fn insert_drawn(graph: &mut Graph, spec: Random, draws: Draws, mut flip: Flip) -> Result<(), Refusal> {
+    let mut left = spec.m;
     for _ in 0..MOST_ATTEMPTS {
-        if made == m {
-            return Ok(graph);
+        if left == 0 {
+            break;
         }
-        let from = flip.uniform(ends).0;
-        let to = flip.uniform(ends).0;
-        if from == to && !loops {
+        let (from, to) = draws.pair(&mut flip);
+        if from != to || spec.loops {
+            graph.insert(from, to, spec.min + i64::from(draws.length(&mut flip)))?;
+            left -= 1;
+        }
+    }
+    if left == 0 { Ok(()) } else { Err(Refusal::Stuck) }
+}
+
+// One edge of each pair that is drawn. A pair that repeats is drawn anew, or lowers the length of its edge.
+fn drawn_edges(spec: Random, draws: Draws, mut flip: Flip) -> Result<Vec<Edge>, Refusal> {
+    let mut left = spec.m as usize;
+    let mut pairs = Pairs::new(left);
+    let mut edges: Vec<Edge> = Vec::with_capacity(left);
+    // By the place of a pair, its edge, where lengths are lowered.
+    let mut numbers = vec![0u32; if spec.multi < 0 { pairs.keys.len() } else { 0 }];
+    for _ in 0..MOST_ATTEMPTS {
+        if left == 0 {
+            break;
+        }
+        let (from, to) = draws.pair(&mut flip);
+        if from == to && !spec.loops {
             continue;
         }
-        if multi <= 0 {
-            let (first, second) = if directed { (from, to) } else { (from.min(to), from.max(to)) };
-            match pairs.entry(first << 16 | second) {
-                Entry::Vacant(entry) => {
-                    entry.insert(graph.arena.arcs.len() as u32);
-                }
-                Entry::Occupied(entry) => {
-                    if multi < 0 {
-                        let len = length(&mut flip);
-                        for arc in &mut graph.arena.arcs[*entry.get() as usize..][..numbers as usize] {
-                            arc.len = arc.len.min(len);
-                        }
-                        made += 1;
-                    }
-                    continue;
-                }
+        let key = if spec.directed { from << 16 | to } else { from.min(to) << 16 | from.max(to) };
+        let (place, is_new) = pairs.insert(key);
+        if is_new {
+            if let Some(number) = numbers.get_mut(place) {
+                *number = edges.len() as u32;
             }
+            edges.push(Edge { from: from as u16, to: to as u16, more: draws.length(&mut flip) });
+            left -= 1;
+        } else if let Some(number) = numbers.get(place) {
+            let edge = &mut edges[*number as usize];
+            edge.more = edge.more.min(draws.length(&mut flip));
+            left -= 1;
         }
-        graph.insert(from, to, length(&mut flip))?;
-        made += 1;
     }
-    if made == m { Ok(graph) } else { Err(Refusal::Stuck) }
+    if left == 0 { Ok(edges) } else { Err(Refusal::Stuck) }
 }
 
 // A call's name, its time in picoseconds, and a number that the graph comes to.
@@ -871,7 +927,7 @@ fn time_next() {
 }
 
 fn main() {
-    let random = |multi| Random { n: 10_000, m: 300_000, multi, loops: false, directed: false, min: 1, max: 1 };
+    let random = |multi, directed| Random { n: 10_000, m: 300_000, multi, loops: false, directed, min: 1, max: 1 };
     for _ in 0..5 {
         time_next();
         time("board_250", [250, 250, 0, 0], |numbers| board(numbers, 5, 0, false));
@@ -881,7 +937,9 @@ fn main() {
         time("subsets", [1, -15, 0, 0, 0], |numbers| subsets(8, numbers, black_box(1), false));
         time("perms", [1, -7, 0, 0, 0], |numbers| perms(numbers, 0, false));
         time("binary", 11, |n| binary(n, 0, false));
-        time("random_multi", random(1), |spec| random_graph(spec, 1));
-        time("random_single", random(0), |spec| random_graph(spec, 1));
+        time("random_multi", random(1, false), |spec| random_graph(spec, 1));
+        time("random_single", random(0, false), |spec| random_graph(spec, 1));
+        time("random_arcs", random(1, true), |spec| random_graph(spec, 1));
+        time("arcs_single", random(0, true), |spec| random_graph(spec, 1));
     }
 }

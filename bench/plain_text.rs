@@ -1,4 +1,4 @@
-// The same writer and reader of saved texts in plain Rust, over an arena with 32 bytes an arc, and how long they take
+// The same writer and reader of saved texts in plain Rust, over an arena with 24 bytes an arc, and how long they take
 // for a byte of the text.
 use std::time::Instant;
 
@@ -205,7 +205,7 @@ fn save(graph: &Graph) -> (Vec<u8>, u64) {
     }
     page.text.extend_from_slice(b"* Arcs\n");
     let more = is_any_written(arc_letters);
-    for arc in &graph.arena.arcs {
+    for (number, arc) in graph.arena.arcs.iter().enumerate() {
         if arc.owner == NONE {
             page.tip(ZERO, true);
             page.link(NONE, true);
@@ -215,7 +215,7 @@ fn save(graph: &Graph) -> (Vec<u8>, u64) {
             page.link(arc.next, true);
             page.signed(arc.len, more);
         }
-        let fields: &[Util; 2] = arc.fields.as_deref().unwrap_or(&TWO_ZEROS);
+        let fields = graph.arena.fields_of(number as u32).unwrap_or(&TWO_ZEROS);
         cleaned += page.fields(arc_letters, fields);
     }
     let number = check_number(&page.text[start..]);
@@ -450,8 +450,10 @@ fn read_records(reader: &mut Reader, types: [u8; 14], vertices: u64, arcs: u64) 
         let next = reader.link()?;
         reader.comma()?;
         let len = reader.signed()?;
-        let fields = reader.boxed(&types[6..8], is_written)?;
-        graph.arena.arcs.push(Arc { owner: NONE, tip, next, names: 0, len, fields });
+        if let Some(fields) = reader.boxed(&types[6..8], is_written)? {
+            graph.arena.fields.push(Some(fields));
+        }
+        graph.arena.arcs.push(Arc { owner: NONE, tip, next, names: 0, len });
     }
     graph.arena.holes = graph.arena.arcs.len() as u32;
     Ok(graph)
@@ -472,11 +474,7 @@ fn lay_chains(graph: &mut Graph) -> Read<()> {
             graph.arena.holes -= 1;
         }
     }
-    for arc in &mut graph.arena.arcs {
-        if arc.owner == NONE {
-            arc.fields = None;
-        }
-    }
+    graph.arena.clear_holes();
     Ok(())
 }
 
@@ -497,7 +495,7 @@ fn count_names(graph: &mut Graph) -> Read<()> {
         graph.vertices.iter().flat_map(|vertex| vertex.fields.iter()).flat_map(|fields| fields.iter()).try_for_each(&mut name)?;
     }
     if is_any_written(&graph.types[6..8]) {
-        graph.arena.arcs.iter().flat_map(|arc| arc.fields.iter()).flat_map(|fields| fields.iter()).try_for_each(&mut name)?;
+        graph.arena.fields.iter().flatten().flat_map(|fields| fields.iter()).try_for_each(&mut name)?;
     }
     for k in named {
         match graph.arena.arcs.get_mut(k as usize) {
@@ -536,9 +534,9 @@ fn with_texts() -> Graph {
     for (v, vertex) in graph.vertices.iter_mut().enumerate() {
         vertex.fields = Some(Box::new([(); 6].map(|_| text(format!("a text of some forty bytes of vertex {v}")))));
     }
-    for (k, arc) in graph.arena.arcs.iter_mut().enumerate() {
+    for k in 0..graph.arena.arcs.len() as u32 {
         let long = format!("a text of more than one line and of less than two, since such texts may be met, in the field b of arc {k}");
-        arc.fields = Some(Box::new([text(format!("a short text, {k}")), text(long)]));
+        *graph.arena.fields_mut(k) = Some(Box::new([text(format!("a short text, {k}")), text(long)]));
     }
     graph
 }

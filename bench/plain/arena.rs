@@ -1,8 +1,9 @@
-// The arcs of a graph in an arena of 32 bytes an arc, for the plain programs beside this directory: fields, which few
-// arcs have, stand out of line.
+// The arcs of a graph in an arena of 24 bytes an arc, for the plain programs beside this directory: fields, which few
+// arcs have, stand apart.
 #![allow(dead_code)]
 
 use std::mem::replace;
+use std::ops::Range;
 
 pub const MOST_VERTICES: usize = 65_535;
 pub const MOST_ARCS: usize = 1_000_000;
@@ -27,15 +28,18 @@ pub struct Arc {
     // How many fields name this arc.
     pub names: u32,
     pub len: i64,
-    pub fields: Option<Box<[Util; 2]>>,
 }
 
-const _: () = assert!(size_of::<Arc>() == 32);
+const _: () = assert!(size_of::<Arc>() == 24);
+
+pub type Fields = Option<Box<[Util; 2]>>;
 
 pub struct Arena {
     // Of each vertex the first arc of its list.
     pub firsts: Vec<u32>,
     pub arcs: Vec<Arc>,
+    // Of the arcs, as far as a field of one was ever set.
+    pub fields: Vec<Fields>,
     pub holes: u32,
 }
 
@@ -49,7 +53,7 @@ pub struct TooLarge;
 
 impl Arena {
     pub fn new(n: u32) -> Arena {
-        Arena { firsts: vec![NONE; n as usize], arcs: Vec::new(), holes: 0 }
+        Arena { firsts: vec![NONE; n as usize], arcs: Vec::new(), fields: Vec::new(), holes: 0 }
     }
 
     pub fn n(&self) -> u32 {
@@ -75,13 +79,13 @@ impl Arena {
         if self.arcs.capacity() - self.arcs.len() >= count { Ok(()) } else { self.grow(count) }
     }
 
-    // Room for as many arcs more as there are.
+    // Room for as many arcs more as there are, and for so many.
     #[cold]
     fn grow(&mut self, count: usize) -> Result<(), TooLarge> {
         if !self.has_room(count) {
             return Err(TooLarge);
         }
-        let room = (2 * self.arcs.len()).clamp(64, MOST_ARCS);
+        let room = (2 * self.arcs.len()).clamp(64, MOST_ARCS).max(self.arcs.len() + count);
         self.arcs.reserve_exact(room - self.arcs.len());
         Ok(())
     }
@@ -96,7 +100,7 @@ impl Arena {
         self.make_room(1)?;
         let number = self.arcs.len() as u32;
         let next = self.link(from, number);
-        self.arcs.push(Arc { owner: from, tip: to, next, names: 0, len, fields: None });
+        self.arcs.push(Arc { owner: from, tip: to, next, names: 0, len });
         Ok(number)
     }
 
@@ -108,14 +112,45 @@ impl Arena {
         let (low, high) = (from.min(to), from.max(to));
         let second = self.link(high, number + 1);
         let first = self.link(low, number);
-        self.arcs.push(Arc { owner: low, tip: high, next: first, names: 0, len, fields: None });
-        self.arcs.push(Arc { owner: high, tip: low, next: second, names: 0, len, fields: None });
+        self.arcs.push(Arc { owner: low, tip: high, next: first, names: 0, len });
+        self.arcs.push(Arc { owner: high, tip: low, next: second, names: 0, len });
         Ok(number)
     }
 
     #[inline]
     pub fn insert(&mut self, from: u32, to: u32, len: i64, directed: bool) -> Result<u32, TooLarge> {
         if directed { self.new_arc(from, to, len) } else { self.new_edge(from, to, len) }
+    }
+
+    // An arc to each of a run of vertices, in order.
+    pub fn new_arcs(&mut self, from: u32, tips: Range<u32>, len: i64) -> Result<(), TooLarge> {
+        if tips.is_empty() {
+            return Ok(());
+        }
+        self.make_room(tips.len())?;
+        let mut number = self.arcs.len() as u32;
+        let mut next = self.link(from, number + tips.len() as u32 - 1);
+        self.arcs.extend(tips.map(|tip| {
+            let arc = Arc { owner: from, tip, next, names: 0, len };
+            next = number;
+            number += 1;
+            arc
+        }));
+        Ok(())
+    }
+
+    // An edge to each of a run of vertices, in order.
+    pub fn new_edges(&mut self, from: u32, tips: Range<u32>, len: i64) -> Result<(), TooLarge> {
+        self.make_room(2 * tips.len())?;
+        for to in tips {
+            self.new_edge(from, to, len)?;
+        }
+        Ok(())
+    }
+
+    #[inline]
+    pub fn insert_run(&mut self, from: u32, tips: Range<u32>, len: i64, directed: bool) -> Result<(), TooLarge> {
+        if directed { self.new_arcs(from, tips, len) } else { self.new_edges(from, tips, len) }
     }
 
     // Takes the last arcs back, each of which is first in its list once those before it are gone.
@@ -125,10 +160,33 @@ impl Arena {
             self.firsts[arc.owner as usize] = arc.next;
         }
         self.arcs.truncate(kept);
+        self.fields.truncate(kept);
     }
 
     pub fn is_live(&self, number: u32) -> bool {
         self.arcs.get(number as usize).is_some_and(|arc| arc.owner != NONE)
+    }
+
+    pub fn fields_of(&self, number: u32) -> Option<&[Util; 2]> {
+        self.fields.get(number as usize)?.as_deref()
+    }
+
+    // The place of the fields of an arc.
+    pub fn fields_mut(&mut self, number: u32) -> &mut Fields {
+        let number = number as usize;
+        if self.fields.len() <= number {
+            self.fields.resize_with(number + 1, || None);
+        }
+        &mut self.fields[number]
+    }
+
+    // Holes have no fields.
+    pub fn clear_holes(&mut self) {
+        for (arc, fields) in self.arcs.iter().zip(&mut self.fields) {
+            if arc.owner == NONE {
+                *fields = None;
+            }
+        }
     }
 
     // The link behind an arc of a list, or in front of the whole list.
