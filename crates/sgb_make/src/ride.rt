@@ -25,7 +25,7 @@ fn is_back(rides: bool, from: u32, to: u32) -> bool
     rides && to == from
 }
 
-// Inserts a ride by the links, from one position until it ends.
+// Inserts a ride by the links, from one position until it ends. From most positions none leads on, which one test tells.
 fn insert_trip(builder: &mut Builder, table: &[u32], rides: bool, from: u32) -> Result<(), Refusal>
     requires from { from < length table.now }
     requires low { All (λ t. t ≤ length table.now) table.now }
@@ -33,6 +33,9 @@ fn insert_trip(builder: &mut Builder, table: &[u32], rides: bool, from: u32) -> 
     requires count { n_of builder.old.graph ≡ length table.now }
     ensures { Inserts builder.old builder.new (trip_from table.now rides from) result }
 {
+    if table[from as usize] == 0 {
+        return Ok(());
+    }
     let end = most_steps(rides, table.len()) + 1;
     let mut at = from;
     for len in 1..end {

@@ -1,3 +1,4 @@
+pub mod Blocks
 pub mod Counting
 pub mod Fronts
 pub mod Generators

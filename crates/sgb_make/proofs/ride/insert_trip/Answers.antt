@@ -4,8 +4,11 @@ use Rattle.std.proofs.lemmas.Int.{to_z_pos}
 use Rattle.std.proofs.lemmas.Result.{err_from_is_err_and}
 use Rattle.sgb_graph.specs.Builder.{insertion, grown}
 use Rattle.sgb_graph.proofs.Inserting.{RefusesInsertions}
-use Rattle.sgb_make.proofs.Trips.{trip_start, trip_none, trip_back, trip_some, trip_refused, trip_end, trip_n}
+use Rattle.sgb_make.proofs.Trips.{trip_start, trip_none, no_trip, trip_back, trip_some, trip_refused, trip_end, trip_n}
 use Rattle.sgb_make.proofs.ride.insert_trip.Goals as goal
+
+pub returns-then-table-from-eq0 : goal.returns-then-table-from-eq0
+returns-then-table-from-eq0 c = no_trip c.args.builder.now c.args.table.now c.args.rides c.args.from c.requires.from c.if-table-from-eq0.true
 
 pub loop-len-init : goal.loop-len-init
 loop-len-init c =
