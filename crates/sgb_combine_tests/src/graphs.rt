@@ -28,14 +28,16 @@ fn insert_lines(graph: &mut Graph, edges: &[Line], arcs: &[Line]) -> Result<(), 
     insert_arcs(graph, arcs)
 }
 
-fn insert_edges(graph: &mut Graph, edges: &[Line]) -> Result<(), Refusal> {
+/// Inserts these edges.
+pub fn insert_edges(graph: &mut Graph, edges: &[Line]) -> Result<(), Refusal> {
     for (from, to, len) in edges {
         graph.new_edge(VertexNo(*from), VertexNo(*to), *len)?;
     }
     Ok(())
 }
 
-fn insert_arcs(graph: &mut Graph, arcs: &[Line]) -> Result<(), Refusal> {
+/// Inserts these arcs.
+pub fn insert_arcs(graph: &mut Graph, arcs: &[Line]) -> Result<(), Refusal> {
     for (from, to, len) in arcs {
         graph.new_arc(VertexNo(*from), VertexNo(*to), *len)?;
     }
@@ -147,8 +149,12 @@ pub fn product_of_edges(alloc: Global, kind: i64, directed: bool) -> Made {
     )
 }
 
-/// Whether it was made, with these arcs by their numbers.
-pub fn arcs_are(made: &Made, wanted: &[Line]) -> bool {
+/// Whether it was made, with this id and with these arcs by their numbers.
+pub fn is_as(made: &Made, id: &[u8], arcs: &[Line]) -> bool {
+    has_id(made, id) && arcs_are(made, arcs)
+}
+
+fn arcs_are(made: &Made, wanted: &[Line]) -> bool {
     match made {
         Ok(graph) => has_arcs(graph, wanted),
         Err(_) => false,
@@ -178,6 +184,7 @@ pub fn view_of(line: &Line) -> ArcView {
     }
 }
 
+/// Whether it was made, with this id.
 pub fn has_id(made: &Made, id: &[u8]) -> bool {
     match made {
         Ok(graph) => graph.id() == id,

@@ -1,12 +1,11 @@
 //! What refused growths lead to: who asks again has what is asked for. Expected values come from another implementation.
 
 use crate::graphs::{
-    Made, arcs_are, complement_of, first, has_id, intersection_of_both, one_edge, product_of_edges,
+    Made, complement_of, first, intersection_of_both, is_as, one_edge, product_of_edges,
     union_of_both,
 };
 use sgb_graph::Refusal;
 use std::alloc::Global;
-use std::test::Fail;
 
 // The calls and their operands. Where a growth is refused, each is asked for once more.
 fn complement_again(alloc: Global, graph: &Made, copy: bool) -> Made {
@@ -28,6 +27,15 @@ fn edge_again(alloc: Global) -> Made {
         Err(Refusal::NoRoom) => one_edge(alloc, 5),
         made => made,
     }
+}
+
+// All that the first graph's complement has, and what one edge leaves out.
+fn complement_of_first(alloc: Global) -> Made {
+    complement_again(alloc, &first_again(alloc), true)
+}
+
+fn absences_of_edge(alloc: Global) -> Made {
+    complement_again(alloc, &edge_again(alloc), false)
 }
 
 fn union_again(alloc: Global) -> Made {
@@ -52,33 +60,33 @@ fn product_again(alloc: Global) -> Made {
 }
 
 #[test]
-fn of_complements_are_granted_when_asked_again(rt: HostRuntime) -> Result<(), Fail> {
-    let made = complement_again(rt.alloc(), &first_again(rt.alloc()), true);
-    assert!(rt; has_id(&made, b"complement(gb_new_graph(4),1,1,1)"));
+fn of_complements_are_granted_when_asked_again(rt: HostRuntime) {
     assert!(rt;
-        arcs_are(
-            &made,
+        is_as(
+            &complement_of_first(rt.alloc()),
+            b"complement(gb_new_graph(4),1,1,1)",
             &[(0, 1, 1), (1, 0, 1), (1, 1, 1), (2, 0, 1), (3, 3, 1)]
         )
     );
-    Ok(())
 }
 
 #[test]
-fn of_absences_are_granted_when_asked_again(rt: HostRuntime) -> Result<(), Fail> {
-    let made = complement_again(rt.alloc(), &edge_again(rt.alloc()), false);
-    assert!(rt; has_id(&made, b"complement(gb_new_graph(2),0,1,1)"));
-    assert!(rt; arcs_are(&made, &[(0, 0, 1), (1, 1, 1)]));
-    Ok(())
-}
-
-#[test]
-fn of_unions_are_granted_when_asked_again(rt: HostRuntime) -> Result<(), Fail> {
-    let made = union_again(rt.alloc());
-    assert!(rt; has_id(&made, b"gunion(gb_new_graph(4),gb_new_graph(3),0,0)"));
+fn of_absences_are_granted_when_asked_again(rt: HostRuntime) {
     assert!(rt;
-        arcs_are(
-            &made,
+        is_as(
+            &absences_of_edge(rt.alloc()),
+            b"complement(gb_new_graph(2),0,1,1)",
+            &[(0, 0, 1), (1, 1, 1)]
+        )
+    );
+}
+
+#[test]
+fn of_unions_are_granted_when_asked_again(rt: HostRuntime) {
+    assert!(rt;
+        is_as(
+            &union_again(rt.alloc()),
+            b"gunion(gb_new_graph(4),gb_new_graph(3),0,0)",
             &[
                 (0, 1, 5),
                 (1, 0, 5),
@@ -89,24 +97,25 @@ fn of_unions_are_granted_when_asked_again(rt: HostRuntime) -> Result<(), Fail> {
             ]
         )
     );
-    Ok(())
 }
 
 #[test]
-fn of_intersections_are_granted_when_asked_again(rt: HostRuntime) -> Result<(), Fail> {
-    let made = intersection_again(rt.alloc());
-    assert!(rt; has_id(&made, b"intersection(gb_new_graph(4),gb_new_graph(3),0,0)"));
-    assert!(rt; arcs_are(&made, &[(0, 1, 6), (1, 0, 6), (1, 1, 8), (1, 1, 8)]));
-    Ok(())
-}
-
-#[test]
-fn of_products_are_granted_when_asked_again(rt: HostRuntime) -> Result<(), Fail> {
-    let made = product_again(rt.alloc());
-    assert!(rt; has_id(&made, b"product(gb_new_graph(2),gb_new_graph(2),0,0)"));
+fn of_intersections_are_granted_when_asked_again(rt: HostRuntime) {
     assert!(rt;
-        arcs_are(
-            &made,
+        is_as(
+            &intersection_again(rt.alloc()),
+            b"intersection(gb_new_graph(4),gb_new_graph(3),0,0)",
+            &[(0, 1, 6), (1, 0, 6), (1, 1, 8), (1, 1, 8)]
+        )
+    );
+}
+
+#[test]
+fn of_products_are_granted_when_asked_again(rt: HostRuntime) {
+    assert!(rt;
+        is_as(
+            &product_again(rt.alloc()),
+            b"product(gb_new_graph(2),gb_new_graph(2),0,0)",
             &[
                 (0, 2, 5),
                 (2, 0, 5),
@@ -119,5 +128,4 @@ fn of_products_are_granted_when_asked_again(rt: HostRuntime) -> Result<(), Fail>
             ]
         )
     );
-    Ok(())
 }

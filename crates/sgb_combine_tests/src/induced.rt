@@ -1,14 +1,9 @@
 //! What a refused growth of an induced graph leads to.
 
-use crate::graphs::{Made, counts, view_of};
+use crate::graphs::{Made, counts, graph_of, view_of};
 use sgb_graph::{ArcNo, Graph, Place, Refusal, Text, Util, VertexField, VertexNo};
 use sgb_induced::{InducedSpec, induced};
 use std::alloc::Global;
-
-fn edge(graph: &mut Graph, from: u32, to: u32, len: i64) -> Result<(), Refusal> {
-    let _made = graph.new_edge(VertexNo(from), VertexNo(to), len)?;
-    Ok(())
-}
 
 // Gives the field z of a vertex a number.
 fn set_number(graph: &mut Graph, vertex: u32, number: i64) -> Result<(), Refusal> {
@@ -25,18 +20,14 @@ fn set_name(alloc: Global, graph: &mut Graph, vertex: u32, bytes: &[u8]) -> Resu
 
 // Five vertices: one is kept, two are a class, one has three images, and one is dropped.
 fn mixed(alloc: Global) -> Made {
-    let mut graph = Graph::new(alloc, 5)?;
-    join_mixed(&mut graph)?;
+    let mut graph = joined(alloc)?;
     fill_mixed(alloc, &mut graph)?;
     Ok(graph)
 }
 
-fn join_mixed(graph: &mut Graph) -> Result<(), Refusal> {
-    edge(graph, 0, 1, 4)?;
-    edge(graph, 2, 3, 2)?;
-    edge(graph, 0, 2, 1)?;
-    edge(graph, 3, 3, 6)?;
-    edge(graph, 3, 4, 1)
+fn joined(alloc: Global) -> Made {
+    let edges = [(0, 1, 4), (2, 3, 2), (0, 2, 1), (3, 3, 6), (3, 4, 1)];
+    graph_of(alloc, 5, &edges, &[])
 }
 
 fn fill_mixed(alloc: Global, graph: &mut Graph) -> Result<(), Refusal> {
@@ -108,6 +99,5 @@ fn is_mixed(made: &Made) -> bool {
 
 #[test]
 fn growths_are_granted_when_asked_again(rt: HostRuntime) {
-    let graph = mixed_again(rt.alloc());
-    assert!(rt; is_mixed(&induced_again(rt.alloc(), &graph)));
+    assert!(rt; is_mixed(&induced_again(rt.alloc(), &mixed_again(rt.alloc()))));
 }

@@ -4,7 +4,7 @@ use crate::graphs::{Made, first, leading_to};
 use sgb_graph::{Graph, Refusal, Tip, VertexNo};
 use sgb_operand::{Spoke, check_operand, read_spokes};
 use std::alloc::{AllocError, Global};
-use std::test::Fail;
+use std::process::Abort;
 
 // How many spokes vertex 1 has, and its first one.
 fn of_vertex_1(
@@ -27,12 +27,15 @@ fn of_made(alloc: Global, made: &Made, directed: bool) -> Option<(usize, Option<
 }
 
 #[test]
-fn spokes(rt: HostRuntime) -> Result<(), Fail> {
+fn spokes(rt: HostRuntime) {
     let graph = first(rt.alloc());
+    read_both(&rt, rt.alloc(), &graph);
+}
+
+fn read_both(rt: &impl Abort, alloc: Global, graph: &Made) {
     let newest = Some(Spoke { to: 1, len: 3 });
-    assert!(rt; of_made(rt.alloc(), &graph, true) == Some((4, newest)));
-    assert!(rt; of_made(rt.alloc(), &graph, false) == Some((3, newest)));
-    Ok(())
+    assert!(rt; of_made(alloc, graph, true) == Some((4, newest)));
+    assert!(rt; of_made(alloc, graph, false) == Some((3, newest)));
 }
 
 // What is told of the graph as an operand.
@@ -43,15 +46,18 @@ fn told(made: &Made) -> Result<(), Refusal> {
     }
 }
 
+fn told_of_first(alloc: Global) -> Result<(), Refusal> {
+    told(&first(alloc))
+}
+
 fn told_of(alloc: Global, tip: Tip) -> Result<(), Refusal> {
     told(&leading_to(alloc, tip))
 }
 
 #[test]
-fn checked(rt: HostRuntime) -> Result<(), Fail> {
-    assert!(rt; told(&first(rt.alloc())).is_ok());
+fn checked(rt: HostRuntime) {
+    assert!(rt; told_of_first(rt.alloc()).is_ok());
     assert!(rt; told_of(rt.alloc(), Tip::Zero) == Err(Refusal::BadOperand));
     assert!(rt; told_of(rt.alloc(), Tip::One) == Err(Refusal::BadOperand));
     assert!(rt; told_of(rt.alloc(), Tip::To(VertexNo(0))).is_ok());
-    Ok(())
 }

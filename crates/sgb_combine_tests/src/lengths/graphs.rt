@@ -1,41 +1,12 @@
 //! Graphs to give lengths, and questions that promise nothing, so that the proof of a test stays short. For the same
 //! reason graphs are handed about with their refusals.
 
+use crate::graphs::{Made, graph_of, insert_arcs, insert_edges};
 use sgb_flip::Flip;
-use sgb_graph::{ArcNo, Graph, Refusal, VertexNo};
+use sgb_graph::{ArcNo, Graph, Refusal};
 use sgb_lengths::{LengthsDelta, LengthsSpec, random_lengths, revert_lengths};
 use sgb_plan::Seed;
 use std::alloc::Global;
-
-/// An arc or an edge from one vertex to another, of this length.
-pub type Line = (u32, u32, i64);
-
-/// A graph, or its refusal.
-pub type Made = Result<Graph, Refusal>;
-
-// A graph of n vertices with these edges.
-fn graph_of(alloc: Global, n: u32, edges: &[Line]) -> Made {
-    let mut graph = Graph::new(alloc, n)?;
-    insert_edges(&mut graph, edges)?;
-    Ok(graph)
-}
-
-fn insert_edges(graph: &mut Graph, edges: &[Line]) -> Result<(), Refusal> {
-    for (from, to, len) in edges {
-        graph.new_edge(VertexNo(*from), VertexNo(*to), *len)?;
-    }
-    Ok(())
-}
-
-fn insert_arc(graph: &mut Graph, line: Line) -> Result<(), Refusal> {
-    graph.new_arc(VertexNo(line.0), VertexNo(line.1), line.2)?;
-    Ok(())
-}
-
-/// Two vertices and an edge between them.
-pub fn one_edge(alloc: Global) -> Made {
-    graph_of(alloc, 2, &[(0, 1, 9)])
-}
 
 /// Four vertices with two edges, an arc on either side of them, and a loop.
 pub fn mixed(alloc: Global) -> Made {
@@ -45,14 +16,14 @@ pub fn mixed(alloc: Global) -> Made {
 }
 
 fn mix(graph: &mut Graph) -> Result<(), Refusal> {
-    insert_arc(graph, (0, 1, 7))?;
+    insert_arcs(graph, &[(0, 1, 7)])?;
     insert_edges(graph, &[(1, 2, 8), (3, 3, 2)])?;
-    insert_arc(graph, (0, 3, 9))
+    insert_arcs(graph, &[(0, 3, 9)])
 }
 
 /// Two edges and two loops.
 pub fn paired(alloc: Global) -> Made {
-    graph_of(alloc, 4, &[(0, 1, 7), (2, 1, 8), (3, 3, 2), (3, 3, 4)])
+    graph_of(alloc, 4, &[(0, 1, 7), (2, 1, 8), (3, 3, 2), (3, 3, 4)], &[])
 }
 
 /// The graph without an arc.
@@ -92,14 +63,6 @@ fn length(graph: &Graph, number: u32) -> i64 {
     match graph.arc(ArcNo(number)) {
         Some(arc) => arc.len,
         None => -1,
-    }
-}
-
-/// Whether the id has these bytes.
-pub fn has_id(made: &Made, id: &[u8]) -> bool {
-    match made {
-        Ok(graph) => graph.id() == id,
-        Err(_) => false,
     }
 }
 

@@ -1,13 +1,13 @@
 //! What refused growths lead to: who asks again has what is asked for. The lengths are those of seed 5.
 
-use crate::lengths::graphs::{Made, has_id, has_lengths, lengthen, paired};
+use crate::graphs::{Made, has_id};
+use crate::lengths::graphs::{has_lengths, lengthen, paired};
 use sgb_flip::Flip;
 use sgb_graph::Refusal;
 use sgb_lengths::LengthsSpec;
 use sgb_plan::Seed;
 use std::alloc::Global;
 use std::process::Abort;
-use std::test::Fail;
 
 // A graph of edges. Where a growth is refused, it is asked for once more.
 fn paired_again(alloc: Global) -> Made {
@@ -41,11 +41,14 @@ fn lengthen_again(rt: &impl Abort, alloc: Global, made: &mut Made, flip: &mut Fl
 }
 
 #[test]
-fn growths_are_granted_when_asked_again(rt: HostRuntime) -> Result<(), Fail> {
+fn growths_are_granted_when_asked_again(rt: HostRuntime) {
     let mut made = paired_again(rt.alloc());
+    lengthen_paired(&rt, rt.alloc(), &mut made);
+}
+
+fn lengthen_paired(rt: &impl Abort, alloc: Global, made: &mut Made) {
     let mut flip = Flip::new(5);
-    assert!(rt; lengthen_again(&rt, rt.alloc(), &mut made, &mut flip) == Some(4));
-    assert!(rt; has_lengths(&made, &[467, 467, 978, 978, 709, 709, 122, 122]));
-    assert!(rt; has_id(&made, b"random_lengths(gb_new_graph(4),0,1,1000,0,5)"));
-    Ok(())
+    assert!(rt; lengthen_again(rt, alloc, made, &mut flip) == Some(4));
+    assert!(rt; has_lengths(made, &[467, 467, 978, 978, 709, 709, 122, 122]));
+    assert!(rt; has_id(made, b"random_lengths(gb_new_graph(4),0,1,1000,0,5)"));
 }

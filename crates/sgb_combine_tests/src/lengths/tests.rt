@@ -1,15 +1,16 @@
 //! The lengths that seeds 0 and 5 give, and the order of the refusals.
 
+use crate::graphs::{Made, has_id, one_edge};
 use crate::lengths::graphs::{
-    Made, has_id, has_lengths, keeps_id, keeps_lengths, kept, lengthen, lengthen_and_back, mixed,
-    one_edge, paired, without,
+    Kept, has_lengths, keeps_id, keeps_lengths, kept, lengthen, lengthen_and_back, mixed, paired,
+    without,
 };
 use sgb_flip::Flip;
 use sgb_graph::Refusal;
 use sgb_lengths::LengthsSpec;
 use sgb_plan::Seed;
 use std::alloc::Global;
-use std::test::Fail;
+use std::process::Abort;
 
 fn spec(directed: bool, min: i64, max: i64) -> LengthsSpec {
     LengthsSpec { directed, min, max }
@@ -22,12 +23,15 @@ fn draws_of_a_die(alloc: Global, made: &mut Made) -> Option<u64> {
 }
 
 #[test]
-fn an_edge_has_one_length(rt: HostRuntime) -> Result<(), Fail> {
-    let mut made = one_edge(rt.alloc());
-    assert!(rt; draws_of_a_die(rt.alloc(), &mut made) == Some(1));
-    assert!(rt; has_lengths(&made, &[5, 5]));
-    assert!(rt; has_id(&made, b"random_lengths(gb_new_graph(2),0,1,6,0,-)"));
-    Ok(())
+fn an_edge_has_one_length(rt: HostRuntime) {
+    let mut made = one_edge(rt.alloc(), 9);
+    lengthen_edge(&rt, rt.alloc(), &mut made);
+}
+
+fn lengthen_edge(rt: &impl Abort, alloc: Global, made: &mut Made) {
+    assert!(rt; draws_of_a_die(alloc, made) == Some(1));
+    assert!(rt; has_lengths(made, &[5, 5]));
+    assert!(rt; has_id(made, b"random_lengths(gb_new_graph(2),0,1,6,0,-)"));
 }
 
 // The number that a generator of seed 0 gives once lengths and their draws were taken back.
@@ -39,12 +43,15 @@ fn next_after_both(alloc: Global, made: &mut Made) -> Option<u32> {
 }
 
 #[test]
-fn lengths_are_taken_back(rt: HostRuntime) -> Result<(), Fail> {
-    let mut made = one_edge(rt.alloc());
-    assert!(rt; next_after_both(rt.alloc(), &mut made) == Some(2029883356));
-    assert!(rt; has_lengths(&made, &[9, 9]));
-    assert!(rt; has_id(&made, b"gb_new_graph(2)"));
-    Ok(())
+fn lengths_are_taken_back(rt: HostRuntime) {
+    let mut made = one_edge(rt.alloc(), 9);
+    take_back(&rt, rt.alloc(), &mut made);
+}
+
+fn take_back(rt: &impl Abort, alloc: Global, made: &mut Made) {
+    assert!(rt; next_after_both(alloc, made) == Some(2029883356));
+    assert!(rt; has_lengths(made, &[9, 9]));
+    assert!(rt; has_id(made, b"gb_new_graph(2)"));
 }
 
 // The number of draws where the graph has lengths up to 1,000, of seed 5.
@@ -55,29 +62,42 @@ fn draws(alloc: Global, made: &mut Made, directed: bool) -> Option<u64> {
 }
 
 #[test]
-fn every_arc_draws_where_arcs_are_meant(rt: HostRuntime) -> Result<(), Fail> {
+fn every_arc_draws_where_arcs_are_meant(rt: HostRuntime) {
     let mut made = mixed(rt.alloc());
-    assert!(rt; draws(rt.alloc(), &mut made, true) == Some(6));
-    assert!(rt; has_lengths(&made, &[978, 122, 709, 205, 776, 467]));
-    assert!(rt; has_id(&made, b"random_lengths(gb_new_graph(4),1,1,1000,0,5)"));
-    Ok(())
+    lengthen_mixed(&rt, rt.alloc(), &mut made);
+}
+
+fn lengthen_mixed(rt: &impl Abort, alloc: Global, made: &mut Made) {
+    assert!(rt; draws(alloc, made, true) == Some(6));
+    assert!(rt; has_lengths(made, &[978, 122, 709, 205, 776, 467]));
+    assert!(rt; has_id(made, b"random_lengths(gb_new_graph(4),1,1,1000,0,5)"));
 }
 
 #[test]
-fn other_halves_do_not_draw(rt: HostRuntime) -> Result<(), Fail> {
+fn other_halves_do_not_draw(rt: HostRuntime) {
     let mut made = paired(rt.alloc());
-    assert!(rt; draws(rt.alloc(), &mut made, false) == Some(4));
-    assert!(rt; has_lengths(&made, &[467, 467, 978, 978, 709, 709, 122, 122]));
-    Ok(())
+    lengthen_paired(&rt, rt.alloc(), &mut made);
+}
+
+fn lengthen_paired(rt: &impl Abort, alloc: Global, made: &mut Made) {
+    assert!(rt; draws(alloc, made, false) == Some(4));
+    assert!(rt; has_lengths(made, &[467, 467, 978, 978, 709, 709, 122, 122]));
 }
 
 #[test]
-fn the_delta_keeps_lengths_and_id(rt: HostRuntime) -> Result<(), Fail> {
-    let mut made = without(mixed(rt.alloc()), 0);
-    let kept = kept(rt.alloc(), &mut made, &spec(true, 0, 9));
-    assert!(rt; keeps_lengths(&kept, &[0, 8, 8, 2, 2, 9]));
-    assert!(rt; keeps_id(&kept, b"gb_new_graph(4)"));
-    Ok(())
+fn the_delta_keeps_lengths_and_id(rt: HostRuntime) {
+    let kept = kept_of_mixed(rt.alloc());
+    look_at_kept(&rt, &kept);
+}
+
+fn kept_of_mixed(alloc: Global) -> Kept {
+    let mut made = without(mixed(alloc), 0);
+    kept(alloc, &mut made, &spec(true, 0, 9))
+}
+
+fn look_at_kept(rt: &impl Abort, kept: &Kept) {
+    assert!(rt; keeps_lengths(kept, &[0, 8, 8, 2, 2, 9]));
+    assert!(rt; keeps_id(kept, b"gb_new_graph(4)"));
 }
 
 // The refusal of lengths for this graph, and what a generator of seed 0 gives then.
@@ -89,14 +109,15 @@ fn refusal(alloc: Global, made: &mut Made, min: i64, max: i64) -> (Option<Refusa
 }
 
 #[test]
-fn refusals_have_their_order(rt: HostRuntime) -> Result<(), Fail> {
+fn refusals_have_their_order(rt: HostRuntime) {
+    let mut made = without(one_edge(rt.alloc(), 9), 1);
+    refuse_lengths(&rt, rt.alloc(), &mut made);
+}
+
+fn refuse_lengths(rt: &impl Abort, alloc: Global, made: &mut Made) {
     let first = 2029883356u32;
-    let mut made = without(one_edge(rt.alloc()), 1);
-    assert!(rt; refusal(rt.alloc(), &mut made, 5, 4) == (Some(Refusal::TooLarge), first));
-    assert!(rt;
-        refusal(rt.alloc(), &mut made, 0, 2147483648) == (Some(Refusal::LengthRange), first)
-    );
-    assert!(rt; refusal(rt.alloc(), &mut made, 1, 6) == (Some(Refusal::BadOperand), first));
-    assert!(rt; has_lengths(&made, &[9, -1]));
-    Ok(())
+    assert!(rt; refusal(alloc, made, 5, 4) == (Some(Refusal::TooLarge), first));
+    assert!(rt; refusal(alloc, made, 0, 2147483648) == (Some(Refusal::LengthRange), first));
+    assert!(rt; refusal(alloc, made, 1, 6) == (Some(Refusal::BadOperand), first));
+    assert!(rt; has_lengths(made, &[9, -1]));
 }
