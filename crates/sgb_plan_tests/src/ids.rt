@@ -1,13 +1,17 @@
 // Ids as the description of the language shows them, and compound ids at their limits: expected values come from
-// another implementation.
-use sgb_graph::Text;
+// another implementation. The small functions promise nothing, so that the proof of a test stays short.
+use sgb_graph::{Refusal, Text};
 use sgb_plan::{Part, Seed, id_of, id_of_one, id_of_two};
 use std::alloc::Global;
 use std::test::Fail;
 
-#[test]
-fn of_generators(rt: HostRuntime) -> Result<(), Fail> {
-    let board = [
+// Whether the id that was made is spelled so.
+fn is_spelled(id: Result<Text, Refusal>, wanted: &[u8]) -> Result<bool, Refusal> {
+    Ok(id?.bytes() == wanted)
+}
+
+fn board(alloc: Global) -> Result<Text, Refusal> {
+    let parts = [
         Part::Number(3),
         Part::Number(4),
         Part::Number(0),
@@ -16,74 +20,103 @@ fn of_generators(rt: HostRuntime) -> Result<(), Fail> {
         Part::Number(i64::MIN),
         Part::Flag(false),
     ];
-    let id = id_of(rt.alloc(), "board", &board)?;
-    assert_eq!(rt;
-        id.bytes(),
-        b"board(3,4,0,0,-1,-9223372036854775808,0)".as_slice()
+    id_of(alloc, "board", &parts)
+}
+
+fn nothing(alloc: Global) -> Result<Text, Refusal> {
+    id_of(alloc, "nothing", &[])
+}
+
+#[test]
+fn of_generators(rt: HostRuntime) -> Result<(), Fail> {
+    assert!(rt;
+        is_spelled(
+            board(rt.alloc()),
+            b"board(3,4,0,0,-1,-9223372036854775808,0)"
+        )?
     );
-    let id = id_of(rt.alloc(), "nothing", &[])?;
-    assert_eq!(rt; id.bytes(), b"nothing()".as_slice());
+    assert!(rt; is_spelled(nothing(rt.alloc()), b"nothing()")?);
     Ok(())
+}
+
+fn all_bits(alloc: Global) -> Result<Text, Refusal> {
+    id_of(alloc, "subsets", &[Part::Count(2), Part::Bits(u64::MAX)])
+}
+
+fn no_bits(alloc: Global) -> Result<Text, Refusal> {
+    id_of(alloc, "subsets", &[Part::Bits(0), Part::Flag(true)])
 }
 
 #[test]
 fn of_bits(rt: HostRuntime) -> Result<(), Fail> {
-    let id = id_of(
-        rt.alloc(),
-        "subsets",
-        &[Part::Count(2), Part::Bits(u64::MAX)],
-    )?;
-    assert_eq!(rt; id.bytes(), b"subsets(2,0xffffffffffffffff)".as_slice());
-    let id = id_of(rt.alloc(), "subsets", &[Part::Bits(0), Part::Flag(true)])?;
-    assert_eq!(rt; id.bytes(), b"subsets(0x0,1)".as_slice());
+    assert!(rt; is_spelled(all_bits(rt.alloc()), b"subsets(2,0xffffffffffffffff)")?);
+    assert!(rt; is_spelled(no_bits(rt.alloc()), b"subsets(0x0,1)")?);
     Ok(())
+}
+
+fn lowest_seed(alloc: Global) -> Result<Text, Refusal> {
+    let parts = [Part::Flag(true), Part::Drawn(Seed::Number(i64::MIN))];
+    id_of_one(alloc, "random_lengths", b"gb_new_graph(1)", &parts)
+}
+
+fn current_seed(alloc: Global) -> Result<Text, Refusal> {
+    let parts = [Part::Number(6), Part::Drawn(Seed::Current)];
+    id_of_one(alloc, "random_lengths", b"gb_new_graph(1)", &parts)
 }
 
 #[test]
 fn of_random_work(rt: HostRuntime) -> Result<(), Fail> {
-    let lowest = [Part::Flag(true), Part::Drawn(Seed::Number(i64::MIN))];
-    let id = id_of_one(rt.alloc(), "random_lengths", b"gb_new_graph(1)", &lowest)?;
-    assert_eq!(rt;
-        id.bytes(),
-        b"random_lengths(gb_new_graph(1),1,-9223372036854775808)".as_slice()
-    );
-    let current = [Part::Number(6), Part::Drawn(Seed::Current)];
-    let id = id_of_one(rt.alloc(), "random_lengths", b"gb_new_graph(1)", &current)?;
-    assert_eq!(rt;
-        id.bytes(),
-        b"random_lengths(gb_new_graph(1),6,-)".as_slice()
-    );
+    let lowest = b"random_lengths(gb_new_graph(1),1,-9223372036854775808)";
+    assert!(rt; is_spelled(lowest_seed(rt.alloc()), lowest)?);
+    let current = b"random_lengths(gb_new_graph(1),6,-)";
+    assert!(rt; is_spelled(current_seed(rt.alloc()), current)?);
     Ok(())
 }
 
-#[test]
-fn with_a_description(rt: HostRuntime) -> Result<(), Fail> {
-    let description = Text::new(rt.alloc(), b"m (d)")?;
+fn described(alloc: Global) -> Result<Text, Refusal> {
+    let description = Text::new(alloc, b"m (d)")?;
     let parts = [
         Part::Word(&description),
         Part::Flag(false),
         Part::Flag(true),
         Part::Flag(true),
     ];
-    let id = id_of_one(rt.alloc(), "induced", b"gb_new_graph(1)", &parts)?;
-    assert_eq!(rt;
-        id.bytes(),
-        b"induced(gb_new_graph(1),m (d),0,1,1)".as_slice()
+    id_of_one(alloc, "induced", b"gb_new_graph(1)", &parts)
+}
+
+#[test]
+fn with_a_description(rt: HostRuntime) -> Result<(), Fail> {
+    assert!(rt;
+        is_spelled(
+            described(rt.alloc()),
+            b"induced(gb_new_graph(1),m (d),0,1,1)"
+        )?
     );
     Ok(())
 }
 
+// An id of so many equal letters.
+fn letters(alloc: Global, letter: u8, count: usize) -> Result<Text, Refusal> {
+    let letters = vec![in alloc; letter; count]?;
+    Text::new(alloc, &letters)
+}
+
+// How long an id is, and whether it ends so.
+fn end_of(id: Result<Text, Refusal>, wanted: &[u8]) -> Result<(usize, bool), Refusal> {
+    let id = id?;
+    Ok((id.bytes().len(), id.bytes().ends_with(wanted)))
+}
+
+// A complement's id where its graph's id is this one.
+fn complement(alloc: Global, graph: &Text) -> Result<Text, Refusal> {
+    let parts = [Part::Flag(false), Part::Flag(true), Part::Flag(false)];
+    id_of_one(alloc, "complement", graph.bytes(), &parts)
+}
+
 // A complement's id where its graph's id has so many letters: its length, and how it ends.
-fn complement_of(alloc: Global, letters: usize) -> Result<(usize, bool), Fail> {
-    let graph = vec![in alloc; b'a'; letters]?;
-    let graph = Text::new(alloc, &graph)?;
-    let id = id_of_one(
-        alloc,
-        "complement",
-        graph.bytes(),
-        &[Part::Flag(false), Part::Flag(true), Part::Flag(false)],
-    )?;
-    Ok((id.bytes().len(), id.bytes().ends_with(b"a...),0,1,0)")))
+fn complement_of(alloc: Global, count: usize) -> Result<(usize, bool), Refusal> {
+    let graph = letters(alloc, b'a', count)?;
+    end_of(complement(alloc, &graph), b"a...),0,1,0)")
 }
 
 // There is room for 142 bytes.
@@ -95,20 +128,17 @@ fn of_one_graph(rt: HostRuntime) -> Result<(), Fail> {
     Ok(())
 }
 
+// A union's id where its graphs' ids are these.
+fn union(alloc: Global, first: &Text, second: &Text) -> Result<Text, Refusal> {
+    let parts = [Part::Flag(true), Part::Flag(false)];
+    id_of_two(alloc, "gunion", first.bytes(), second.bytes(), &parts)
+}
+
 // A union's id where its graphs' ids have so many letters: its length, and how it ends.
-fn union_of(alloc: Global, first: usize, second: usize) -> Result<(usize, bool), Fail> {
-    let first = vec![in alloc; b'a'; first]?;
-    let second = vec![in alloc; b'b'; second]?;
-    let first = Text::new(alloc, &first)?;
-    let second = Text::new(alloc, &second)?;
-    let id = id_of_two(
-        alloc,
-        "gunion",
-        first.bytes(),
-        second.bytes(),
-        &[Part::Flag(true), Part::Flag(false)],
-    )?;
-    Ok((id.bytes().len(), id.bytes().ends_with(b"b...),1,0)")))
+fn union_of(alloc: Global, first: usize, second: usize) -> Result<(usize, bool), Refusal> {
+    let first = letters(alloc, b'a', first)?;
+    let second = letters(alloc, b'b', second)?;
+    end_of(union(alloc, &first, &second), b"b...),1,0)")
 }
 
 // There is room for 147 bytes, and the half of it is 73.

@@ -1,15 +1,20 @@
 // The example of a generator.
 use crate::path;
-use sgb_graph::Refusal;
+use sgb_graph::{Graph, Refusal};
+use std::process::Abort;
 use std::test::Fail;
 
 #[test]
 fn three_in_a_row(rt: HostRuntime) -> Result<(), Fail> {
     let graph = path(rt.alloc(), 3, true)?;
+    look_at_three(&rt, &graph);
+    Ok(())
+}
+
+fn look_at_three(rt: &impl Abort, graph: &Graph) {
     assert_eq!(rt; graph.id(), b"path(3)".as_slice());
     assert_eq!(rt; graph.n(), 3);
     assert_eq!(rt; graph.m(), 2);
-    Ok(())
 }
 
 #[test]
