@@ -165,8 +165,8 @@ fn is_told(alloc: Global, refusal: ShellRefusal, number: u8, text: &str) -> Resu
     Ok(printed.as_str() == text && refusal.text() == text && refusal.number() == number)
 }
 
-#[test]
-fn refusals_print_their_text(rt: HostRuntime) -> Result<(), Fail> {
+// The first text whose refusal is not told by it.
+fn first_untold(alloc: Global) -> Result<Option<&'static str>, Fail> {
     for (refusal, number, text) in [
         (ShellRefusal::NoRoom, 1, "no room"),
         (ShellRefusal::CheckWrong, 11, "check number is wrong"),
@@ -184,7 +184,15 @@ fn refusals_print_their_text(rt: HostRuntime) -> Result<(), Fail> {
         (ShellRefusal::JournalFull, 105, "journal is full"),
         (ShellRefusal::Stuck, 106, "stuck"),
     ] {
-        assert!(rt; is_told(rt.alloc(), refusal, number, text)?, "{text}");
+        if !is_told(alloc, refusal, number, text)? {
+            return Ok(Some(text));
+        }
     }
+    Ok(None)
+}
+
+#[test]
+fn refusals_print_their_text(rt: HostRuntime) -> Result<(), Fail> {
+    assert_eq!(rt; first_untold(rt.alloc())?, None);
     Ok(())
 }
