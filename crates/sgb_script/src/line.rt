@@ -7,7 +7,7 @@ ghost use Rattle.sgb_script.specs.Words.{words_of};
 ghost use Rattle.sgb_script.specs.Arguments.{the_value};
 ghost use Rattle.sgb_script.specs.Line.{line_of, asked_of, line_after, keyword_of, step_of, whole_of, takes_memory, is_printable_byte};
 ghost use Rattle.sgb_script.specs.Private.Words.{seen, AreTexts, HasTexts};
-ghost use Rattle.sgb_script.specs.Private.Reading.{is_text, Reads};
+ghost use Rattle.sgb_script.specs.Private.Reading.{is_text, Begins, Reads};
 ghost use Rattle.sgb_script.specs.declared.refusal.ShellRefusal.TheVariants.{NoRoom, ScriptSyntax};
 ghost use Rattle.sgb_script.specs.declared.line.Keyword.TheVariants as keywords;
 
@@ -54,37 +54,80 @@ enum Keyword {
     End,
 }
 
+// How a line begins.
+enum Front<'a> {
+    // It is blank, or a comment.
+    Nothing,
+    // A keyword, and what follows it.
+    Asks(Keyword, &'a [u8]),
+    // No line of the language begins so.
+    Other,
+}
+
 /// Reads one line of a script, without its newline. Refused 100 where it is no line of the language. Memory is taken
 /// for a text alone, once the line is known to be one.
-// A line is large: inlined, it is written where the caller keeps it and not handed up.
+// A line is large: inlined, and read by one match, it is written where the caller keeps it and not handed up.
 #[inline(always)]
-#[tactic(auto, unfolding(crate::specs::Line::line_of))]
 pub fn parse(alloc: Global, line: &[u8]) -> Result<Line, ShellRefusal>
     ensures ok { IfOk result (λ l. line_of line.now ≡ Some l) }
     ensures err { IfErr result (λ e. ((e ≡ ScriptSyntax) × (line_of line.now ≡ None))
         ⊎ ((e ≡ NoRoom) × IsTrue (takes_memory (line_of line.now)))) }
 {
-    if line.len() > LINE_LIMIT || !is_printable(line) {
-        return Err(ShellRefusal::ScriptSyntax);
+    match front_of(line) {
+        Front::Nothing => Ok(Line::Nothing),
+        Front::Other => Err(ShellRefusal::ScriptSyntax),
+        Front::Asks(Keyword::Seed, rest) => seed(rest),
+        Front::Asks(Keyword::Next, rest) => next(rest),
+        Front::Asks(Keyword::Unif, rest) => unif(rest),
+        Front::Asks(Keyword::Make(kind), rest) => make(alloc, kind, rest),
+        Front::Asks(Keyword::Arc, rest) => arc(rest),
+        Front::Asks(Keyword::Edge, rest) => edge(rest),
+        Front::Asks(Keyword::Cut, rest) => cut(rest),
+        Front::Asks(Keyword::Len, rest) => len(rest),
+        Front::Asks(Keyword::Set, rest) => set(alloc, rest),
+        Front::Asks(Keyword::Types, rest) => types(rest),
+        Front::Asks(Keyword::Label, rest) => label(alloc, rest),
+        Front::Asks(Keyword::Id, rest) => id(alloc, rest),
+        Front::Asks(Keyword::Lengths, rest) => lengths(rest),
+        Front::Asks(Keyword::Drop, rest) => drop_graph(rest),
+        Front::Asks(Keyword::Undo, rest) => undo(rest),
+        Front::Asks(Keyword::Redo, rest) => redo(rest),
+        Front::Asks(Keyword::Group, rest) => group(rest),
+        Front::Asks(Keyword::End, rest) => end(rest),
+        Front::Asks(Keyword::Gen, rest) => generator(rest),
+        Front::Asks(Keyword::List, rest) => list(rest),
+        Front::Asks(Keyword::Show, rest) => show(rest),
+        Front::Asks(Keyword::Save, rest) => save(rest),
+        Front::Asks(Keyword::Load, rest) => load(rest),
     }
-    if is_comment(line) {
-        return Ok(Line::Nothing);
-    }
-    asked(alloc, line)
 }
 
-#[inline(always)]
-fn asked(alloc: Global, line: &[u8]) -> Result<Line, ShellRefusal>
+// The keyword and what follows it, where the line has one.
+#[tactic(auto, unfolding(crate::specs::Line::line_of))]
+fn front_of(line: &[u8]) -> Front<'_>
+    ensures { Begins (line_of line.now) result }
+{
+    if line.len() > LINE_LIMIT || !is_printable(line) {
+        return Front::Other;
+    }
+    if is_comment(line) {
+        return Front::Nothing;
+    }
+    front_of_words(line)
+}
+
+// The same of a line that is no comment.
+fn front_of_words(line: &[u8]) -> Front<'_>
     requires { HasTexts (words_of line.now) }
-    ensures { Reads (option_and_then asked_of (words_of line.now)) result }
+    ensures { Begins (option_and_then asked_of (words_of line.now)) result }
 {
     match split_word(line) {
         Some((Word::Plain(word), rest)) => match recognize(word) {
-            Some(keyword) => asked_after(alloc, keyword, rest),
-            None => Err(ShellRefusal::ScriptSyntax),
+            Some(keyword) => Front::Asks(keyword, rest),
+            None => Front::Other,
         },
-        None if is_blank(line) => Ok(Line::Nothing),
-        _ => Err(ShellRefusal::ScriptSyntax),
+        None if is_blank(line) => Front::Nothing,
+        _ => Front::Other,
     }
 }
 
@@ -168,39 +211,6 @@ fn is(word: &[u8], keyword: &str) -> bool
     ensures { result ≡ bytes_eq word.now keyword.now }
 {
     word == keyword.as_bytes()
-}
-
-// What the keyword asks for with the words that follow it.
-#[inline(always)]
-fn asked_after(alloc: Global, keyword: Keyword, rest: &[u8]) -> Result<Line, ShellRefusal>
-    requires { HasTexts (words_of rest.now) }
-    ensures { Reads (option_and_then (λ ws. line_after ws keyword) (words_of rest.now)) result }
-{
-    match keyword {
-        Keyword::Seed => seed(rest),
-        Keyword::Next => next(rest),
-        Keyword::Unif => unif(rest),
-        Keyword::Make(kind) => make(alloc, kind, rest),
-        Keyword::Arc => arc(rest),
-        Keyword::Edge => edge(rest),
-        Keyword::Cut => cut(rest),
-        Keyword::Len => len(rest),
-        Keyword::Set => set(alloc, rest),
-        Keyword::Types => types(rest),
-        Keyword::Label => label(alloc, rest),
-        Keyword::Id => id(alloc, rest),
-        Keyword::Lengths => lengths(rest),
-        Keyword::Drop => drop_graph(rest),
-        Keyword::Undo => undo(rest),
-        Keyword::Redo => redo(rest),
-        Keyword::Group => group(rest),
-        Keyword::End => end(rest),
-        Keyword::Gen => generator(rest),
-        Keyword::List => list(rest),
-        Keyword::Show => show(rest),
-        Keyword::Save => save(rest),
-        Keyword::Load => load(rest),
-    }
 }
 
 fn next(rest: &[u8]) -> Result<Line, ShellRefusal>

@@ -1,13 +1,18 @@
 -- What the functions that read a line answer.
-use Rattle.std.specs.Prelude.{◌≡◌, Bool, true, false, ◌⊎◌, IsTrue, Option, None, Some, Result, Ok, Err}
+use Rattle.std.specs.Prelude.{◌≡◌, Bool, true, false, ◌⊎◌, IsTrue, Option, None, Some, option_and_then, Result, Ok, Err}
 use Rattle.sgb_graph.specs.declared.field.Util.{Util}
 use Rattle.sgb_graph.specs.declared.field.Util.TheVariants as utils
 use Rattle.sgb_script.specs.declared.command.Maker.{Maker}
 use Rattle.sgb_script.specs.declared.command.Maker.TheVariants.{Induced}
 use Rattle.sgb_script.specs.declared.command.Line.{Line}
+use Rattle.sgb_script.specs.declared.command.Line.TheVariants.{Nothing}
+use Rattle.sgb_script.specs.declared.line.Front.{Front}
+use Rattle.sgb_script.specs.declared.line.Front.TheVariants as fronts
 use Rattle.sgb_script.specs.declared.refusal.ShellRefusal.{ShellRefusal}
 use Rattle.sgb_script.specs.declared.refusal.ShellRefusal.TheVariants.{NoRoom, ScriptSyntax}
-use Rattle.sgb_script.specs.Line.{takes_memory}
+use Rattle.sgb_script.specs.Words.{words_of}
+use Rattle.sgb_script.specs.Line.{line_after, takes_memory}
+use Rattle.sgb_script.specs.Private.Words.{HasTexts}
 
 -- the value of a field is a text
 abbrev pub is_text : Option Util → Bool
@@ -22,6 +27,13 @@ is_text (Some (utils.Text t)) = true
 abbrev pub Reads : Option Line → Result Line ShellRefusal → Type 0
 Reads asked (Ok line) = asked ≡ Some line
 Reads asked (Err e) = ((e ≡ ScriptSyntax) × (asked ≡ None)) ⊎ ((e ≡ NoRoom) × IsTrue (takes_memory asked))
+
+-- what the front of a line tells of what it asks for
+abbrev pub Begins : Option Line → Front → Type 0
+Begins asked fronts.Nothing = asked ≡ Some Nothing
+Begins asked fronts.Other = asked ≡ None
+Begins asked (fronts.Asks keyword rest) =
+    (asked ≡ option_and_then (λ ws. line_after ws keyword) (words_of rest.now)) × HasTexts (words_of rest.now)
 
 -- the description of an induced graph takes memory
 abbrev pub is_described : Option Maker → Bool
