@@ -26,7 +26,10 @@ GENTLY = ['nice', '-n', '10']
 SHOWN = 30
 
 # The lines of `rt ci` that tell how far it is, and those of any command that tell what failed.
-PROGRESS = re.compile(r'rt: (?:\S+ (?:NOT )?proved|\S+: (?:its tests|trying its)|\S+ ran\b|FAILED|must-fail .*: (?:BAD|NOT))')
+PROGRESS = re.compile(r'rt: (?:\S+ (?:(?:NOT )?proved|is kept)|\S+: (?:its tests|trying its)|\S+ ran\b|FAILED'
+                      r'|must-fail .*: (?:BAD|NOT))')
+# A crate that it proved, or that an earlier run on this machine did.
+PROVED = re.compile(r'rt: (\w+) (?:proved$|is kept:)')
 FAILURE = re.compile(r'\berror(?:\[|:)|NOT (?:PROVED|REFUSED|proved)|BAD EDIT|FAILED|: not proved|: no proof|could not tell'
                      r'|is not proved|is not in the layout|differ|rt: run rt fmt')
 
@@ -184,7 +187,7 @@ class Gate:
         """Prints what `rt ci` says of its way, and hands the crates that it proved on to those who try their edits."""
         if PROGRESS.match(line):
             self.say(line[len('rt: '):])
-        proved = re.match(r'rt: (\w+) proved$', line)
+        proved = PROVED.match(line)
         if proved:
             library = 'crates/%s/out/rlib' % proved[1]
             if os.path.isdir(library):
