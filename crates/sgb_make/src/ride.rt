@@ -25,7 +25,7 @@ fn is_back(rides: bool, from: u32, to: u32) -> bool
     rides && to == from
 }
 
-// Inserts a ride by the links, from one position until it ends. From most positions none leads on, which one test tells.
+// Inserts a ride by the links, from one position until it ends. Where none leads on, one test tells it.
 fn insert_trip(builder: &mut Builder, table: &[u32], rides: bool, from: u32) -> Result<(), Refusal>
     requires from { from < length table.now }
     requires low { All (λ t. t ≤ length table.now) table.now }
