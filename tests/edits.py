@@ -11,7 +11,8 @@ one that edits no body, which any refusal may meet. The crates themselves must b
 edits of those crates alone, with files those edits, also of must-fail/, and with -v it tells what refused each.
 
 With --as-proved it reads names of crates, one a line, as another run proves them and leaves their libraries, and tries
-the edits of each from then on; those of a crate that was not named in the end fail.
+the edits of each from then on; those of a crate that was not named in the end fail. There the first check, with few
+edits, begins from nothing, and what it proves is kept for the others.
 """
 import importlib.machinery
 import importlib.util
@@ -158,7 +159,8 @@ def edits_of(crate, files):
 
 
 def groups_of(edits):
-    """The edits in groups with at most one edit a function and AT_ONCE in all, and each that edits no body in one of its own."""
+    """The edits in groups with at most one edit a function and AT_ONCE in all, and each that edits no body in one of its
+    own. These come last, and small groups before large ones."""
     groups = []
     for edit in edits:
         keys = {it.key for it in edit.functions}
@@ -168,6 +170,7 @@ def groups_of(edits):
         else:
             fit[0].update(keys)
             fit[1].append(edit)
+    groups.sort(key=lambda it: (not it[0], len(it[1])))
     return [edits for _, edits in groups]
 
 
@@ -259,14 +262,16 @@ def rattle(crate, folder, flags):
     return call([*GUARD, rtlib.RATTLE, 'check', *crate.words(['--jobs', '1'], keeps=False), *flags], folder)
 
 
-def check(crate, edits):
-    """What the check says of the crate with these edits, and those that are not in it."""
+def check(crate, edits, is_first=False):
+    """What the check says of the crate with these edits, and those that are not in it. The first one leaves what it proves."""
     with tempfile.TemporaryDirectory(prefix='sgb-edits-') as room:
         left = lay(crate, edits, room)
         changed = {path for it in edits for path in it.texts}
-        # Each check begins with the work of the proved crate, so no edit meets what another one left.
-        shutil.copytree(kept(crate), '%s/kept' % room)
-        return Said(rattle(crate, room, ['--incremental', 'kept', '--allow-holes'])[1], changed), left
+        over = kept(crate) if is_first else '%s/kept' % room
+        if not is_first:
+            # Each begins with the work of the proved crate, in links that a check replaces, so no edit meets what another one left.
+            rt.linked(kept(crate), over)
+        return Said(rattle(crate, room, ['--incremental', over, '--allow-holes'])[1], changed), left
 
 
 def try_alone(edit):
@@ -282,11 +287,11 @@ def try_alone(edit):
     return bool(well), why
 
 
-def try_group(edits):
+def try_group(edits, is_first=False):
     """Tries the edits of a group, and returns what came of each, with the number of checks."""
-    if len(edits) == 1:
+    if len(edits) == 1 and not is_first:
         return {edits[0]: try_alone(edits[0])}, 1
-    said, left = check(edits[0].crate, edits)
+    said, left = check(edits[0].crate, edits, is_first)
     found, checks = {}, 1
     if said.unread:
         broken = [it for it in edits if any(said.unread.startswith((at + ':', './%s:' % at)) for at in it.places)]
@@ -296,19 +301,16 @@ def try_group(edits):
         judged = {it: said.judge(it, False) for it in edits if it not in left}
         found = {it: told for it, told in judged.items() if told[0]}
         halves = [[it] for it in edits if it not in found]
-    for half in halves:
+    for half in filter(None, halves):
         more, count = try_group(half)
         found.update(more)
         checks += count
     return found, checks
 
 
-def prove(crate, has_libraries):
-    """Proves a crate over its kept work, with the libraries below it if they are not there, and returns whether it is proved."""
-    if has_libraries:
-        status, said = rattle(crate, crate.folder, ['--incremental', kept(crate)])
-    else:
-        status, said = call(['rt', 'check'], crate.folder)
+def prove(crate):
+    """Proves a crate over its kept work, and those below it, and returns whether it is proved."""
+    status, said = call(['rt', 'check'], crate.folder)
     is_proved = status == 0 and re.search(r'(?m)^logic=proved ', said)
     if not is_proved:
         print('\n'.join(re.findall(r'(?m)^.*(?:\berror(?:\[|:)|: not proved|: no proof|: could not tell).*$', said)[:6]))
@@ -363,13 +365,11 @@ class Tally:
                 print('%s: %s%s' % (label, 'refused, as it must be: ' if well else '', why), flush=True)
 
     def prove(self, crate):
-        """Proves a crate, as soon as another run has, or else alone; returns whether it is proved, and the seconds it took."""
-        if not self.proved:
-            with self.proving:
-                return timed(prove, crate, False)
-        if self.proved.await_name(crate.name):
-            return self.pool.submit(timed, prove, crate, True).result()
-        return False, 0
+        """Proves a crate, or waits until another run has; returns whether it is proved, and the seconds it took."""
+        if self.proved:
+            return self.proved.await_name(crate.name), 0
+        with self.proving:
+            return timed(prove, crate)
 
     def try_crate(self, crate, files):
         """Proves a crate and tries its edits."""
@@ -383,7 +383,12 @@ class Tally:
         if not is_proved:
             self.tell(False, crate.name, 'the crate is not proved, so none of its %d edits was tried' % len(good))
             return
-        tried = [self.pool.submit(timed, try_group, it) for it in groups_of(good)]
+        tried, groups = [], groups_of(good)
+        if self.proved and groups:
+            os.makedirs(kept(crate), exist_ok=True)
+            tried.append(self.pool.submit(timed, try_group, groups.pop(0), True))
+            tried[0].result()
+        tried += [self.pool.submit(timed, try_group, it) for it in reversed(groups)]
         checks, spent, refused = 0, 0, 0
         for (found, more), time_taken in [it.result() for it in tried]:
             checks, spent = checks + more, spent + time_taken
