@@ -531,12 +531,16 @@ fn push_row(
     ensures capacity { vec_capacity cells.new ≡ vec_capacity cells.old }
     ensures link { result ≡ last_link (vec_len cells.old) (end - first) next }
 {
+    // Moved here and back, so that its length stays in a register.
+    let none = Vec::new(*cells.allocator());
+    let mut all = mem::replace(cells, none);
     let mut link = next;
     for to in first..end {
-        let number = ArcNo(cells.len() as u32);
-        cells.push_reserved(new_cell(owner, VertexNo(to), link, len));
+        let number = ArcNo(all.len() as u32);
+        all.push_reserved(new_cell(owner, VertexNo(to), link, len));
         link = Link::to(number);
     }
+    *cells = all;
     link
 }
 

@@ -7,7 +7,7 @@ use Rattle.sgb_graph.proofs.graph.arena.push_row.Goals as goal
 pub loop-to-preserved : goal.loop-to-preserved
 loop-to-preserved c =
     let z = to_z w64 (of_z w64 c.args.len) in
-    let cs = c.loop-to.cells in
+    let cs = c.loop-to.all in
     let ds = c.push_reserved.new.self in
     let number = c.to-link.ensures ∙ ap (λ k. Some (arc_no k)) c.len.ensures in
     record {
