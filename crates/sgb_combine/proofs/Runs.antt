@@ -1,12 +1,12 @@
 -- Lemmas on the vertices to which no spoke leads, run by run.
-use Rattle.std.proofs.Common.{◌≡◌, ◌<◌, ◌≤◌, ◌+◌, ◌-◌, ◌==◌, ℕ, zero, suc, List, [], ◌∷◌, ◌++◌, length, map, Bool, true, false, not, ◌||◌, ◌&&◌, cond, nat_le, refl, sym, ap, ap₂, subst, ◌∙◌, arith}
+use Rattle.std.proofs.Common.{◌≡◌, ◌<◌, ◌≤◌, ◌+◌, ◌-◌, ◌==◌, ℕ, zero, suc, pos, List, [], ◌∷◌, ◌++◌, length, map, Bool, true, false, not, ◌||◌, ◌&&◌, cond, nat_le, refl, sym, ap, ap₂, subst, ◌∙◌, arith}
 use Rattle.std.specs.List.{filter, range_with_len}
 use Rattle.std.proofs.lemmas.Bool.{eq-eqb, ne_eqb, eqb-true, le-leb, lt-leb}
 use Rattle.std.proofs.lemmas.List.{map-append}
 use Rattle.std.proofs.lemmas.List.Elements.{filter-append}
 use Rattle.sgb_graph.specs.declared.builder.Builder.{Builder}
 use Rattle.sgb_graph.specs.declared.refusal.Refusal.{Refusal}
-use Rattle.sgb_graph.specs.Builder.{Insertion}
+use Rattle.sgb_graph.specs.Builder.{Insertion, row}
 use Rattle.sgb_graph.proofs.Inserting.{RefusesInsertions, LeftFrom, from_start_at, left_refused, left_start, map-filter}
 use Rattle.sgb_operand.specs.declared.spoke.Spoke.{Spoke}
 use Rattle.sgb_combine.specs.declared.spec.ComplementSpec.{ComplementSpec}
@@ -121,6 +121,16 @@ step_there u ss w is there = ap (λ c. cond (not c) (unit_step u w ∷ []) []) (
 pub step_missing : (u : ℕ) (ss : List Spoke) (w : ℕ) {b : Bool} → b ≡ leads_to ss w → b ≡ false → step_unless u ss w ≡ unit_step u w ∷ []
 step_missing u ss w is missing = ap (λ c. cond (not c) (unit_step u w ∷ []) []) (sym is ∙ missing)
 
-pub no_spokes : (ss : List Spoke) → (length ss == 0) ≡ true → [] ≡ ss
+no_spokes : (ss : List Spoke) → (length ss == 0) ≡ true → [] ≡ ss
 no_spokes [] none = refl
 no_spokes (s ∷ ss) none = absurd (let wrong = eqb-true (length (s ∷ ss)) 0 none in omega (arith, wrong))
+
+-- where no spoke leads anywhere, no vertex of the run is left out
+filter-none : (ws : List ℕ) → filter (λ w. not (leads_to [] w)) ws ≡ ws
+filter-none [] = refl
+filter-none (w ∷ ws) = ap (λ vs. w ∷ vs) (filter-none ws)
+
+pub row_is : (u low high : ℕ) (ss : List Spoke) → (length ss == 0) ≡ true → row u low high (pos 1) ≡ steps_between u ss low high
+row_is u low high ss none =
+    sym (ap (map (unit_step u)) (filter-none (range_with_len low (high - low))))
+    ∙ ap (λ ts. steps_between u ts low high) (no_spokes ss none)

@@ -1,5 +1,5 @@
 //! Complements.
-ghost use Rattle.std.specs.Prelude.{◌≡◌, ◌<◌, ◌≤◌, [], length, map, All, OnOk, true, false};
+ghost use Rattle.std.specs.Prelude.{◌≡◌, ◌<◌, ◌≤◌, length, map, All, OnOk, true, false};
 ghost use Rattle.std.specs.List.{flat_map, filter, range_with_len};
 ghost use Rattle.sgb_graph.specs.Graph.{n_of};
 ghost use Rattle.sgb_graph.specs.Builder.{Inserts};
@@ -146,21 +146,10 @@ fn insert_between(
     ensures { Inserts builder.old builder.new (steps_between vertex.0 lowest.now.spokes.items low high) result }
 {
     if lowest.spokes().is_empty() {
-        insert_each(builder, vertex, low, high)
+        builder.insert_row(vertex, low, high, 1)
     } else {
         insert_unmarked(builder, lowest, vertex, low, high)
     }
-}
-
-fn insert_each(builder: &mut Builder, vertex: VertexNo, low: u32, high: u32) -> Result<(), Refusal>
-    requires from { vertex.0 < n_of builder.old.graph }
-    requires to { high ≤ n_of builder.old.graph }
-    ensures { Inserts builder.old builder.new (steps_between vertex.0 [] low high) result }
-{
-    for tip in low..high {
-        builder.insert(vertex, VertexNo(tip), 1)?;
-    }
-    Ok(())
 }
 
 fn insert_unmarked(

@@ -24,6 +24,7 @@ pub mod Pushing
 pub mod PutBack
 pub mod Reading
 pub mod Reverting
+pub mod Rows
 pub mod SameRows
 pub mod SetLemmas
 pub mod Shows

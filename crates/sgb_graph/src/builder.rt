@@ -1,8 +1,8 @@
 //! Graphs that are built by a run of insertions.
-ghost use Rattle.std.specs.Prelude.{◌≡◌, ◌≤◌, ◌<◌, ◌⊎◌, ◌∷◌, [], length, All, IfErr, OnOk, OnErr};
+ghost use Rattle.std.specs.Prelude.{◌≡◌, ◌≤◌, ◌<◌, ◌⊎◌, ◌∷◌, [], length, All, IfErr, OnOk, OnErr, true, false};
 ghost use Rattle.std.specs.Result.{IsErrOf};
 
-use crate::{Graph, Label, Refusal, Text, Types, Util, VertexNo};
+use crate::{Graph, Label, MOST_ARCS, Refusal, Text, Types, Util, VertexNo};
 use std::alloc::Global;
 
 /// A graph under construction, and whether an insertion makes an arc or an edge.
@@ -16,7 +16,7 @@ impl Builder {
     ghost use Rattle.sgb_graph.specs.Graph.{IsGraph, n_of, made_of};
     ghost use Rattle.sgb_graph.specs.New.{bare_graph, six_zeros};
     ghost use Rattle.sgb_graph.specs.Vertex.{NamesNothing, new_vertex, with_vertex_last};
-    ghost use Rattle.sgb_graph.specs.Builder.{Inserts, insertion, grown};
+    ghost use Rattle.sgb_graph.specs.Builder.{Inserts, IsBegun, insertion, row, grown};
 
     /// A graph without vertices and arcs. An insertion makes an arc where `directed` is true, and else an edge.
     pub fn new(alloc: Global, id: Text, types: Types, directed: bool) -> Builder
@@ -102,6 +102,59 @@ impl Builder {
             self.graph.add_arc(from, to, len)?;
         } else {
             self.graph.add_edge(from, to, len)?;
+        }
+        Ok(())
+    }
+
+    /// Inserts an arc from one vertex to each of the vertices from `first` up to, but not including, `end`, in that order,
+    /// or edges. Refused `TooLarge` where the graph would give out more than 1,000,000 numbers; the graph is then as it
+    /// was. Where memory runs out in a run of edges, the first of them may stand.
+    pub fn insert_row(
+        &mut self,
+        from: VertexNo,
+        first: u32,
+        end: u32,
+        len: i64,
+    ) -> Result<(), Refusal>
+        requires from { from.0 < n_of self.old.graph }
+        requires end { end ≤ n_of self.old.graph }
+        ensures value { Inserts self.old self.new (row from.0 first end len) result }
+        ensures room { IsErrOf result Refusal.NoRoom →
+            made_of (grown self.old (row from.0 first end len)).graph ≤ 1000000 }
+        ensures unchanged { self.old.directed ≡ true → OnErr result (self.new ≡ self.old) }
+        ensures refused { IsErrOf result Refusal.TooLarge → self.new ≡ self.old }
+        ensures begun { OnErr result (IsBegun self.old self.new (row from.0 first end len)) }
+    {
+        if self.directed {
+            self.graph.add_row(from, first, end, len)
+        } else {
+            self.insert_edges(from, first, end, len)
+        }
+    }
+
+    // What `insert_row` does where an insertion makes an edge.
+    fn insert_edges(
+        &mut self,
+        from: VertexNo,
+        first: u32,
+        end: u32,
+        len: i64,
+    ) -> Result<(), Refusal>
+        requires edges { self.old.directed ≡ false }
+        requires from { from.0 < n_of self.old.graph }
+        requires end { end ≤ n_of self.old.graph }
+        ensures value { Inserts self.old self.new (row from.0 first end len) result }
+        ensures room { IsErrOf result Refusal.NoRoom →
+            made_of (grown self.old (row from.0 first end len)).graph ≤ 1000000 }
+        ensures refused { IsErrOf result Refusal.TooLarge → self.new ≡ self.old }
+        ensures begun { OnErr result (IsBegun self.old self.new (row from.0 first end len)) }
+    {
+        let _ = self.graph.n();
+        if self.graph.made() + 2 * end.saturating_sub(first) > MOST_ARCS {
+            return Err(Refusal::TooLarge);
+        }
+        for to in first..end {
+            self.insert(from, VertexNo(to), len)?;
         }
         Ok(())
     }

@@ -1,5 +1,5 @@
 //! The arcs of a graph by number.
-ghost use Rattle.std.specs.Prelude.{◌≡◌, ◌<◌, ◌≤◌, ◌^◌, ◌-◌, ◌+◌, ◌∷◌, ◌++◌, [], max, length, vec_len, vec_capacity, take, is_some, IsSome, None, Some, OnOk, OnErr, slice_index_or, slice_set};
+ghost use Rattle.std.specs.Prelude.{◌≡◌, ◌<◌, ◌≤◌, ◌^◌, ◌-◌, ◌+◌, ◌∷◌, ◌++◌, [], max, length, map, vec_len, vec_capacity, take, is_some, IsSome, None, Some, IfOk, OnOk, OnErr, slice_index_or, slice_set};
 ghost use Rattle.std.specs.List.{list_all, zip};
 ghost use Rattle.sgb_graph.specs.declared.field.Util.TheVariants as utils;
 ghost use Rattle.sgb_graph.specs.Honest.{are_allowed};
@@ -7,7 +7,7 @@ ghost use Rattle.sgb_graph.specs.Private.Aim.{with_aim_in};
 ghost use Rattle.sgb_graph.specs.Private.Arena.{slot_at, next_at, owner_in, names_counted, view_in, len_in, with_len_in};
 ghost use Rattle.sgb_graph.specs.Private.Cells.{two_zeros, slot_with, kept_at, SameFields, PutsFields, new_cell, unnamed_slot, owned_allowed, is_zero};
 ghost use Rattle.sgb_graph.specs.Private.Exchange.{fields_in, with_field};
-ghost use Rattle.sgb_graph.specs.Private.Insert.{new_slot};
+ghost use Rattle.sgb_graph.specs.Private.Insert.{new_slot, row_cells, last_link};
 ghost use Rattle.sgb_graph.specs.Private.Link.{slots_relinked, slots_gaining, slots_losing, IsCounted};
 ghost use Rattle.sgb_graph.specs.Private.SameRows.{each_eq, slot_eq};
 ghost use Rattle.sgb_graph.specs.Private.Walk.{is_loop_in};
@@ -146,6 +146,29 @@ impl Arena {
         self.cells
             .push_reserved(new_cell(high, low, after_high, len));
         Ok(())
+    }
+
+    /// Adds a new arc of one vertex to each of the vertices from `first` up to `end`, last, and answers the link to the
+    /// last of them. Each is followed by the one before it, and the first by what the link names.
+    #[inline]
+    pub fn push_row(
+        &mut self,
+        from: VertexNo,
+        first: u32,
+        end: u32,
+        next: Link,
+        len: i64,
+    ) -> Result<Link, AllocError>
+        requires from { from.0 < 65535 }
+        requires end { end ≤ 65535 }
+        requires few { length self.old + (end - first) ≤ 1000000 }
+        ensures slots { OnOk result (self.new ≡ self.old ++ map (slot_with two_zeros) (row_cells from len (length self.old) first (end - first) next)) }
+        ensures link { IfOk result (λ link. link ≡ last_link (length self.old) (end - first) next) }
+        ensures unchanged { OnErr result (self.new ≡ self.old) }
+    {
+        let count = end.saturating_sub(first);
+        make_room(&mut self.cells, &mut self.fields, count as usize)?;
+        Ok(push_row(&mut self.cells, from, first, end, next, len))
     }
 
     /// Takes back all slots but the first ones.
@@ -486,6 +509,39 @@ fn new_cell(owner: VertexNo, to: VertexNo, next: Link, len: i64) -> Cell
         names: 0,
         len,
     }
+}
+
+// Adds the cells of new arcs of one vertex to each of the vertices from `first` up to `end`, last, and answers the link
+// to the last of them.
+#[inline]
+fn push_row(
+    cells: &mut Vec<Cell>,
+    owner: VertexNo,
+    first: u32,
+    end: u32,
+    next: Link,
+    len: i64,
+) -> Link
+    requires owner { owner.0 < 65535 }
+    requires end { end ≤ 65535 }
+    requires few { vec_len cells.old + (end - first) ≤ 1000000 }
+    requires room { vec_len cells.old + (end - first) ≤ vec_capacity cells.old }
+    ensures cells { cells.new.items ≡ cells.old.items ++ row_cells owner len (vec_len cells.old) first (end - first) next }
+    ensures len { vec_len cells.new ≡ vec_len cells.old + (end - first) }
+    ensures capacity { vec_capacity cells.new ≡ vec_capacity cells.old }
+    ensures link { result ≡ last_link (vec_len cells.old) (end - first) next }
+{
+    // Moved here and back, so that its length stays in a register.
+    let none = Vec::new(*cells.allocator());
+    let mut all = mem::replace(cells, none);
+    let mut link = next;
+    for to in first..end {
+        let number = ArcNo(all.len() as u32);
+        all.push_reserved(new_cell(owner, VertexNo(to), link, len));
+        link = Link::to(number);
+    }
+    *cells = all;
+    link
 }
 
 // Takes room for so many slots more, or vertices, and for the fields of all.

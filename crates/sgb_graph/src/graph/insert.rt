@@ -1,7 +1,8 @@
 //! New arcs and edges.
-ghost use Rattle.std.specs.Prelude.{◌≡◌, ◌⊎◌, ◌∷◌, ◌++◌, ◌+◌, ◌<◌, ◌≤◌, [], length, vec_len, vec_capacity, IfOk, IfErr, OnOk, OnErr, None, Some};
+ghost use Rattle.std.specs.Prelude.{◌≡◌, ◌⊎◌, ◌∷◌, ◌++◌, ◌+◌, ◌-◌, ◌<◌, ◌≤◌, [], length, vec_len, vec_capacity, IfOk, IfErr, OnOk, OnErr, None, Some, true};
 ghost use Rattle.std.specs.Result.{IsErrOf};
-ghost use Rattle.sgb_graph.specs.Graph.{IsGraph, made_of};
+ghost use Rattle.sgb_graph.specs.Builder.{row, with_all};
+ghost use Rattle.sgb_graph.specs.Graph.{IsGraph, n_of, made_of};
 ghost use Rattle.sgb_graph.specs.Edit.{with_arc, with_edge, refusal_of_arc, refusal_of_edge};
 ghost use Rattle.sgb_graph.specs.Delta.{LeftBy};
 ghost use Rattle.sgb_graph.specs.Field.{arc_no};
@@ -126,6 +127,34 @@ impl Graph {
         self.live += 2;
         Ok(number)
     }
+
+    // New arcs from one vertex to each of the vertices from `first` up to, but not including, `end`, in that order.
+    // Room is taken for all of them at once, and none is linked before the last stands.
+    pub(crate) fn add_row(
+        &mut self,
+        from: VertexNo,
+        first: u32,
+        end: u32,
+        len: i64,
+    ) -> Result<(), Refusal>
+        requires from { from.0 < n_of self.old }
+        requires end { end ≤ n_of self.old }
+        ensures graph { OnOk result (self.new ≡ with_all true self.old (row from.0 first end len)) }
+        ensures err { IfErr result (λ e. (e ≡ Refusal.NoRoom) ⊎ ((e ≡ Refusal.TooLarge) × (1000000 < made_of self.old + (end - first)))) }
+        ensures room { IsErrOf result Refusal.NoRoom → made_of self.old + (end - first) ≤ 1000000 }
+        ensures unchanged { OnErr result (self.new ≡ self.old) }
+    {
+        let _ = self.n();
+        let count = end.saturating_sub(first);
+        if self.made() + count > MOST_ARCS {
+            return Err(Refusal::TooLarge);
+        }
+        let next = first_of(&self.vertices, from);
+        let link = self.slots.push_row(from, first, end, next, len)?;
+        relink_first(&mut self.vertices, from, link);
+        self.live += count;
+        Ok(())
+    }
 }
 
 // The first link of a vertex.
@@ -158,7 +187,16 @@ fn link_first(vertices: &mut Vertices, owner: VertexNo, number: ArcNo)
     requires number { number.0 < 1000000 }
     ensures { vertices.new ≡ vertices_relinked vertices.old owner.0 None (Some number) }
 {
-    vertices.replace_first(owner, Link::to(number));
+    relink_first(vertices, owner, Link::to(number));
+}
+
+// Lets the list of a vertex begin where the link leads.
+#[inline]
+fn relink_first(vertices: &mut Vertices, owner: VertexNo, link: Link)
+    requires { owner.0 < length vertices.old }
+    ensures { vertices.new ≡ vertices_relinked vertices.old owner.0 None link }
+{
+    vertices.replace_first(owner, link);
 }
 
 // Makes the arcs of a new edge first in the lists of their owners, the second before the first.
