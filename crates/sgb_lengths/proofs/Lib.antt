@@ -1,10 +1,11 @@
 pub mod Back
-pub mod Choosing
 pub mod Counting
 pub mod Drawn
 pub mod Exchanging
 pub mod Filled
 pub mod Fronts
+pub mod Halving
 pub mod Judging
-pub mod Placing
 pub mod Sources
+pub mod Tables
+pub mod Walked

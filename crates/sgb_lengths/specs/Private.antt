@@ -1,3 +1,3 @@
 -- What serves private functions only.
-pub mod Place
 pub mod Prepared
+pub mod Table

@@ -3,12 +3,10 @@
 
 mod delta;
 mod draw;
-mod drawing;
 mod exchange;
 mod id;
 mod laws;
 mod lengths;
-mod place;
 mod prepared;
 mod spec;
 
