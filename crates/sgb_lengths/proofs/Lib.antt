@@ -1,3 +1,4 @@
+pub mod Apart
 pub mod Back
 pub mod Counting
 pub mod Drawn

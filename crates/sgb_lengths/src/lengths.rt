@@ -19,6 +19,7 @@ ghost use Rattle.sgb_lengths.specs.Private.Prepared.{IsPrepared};
 use crate::draw::draw_lengths;
 use crate::exchange::exchange_lengths;
 use crate::id::lengths_id;
+use crate::pairing::is_paired;
 use crate::prepared::Prepared;
 use crate::{LengthsDelta, LengthsSpec};
 use sgb_flip::Flip;
@@ -144,7 +145,7 @@ fn check_arcs(graph: &Graph, directed: bool) -> Result<(), Refusal>
     if directed {
         return check_operand(graph);
     }
-    if graph.is_paired() {
+    if is_paired(graph) {
         Ok(())
     } else {
         Err(Refusal::BadOperand)

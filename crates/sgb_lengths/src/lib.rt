@@ -7,6 +7,7 @@ mod exchange;
 mod id;
 mod laws;
 mod lengths;
+mod pairing;
 mod prepared;
 mod spec;
 
