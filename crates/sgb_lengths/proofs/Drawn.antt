@@ -1,57 +1,45 @@
 -- Lengths that are drawn one by one.
-use Rattle.std.proofs.Common.{◌≡◌, ◌<◌, ◌≤◌, ◌+◌, ◌*◌, ℕ, suc, ℤ, pos, List, [], ◌∷◌, ◌++◌, length, set, sym, ap, ap₂, subst, ◌∙◌, refl, arith}
+use Rattle.std.proofs.Common.{◌≡◌, ◌+◌, ℕ, zero, suc, ℤ, [], ◌∷◌, length, sym, ap, subst, ◌∙◌, refl, arith, inl, inr}
+use Rattle.std.proofs.lemmas.Bool.{cases_Bool}
+use Rattle.std.proofs.lemmas.List.{length-append}
+use Rattle.std.specs.Ordering.{int_eq}
 use Rattle.sgb_flip.specs.Generator.{Generator, IsGenerator, after}
-use Rattle.sgb_flip.proofs.Draws.{after-none, after-after}
-use Rattle.sgb_plan.specs.Length.{drawn_length}
+use Rattle.sgb_flip.proofs.Draws.{after-none, after-after, IsGenerator-after}
+use Rattle.sgb_flip.proofs.Uniforms.{rest-uniform}
+use Rattle.sgb_plan.specs.Length.{drawn_length, width}
 use Rattle.sgb_lengths.specs.Drawing.{drawn, with_one}
-use Rattle.sgb_lengths.proofs.Fronts.{Front, front_start, front_more, front_end}
 
-drawn-none : (min max : ℤ) (w : Generator) → drawn min max w 0 ≡ record { lens = []; draws = 0; rest = w }
+pub drawn-none : (min max : ℤ) (w : Generator) → drawn min max w 0 ≡ record { lens = []; draws = 0; rest = w }
 unfolding drawn
 drawn-none min max w = refl
 
-drawn-more : (min max : ℤ) (w : Generator) (k : ℕ) → drawn min max w (k + 1) ≡ with_one min max (drawn min max w k)
+pub drawn-more : (min max : ℤ) (w : Generator) (k : ℕ) → drawn min max w (k + 1) ≡ with_one min max (drawn min max w k)
 unfolding drawn
 drawn-more min max w k = let one : k + 1 ≡ suc k = omega arith in ap (drawn min max w) one
 
--- the first k places have lengths that were drawn
-pub record Drawing (min max : ℤ) (was : Generator) (olds : List ℤ) (now : Generator) (lens : List ℤ) (draws k : ℕ) : Type 0 where
-  pub front : Front (drawn min max was k).lens olds lens k
-  pub count : draws ≡ (drawn min max was k).draws
-  pub rest : now ≡ (drawn min max was k).rest
-  pub moved : now ≡ after was draws
-  pub few : draws ≤ 1814 * k
-  pub generator : IsGenerator now
+-- there are as many lengths as were drawn
+pub length-drawn : (min max : ℤ) (w : Generator) (k : ℕ) → length (drawn min max w k).lens ≡ k
+unfolding drawn with_one
+length-drawn min max w zero = refl
+length-drawn min max w (suc k) =
+    let d = drawn min max w k in
+    length-append d.lens ((drawn_length min max d.rest).len ∷ []) ∙ (ap (λ n. n + 1) (length-drawn min max w k) ∙ omega arith)
 
-pub drawing_start : (min max : ℤ) (w : Generator) (olds : List ℤ) → IsGenerator w → Drawing min max w olds w olds 0 0
-drawing_start min max w olds is = record {
-  front = subst (λ d. Front d.lens olds olds 0) (sym (drawn-none min max w)) (front_start olds);
-  count = ap (λ d. d.draws) (sym (drawn-none min max w));
-  rest = ap (λ d. d.rest) (sym (drawn-none min max w));
-  moved = sym (after-none w is);
-  few = omega arith;
-  generator = is;
-}
+-- the generator is behind as many draws as were counted
+length_moved : (min max : ℤ) (w : Generator) → IsGenerator w → (drawn_length min max w).rest ≡ after w (drawn_length min max w).draws
+unfolding drawn_length
+length_moved min max w is =
+    elim (cases_Bool (int_eq min max)) [
+      | inl e ↦ rw e (sym (after-none w is))
+      | inr e ↦ rw e (rest-uniform w (width min max + 1))
+    ]
 
--- one length more
-pub drawing_more : {min max : ℤ} {was now new : Generator} {olds lens lens' : List ℤ} {draws k : ℕ} (len : ℤ) (more : ℕ) → k < length olds → Drawing min max was olds now lens draws k
-    → len ≡ (drawn_length min max now).len → more ≡ (drawn_length min max now).draws → new ≡ (drawn_length min max now).rest → new ≡ after now more → more ≤ 1814 → IsGenerator new
-    → lens' ≡ set lens k len → Drawing min max was olds new lens' (draws + more) (k + 1)
-unfolding with_one
-drawing_more {min} {max} {was} {now} {new} {olds} {lens} {lens'} {draws} {k} len more inside d is count rest moved few sound stored =
-    let here : drawn_length min max now ≡ drawn_length min max (drawn min max was k).rest = ap (drawn_length min max) d.rest in
-    let next : drawn min max was (k + 1) ≡ with_one min max (drawn min max was k) = drawn-more min max was k in
-    record {
-      front = subst (λ ls. Front ls olds lens' (k + 1))
-          (ap (λ z. (drawn min max was k).lens ++ z ∷ []) (is ∙ ap (λ l. l.len) here) ∙ ap (λ l. l.lens) (sym next))
-          (front_more len (pos 0) inside d.front stored);
-      count = ap₂ (λ a b. a + b) d.count (count ∙ ap (λ l. l.draws) here) ∙ ap (λ l. l.draws) (sym next);
-      rest = rest ∙ (ap (λ l. l.rest) here ∙ ap (λ l. l.rest) (sym next));
-      moved = moved ∙ (ap (λ w. after w more) d.moved ∙ after-after was draws more);
-      few = let before = d.few in omega (arith, before, few);
-      generator = sound;
-    }
-
-pub drawing_lens : {min max : ℤ} {was now : Generator} {olds lens : List ℤ} {draws k : ℕ} → k ≡ length olds → Drawing min max was olds now lens draws k → lens ≡ (drawn min max was (length olds)).lens
-drawing_lens {min} {max} {was} {now} {olds} {lens} {draws} {k} all d =
-    front_end (omega (arith, all)) d.front ∙ ap (λ n. (drawn min max was n).lens) all
+pub drawn_moved : (min max : ℤ) (w : Generator) (k : ℕ) → IsGenerator w → (drawn min max w k).rest ≡ after w (drawn min max w k).draws
+unfolding drawn with_one
+drawn_moved min max w zero is = sym (after-none w is)
+drawn_moved min max w (suc k) is =
+    let d = drawn min max w k in
+    let next = drawn_length min max d.rest in
+    let before : d.rest ≡ after w d.draws = drawn_moved min max w k is in
+    length_moved min max d.rest (subst IsGenerator (sym before) (IsGenerator-after w d.draws is))
+    ∙ (ap (λ v. after v next.draws) before ∙ after-after w d.draws next.draws)

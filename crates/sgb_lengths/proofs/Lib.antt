@@ -1,10 +1,12 @@
+pub mod Apart
 pub mod Back
-pub mod Choosing
 pub mod Counting
 pub mod Drawn
 pub mod Exchanging
 pub mod Filled
 pub mod Fronts
+pub mod Halving
 pub mod Judging
-pub mod Placing
 pub mod Sources
+pub mod Tables
+pub mod Walked

@@ -1,8 +1,7 @@
 -- Each arc has its length from a draw.
-use Rattle.std.proofs.Common.{◌≡◌, ◌≢◌, ◌<◌, ◌≤◌, ◌+◌, ◌-◌, ◌==◌, ◌&&◌, ◌⊎◌, ℕ, zero, suc, List, [], ◌∷◌, length, filter, flat_map, Bool, true, false, cond, nat_lt, Option, Some, None, sym, ap, subst, ◌∙◌, refl, arith, inl, inr}
+use Rattle.std.proofs.Common.{◌≡◌, ◌≢◌, ◌<◌, ◌≤◌, ◌+◌, ◌-◌, ◌==◌, ◌&&◌, ◌⊎◌, ℕ, zero, suc, List, [], ◌∷◌, length, filter, Bool, true, false, cond, nat_lt, Option, Some, None, sym, ap, subst, ◌∙◌, refl, arith, inl, inr}
 use Rattle.std.proofs.lemmas.Bool.{cases_Bool, cases_lt, eqb-true, eqb-false, le-leb, lt-ltb, ltb-true}
 use Rattle.std.proofs.lemmas.List.Sums.{sum_by-cons, sum_by-append}
-use Rattle.std.specs.List.{range_with_len}
 use Rattle.sgb_graph.specs.declared.field.Tip.{Tip}
 use Rattle.sgb_graph.specs.declared.field.Tip.TheVariants.{Zero, One, To}
 use Rattle.sgb_graph.specs.Graph.{GraphOf, ArcOf, IsGraph, n_of, has_arc, arc_at, arcs_of, no_vertex, occurrences, listings}
@@ -16,7 +15,7 @@ use Rattle.sgb_graph.proofs.Halves.{pair_tip, pair_down}
 use Rattle.sgb_operand.specs.Operand.{tip_number}
 use Rattle.sgb_lengths.specs.Drawing.{drawing, drawing_at, is_drawing, place_in, source_of}
 use Rattle.sgb_lengths.specs.Lengths.{refusal_of_arcs}
-use Rattle.sgb_lengths.proofs.Filled.{drawing_more}
+use Rattle.sgb_lengths.proofs.Filled.{drawing_before, drawing_more}
 
 occurs_cons : (k j : ℕ) (ks : List ℕ) → occurrences k (j ∷ ks) ≡ cond (j == k) 1 0 + occurrences k ks
 occurs_cons k j ks = sum_by-cons (λ x. cond (x == k) 1 0) j ks
@@ -41,13 +40,13 @@ occurs_kept p k (j ∷ ks) passes =
           rw e (omega (arith, occurs_no k j ks other, occurs_kept p k ks passes))
     ]
 
-occurs_run : (directed : Bool) (g : GraphOf) (k v n : ℕ) → v < n → occurrences k (drawing_at directed g v) ≤ occurrences k (flat_map (drawing_at directed g) (range_with_len 0 n))
+occurs_run : (directed : Bool) (g : GraphOf) (k v n : ℕ) → v < n → occurrences k (drawing_at directed g v) ≤ occurrences k (drawing_before directed g n)
 occurs_run directed g k v zero inside = absurd (omega arith)
 occurs_run directed g k v (suc n) inside =
     let f : ℕ → List ℕ = drawing_at directed g in
     let next : n + 1 ≡ suc n = omega arith in
-    let more = drawing_more directed g n (flat_map f (range_with_len 0 n)) _ refl refl ∙ ap (λ i. flat_map f (range_with_len 0 i)) next in
-    let both = sym (ap (occurrences k) more) ∙ sum_by-append (λ x. cond (x == k) 1 0) (flat_map f (range_with_len 0 n)) (f n) in
+    let more = drawing_more directed g n ∙ ap (drawing_before directed g) next in
+    let both = sym (ap (occurrences k) more) ∙ sum_by-append (λ x. cond (x == k) 1 0) (drawing_before directed g n) (f n) in
     elim (cases_lt v n) [
       | inl low ↦ omega (arith, both, occurs_run directed g k v n low)
       | inr last ↦
@@ -63,11 +62,11 @@ drawn_place directed g k v inside some draws =
     (omega (arith, some, occurs_kept (is_drawing directed g v) k (walk directed g v) draws, occurs_run directed g k v (n_of g) inside))
 
 -- ---- second halves of loops
-second : (a b : Bool) → (a && b) ≡ true → b ≡ true
+pub second : (a b : Bool) → (a && b) ≡ true → b ≡ true
 second true b h = h
 second false b h = absurd cc
 
-first : (a b : Bool) → (a && b) ≡ true → a ≡ true
+pub first : (a b : Bool) → (a && b) ≡ true → a ≡ true
 first true b h = refl
 first false b h = absurd cc
 
@@ -132,7 +131,7 @@ kept_or_half g v k (i ∷ (j ∷ ks)) some =
     ]
 
 -- ---- every arc
-paired_of : (paired : Bool) → refusal_unless paired BadOperand None ≡ None → paired ≡ true
+pub paired_of : (paired : Bool) → refusal_unless paired BadOperand None ≡ None → paired ≡ true
 paired_of true whole = refl
 paired_of false whole = absurd cc
 

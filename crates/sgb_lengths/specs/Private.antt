@@ -1,3 +1,4 @@
 -- What serves private functions only.
-pub mod Place
+pub mod Apart
 pub mod Prepared
+pub mod Table

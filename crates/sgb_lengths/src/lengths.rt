@@ -16,11 +16,10 @@ ghost use Rattle.sgb_lengths.specs.Lengths.{
 };
 ghost use Rattle.sgb_lengths.specs.Private.Prepared.{IsPrepared};
 
-use crate::draw::{choose_lengths, draw_lengths};
-use crate::drawing::list_drawing;
+use crate::draw::draw_lengths;
 use crate::exchange::exchange_lengths;
 use crate::id::lengths_id;
-use crate::place::list_places;
+use crate::pairing::is_paired;
 use crate::prepared::Prepared;
 use crate::{LengthsDelta, LengthsSpec};
 use sgb_flip::Flip;
@@ -92,18 +91,8 @@ fn prepare(
 {
     let range = judge(graph, spec)?;
     let id = lengths_id(alloc, graph.id(), spec, seed)?;
-    let drawing = list_drawing(alloc, graph, spec.directed)?;
-    let places = list_places(alloc, &drawing, graph.made())?;
-    let lens = vec![in alloc; 0i64; drawing.len()]?;
     let lengths = vec![in alloc; 0i64; graph.made() as usize]?;
-    Ok(Prepared {
-        range,
-        id,
-        drawing,
-        places,
-        lens,
-        lengths,
-    })
+    Ok(Prepared { range, id, lengths })
 }
 
 // Draws the lengths, and exchanges them and the id for those of the graph.
@@ -126,13 +115,9 @@ fn draw_prepared(
     let Prepared {
         range,
         id,
-        drawing,
-        places,
-        mut lens,
         mut lengths,
     } = prepared;
-    let draws = draw_lengths(flip, &range, &mut lens);
-    choose_lengths(&mut lengths, &places, &lens, spec.directed, &drawing);
+    let draws = draw_lengths(flip, &range, graph, spec.directed, &mut lengths);
     exchange_lengths(graph, &mut lengths);
     let id = graph.swap_id(id);
     let lengths = Items::from_vec(lengths);
@@ -142,6 +127,7 @@ fn draw_prepared(
 // Answers the lengths that are asked for, or the first refusal.
 fn judge(graph: &Graph, spec: &LengthsSpec) -> Result<LengthRange, Refusal>
     ensures ok { OnOk result (refusal_of_lengths spec.now graph.now ≡ None) }
+    ensures whole { OnOk result (refusal_of_arcs spec.now.directed graph.now ≡ None) }
     ensures min { IfOk result (λ range. range.min ≡ spec.now.min) }
     ensures max { IfOk result (λ range. range.max ≡ spec.now.max) }
     ensures err { IfErr result (λ e. refusal_of_lengths spec.now graph.now ≡ Some e) }
@@ -159,7 +145,7 @@ fn check_arcs(graph: &Graph, directed: bool) -> Result<(), Refusal>
     if directed {
         return check_operand(graph);
     }
-    if graph.is_paired() {
+    if is_paired(graph) {
         Ok(())
     } else {
         Err(Refusal::BadOperand)

@@ -3,12 +3,11 @@
 
 mod delta;
 mod draw;
-mod drawing;
 mod exchange;
 mod id;
 mod laws;
 mod lengths;
-mod place;
+mod pairing;
 mod prepared;
 mod spec;
 

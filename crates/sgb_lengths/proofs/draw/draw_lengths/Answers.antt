@@ -1,14 +1,25 @@
-use Rattle.std.proofs.Common.{rules, ap, FitsSigned, set, w64, arith}
-use Rattle.std.proofs.lemmas.Int.{to_z-of_z}
-use Rattle.sgb_lengths.proofs.Drawn.{drawing_start, drawing_more}
+use Rattle.std.proofs.Common.{refl, arith}
+use Rattle.sgb_lengths.proofs.Walked.{AllDrawn, over_room, over_more, over_all}
 use Rattle.sgb_lengths.proofs.draw.draw_lengths.Goals as goal
 
-pub loop-i-init : goal.loop-i-init
-loop-i-init c = drawing_start c.args.range.now.min c.args.range.now.max c.args.flip.now c.args.lens.now c.unread.ensures.generator
+pub draw_walk-draws-requires-clause-few : goal.draw_walk-draws-requires-clause-few
+draw_walk-draws-requires-clause-few c =
+    let low = c.loop-v-test.true in
+    let most = c.loop-v.auto.v-end in
+    let count = c.n-v-end.ensures.value in
+    let room = over_room c.n-v-end.ensures.graph (omega arith) refl c.loop-v.invariant in
+    omega (arith, room)
 
-pub loop-i-preserved : goal.loop-i-preserved
-loop-i-preserved c =
-    let fits : FitsSigned w64 c.draw-drawn.result.len = search rules in
-    let d = c.draw-drawn.ensures in
-    drawing_more c.draw-drawn.result.len c.draw-drawn.result.draws (let low = c.loop-i-test.true in let same = c.loop-i.auto.lens in omega arith) c.loop-i.invariant
-    d.len d.draws d.rest d.after d.few d.generator (ap (set c.loop-i.lens c.loop-i.i) (to_z-of_z w64 c.draw-drawn.result.len fits))
+pub loop-v-preserved : goal.loop-v-preserved
+loop-v-preserved c =
+    let d = c.draw_walk-draws.ensures in
+    over_more c.loop-v.invariant d.table d.few d.generator
+
+pub returns : goal.returns
+returns c =
+    let low = c.loop-v-test.false in
+    let most = c.loop-v.auto.v-end in
+    let count = c.n-v-end.ensures.value in
+    let all : AllDrawn c.args.directed c.args.range.now.min c.args.range.now.max c.args.graph.now c.args.flip.now (record { lens = c.loop-v.lengths; draws = c.loop-v.draws; rest = c.loop-v.flip }) =
+    over_all c.args.flip.now c.args.lengths.now (omega arith) c.n-v-end.ensures.graph c.unread.ensures.generator c.requires.whole c.requires.count c.loop-v.invariant in
+    record { count = all.count; lengths = all.lengths; draws = all.draws; rest = all.rest; few = all.few; generator = c.loop-v.invariant.generator }
