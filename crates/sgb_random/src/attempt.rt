@@ -19,23 +19,22 @@ ghost use Rattle.sgb_random.specs.Private.Progress.{
 };
 
 use crate::RandomSpec;
+use crate::ends::Ends;
 use crate::progress::{Edge, Progress};
 use crate::spec::{repeats, shortens};
 use sgb_flip::Flip;
 use sgb_graph::{Refusal, VertexNo};
 use sgb_plan::LengthRange;
 
-// Draws two of the `n` vertices and tries to join them. Where memory is wanting, the draws are counted all the same.
+// Draws two vertices and tries to join them. Where memory is wanting, the draws are counted all the same.
 pub(crate) fn attempt(
     flip: &mut Flip,
     spec: &RandomSpec,
-    n: u32,
+    ends: &Ends,
     range: &LengthRange,
     progress: &mut Progress,
 ) -> Result<(), Refusal>
-    requires size { n ≡ size_of spec.now }
-    requires some { 0 < n }
-    requires few { n ≤ 65535 }
+    requires size { ends.now.n ≡ size_of spec.now }
     requires range { IsLengths spec.now range.now }
     requires ready { IsReady spec.now progress.old.builder progress.old.made }
     requires places { int_lt spec.now.multi (pos 0) ≡ true →
@@ -48,8 +47,8 @@ pub(crate) fn attempt(
     ensures few_draws { progress.new.draws ≤ progress.old.draws + 5442 }
     ensures generator { IsGenerator flip.new }
 {
-    let from = flip.uniform(n);
-    let to = flip.uniform(n);
+    let from = ends.draw(flip);
+    let to = ends.draw(flip);
     progress.draws += from.draws as u64 + to.draws as u64;
     try_pair(flip, spec, range, progress, from.value, to.value)
 }

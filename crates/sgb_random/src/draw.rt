@@ -10,6 +10,7 @@ ghost use Rattle.sgb_random.specs.Private.Progress.{IsFresh, IsIndexed, IsLength
 use crate::RandomSpec;
 use crate::attempt::attempt;
 use crate::build::{begin, insert_edges};
+use crate::ends::Ends;
 use crate::progress::Progress;
 use crate::spec::{judge, repeats, shortens, vertices, wanted};
 use sgb_flip::Flip;
@@ -137,12 +138,13 @@ fn draw_all(
     ensures few_draws { progress.new.draws ≤ 54420000000 }
     ensures generator { IsGenerator flip.new }
 {
-    let (n, m) = (vertices(*spec), wanted(*spec));
+    let m = wanted(*spec);
+    let ends = Ends::new(vertices(*spec));
     for _attempt in 0..MOST_ATTEMPTS {
         if progress.made >= m {
             return Ok(());
         }
-        attempt(flip, spec, n, range, progress)?;
+        attempt(flip, spec, &ends, range, progress)?;
     }
     if progress.made < m {
         return Err(Refusal::Stuck);
