@@ -1,7 +1,8 @@
 -- Lemmas on draws that are counted.
-use Rattle.std.proofs.Common.{◌≡◌, ◌+◌, ℕ, sym, ap, ◌∙◌}
-use Rattle.sgb_flip.specs.Generator.{Generator, IsGenerator, after}
+use Rattle.std.proofs.Common.{◌≡◌, ◌<◌, ◌+◌, ◌%◌, ℕ, sym, ap, ◌∙◌, arith}
+use Rattle.sgb_flip.specs.Generator.{Generator, IsGenerator, after, drawn, limit}
 use Rattle.sgb_flip.proofs.Draws.{after-none, after-after}
+use Rattle.sgb_flip.proofs.Uniforms.{IsThatUniform, IsUniform-only}
 use Rattle.sgb_random.specs.Private.Progress.{Follows}
 
 pub follows_none : (w : Generator) (k : ℕ) → Follows w k w k
@@ -20,3 +21,15 @@ follows_then first next = record { led = λ start generator is. next.led start g
 -- from the start on
 pub follows_start : {old new : Generator} {k : ℕ} → IsGenerator old → Follows old 0 new k → new ≡ after old k
 follows_start {old} generator follows = sym (follows.led old generator (after-none old generator))
+
+-- ---- a uniform number that is drawn at once
+pub uniform_at_once : (w x : Generator) (m number : ℕ) → number ≡ drawn w 0 → x ≡ after w 1 → number < limit m → IsThatUniform w m (number % m) 1 x
+uniform_at_once w x m number is rest below =
+    IsUniform-only w m (number % m) 1 x (record {
+      some = omega arith;
+      few = omega arith;
+      refused = λ i less. absurd (omega (arith, less));
+      accepted = omega (arith, is, below);
+      value_is = ap (λ k. k % m) is;
+      rest_is = rest;
+    })

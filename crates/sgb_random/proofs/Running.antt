@@ -1,19 +1,23 @@
 -- Lemmas on a run of attempts.
-use Rattle.std.proofs.Common.{◌≡◌, ◌<◌, ◌≤◌, ◌+◌, ◌*◌, ◌==◌, ℕ, zero, suc, [], map, All, true, false, nat_lt, None, Some, Err, ◌⊎◌, inl, inr, refl, sym, ap, subst, ◌∙◌, arith}
+use Rattle.std.proofs.Common.{◌≡◌, ◌<◌, ◌≤◌, ◌+◌, ◌*◌, ◌==◌, ℕ, zero, suc, pos, [], length, map, true, false, nat_lt, int_lt, None, Some, Ok, Err, ◌⊎◌, inl, inr, refl, sym, ap, subst, ◌∙◌, arith}
 use Rattle.std.proofs.lemmas.Bool.{cases_Bool, lt-ltb, le-ltb}
 use Rattle.std.proofs.lemmas.Bool.Decides.{Decides-eqb, not_from_Decides}
 use Rattle.std.proofs.lemmas.List.Elements.{All-nil}
 use Rattle.sgb_flip.specs.Generator.{Generator, IsGenerator}
+use Rattle.sgb_graph.specs.declared.builder.Builder.{Builder}
 use Rattle.sgb_graph.specs.declared.refusal.Refusal.{Refusal}
 use Rattle.sgb_graph.specs.declared.refusal.Refusal.TheVariants.{NoRoom, Stuck}
+use Rattle.sgb_graph.specs.Graph.{GraphOf}
+use Rattle.sgb_graph.proofs.Growing.{grown-nil}
 use Rattle.sgb_plan.specs.declared.part.Seed.{Seed}
 use Rattle.sgb_plan.specs.Plan.{IsMade}
 use Rattle.sgb_plan.proofs.Planning.{refused_before}
 use Rattle.sgb_random.specs.declared.progress.Progress.{Progress}
 use Rattle.sgb_random.specs.declared.spec.RandomSpec.{RandomSpec}
-use Rattle.sgb_random.specs.Random.{Course, begun, attempted, attempts, course, plan_of_course, plan_of_random, unless_refused, refusal_of_random, wanted, size_of}
-use Rattle.sgb_random.specs.Private.Progress.{course_of, insertions_of, key_of_insertion, Follows, IsIndexed, IsWithin}
+use Rattle.sgb_random.specs.Random.{Course, begun, attempted, attempts, course, plan_of_course, plan_of_random, random_plan, unless_refused, refusal_of_random, wanted, size_of}
+use Rattle.sgb_random.specs.Private.Progress.{insertion_of, insertions_of, Follows, IsBare, IsFresh, IsIndexed, IsReady, IsWithin}
 use Rattle.sgb_random.proofs.Following.{follows_none, follows_then}
+use Rattle.sgb_random.proofs.Within.{few_attempts, ready}
 
 -- ---- the attempts one by one
 pub attempts_none : (s : RandomSpec) (w : Generator) → attempts s w 0 ≡ begun w
@@ -57,56 +61,73 @@ unfolding course
 course_end s w i end = ap (attempts s w) (sym end)
 
 -- ---- what is kept while they run
--- i attempts from the generator a have come to p and the generator w
-pub record IsRun (s : RandomSpec) (a : Generator) (p : Progress) (w : Generator) (i : ℕ) : Type 0 where
-  pub course : course_of p w ≡ attempts s a i
-  pub indexed : IsIndexed s p
-  pub follows : Follows a 0 w p.draws
+-- i attempts from the builder a and the generator g have come to p and the generator w
+pub record IsRun (s : RandomSpec) (a : Builder) (g : Generator) (p : Progress) (w : Generator) (i : ℕ) : Type 0 where
+  pub indexed : IsIndexed s a (attempts s g i) p w
+  pub follows : Follows g 0 w p.draws
   pub few_draws : p.draws ≤ 5442 * i
   pub generator : IsGenerator w
 
-pub run_start : (s : RandomSpec) (a : Generator) (p : Progress) → course_of p a ≡ begun a → p.pairs.keys ≡ [] → IsGenerator a → IsRun s a p a 0
-run_start s a p fresh no_pairs generator =
-    let none : insertions_of p ≡ [] = ap (λ (c : Course). c.insertions) fresh in
-    let no_draws : p.draws ≡ 0 = ap (λ (c : Course). c.draws) fresh in
+pub run_start : (s : RandomSpec) (p : Progress) (g : Generator) → IsFresh s p g → IsRun s p.builder g p g 0
+unfolding attempts
+run_start s p g fresh =
+    let none : insertions_of p ≡ [] = ap (map insertion_of) fresh.no_edges in
     record {
-      course = fresh ∙ sym (attempts_none s a);
       indexed = record {
-        ends = subst (All (IsWithin (size_of s))) (sym none) (All-nil (IsWithin (size_of s)));
-        keys = λ once. no_pairs ∙ ap (map (key_of_insertion s.directed)) (sym none);
+        kept = record {
+          made = fresh.none_made;
+          draws = fresh.no_draws;
+          rest = refl;
+          listed = λ shorter. (refl, none);
+          inserted = λ longer. sym (grown-nil p.builder);
+        };
+        ends = All-nil (IsWithin (size_of s));
+        keys = λ once. fresh.no_pairs;
       };
-      follows = subst (λ k. Follows a 0 a k) (sym no_draws) (follows_none a 0);
-      few_draws = omega (arith, no_draws);
-      generator = generator;
+      follows = subst (λ k. Follows g 0 g k) (sym fresh.no_draws) (follows_none g 0);
+      few_draws = omega (arith, fresh.no_draws);
+      generator = fresh.generator;
     }
 
-pub run_made : {s : RandomSpec} {a w : Generator} {p : Progress} {i : ℕ} → IsRun s a p w i → (attempts s a i).made ≡ p.made
-run_made run = ap (λ (c : Course). c.made) (sym run.course)
+pub run_made : {s : RandomSpec} {a : Builder} {g w : Generator} {p : Progress} {i : ℕ} → IsRun s a g p w i → (attempts s g i).made ≡ p.made
+run_made run = sym run.indexed.kept.made
 
-pub run_next : {s : RandomSpec} {a w x : Generator} {p q : Progress} {i : ℕ} → IsRun s a p w i → p.made < wanted s → course_of q x ≡ attempted s (course_of p w) → IsIndexed s q → Follows w p.draws x q.draws → q.draws ≤ p.draws + 5442 → IsGenerator x → IsRun s a q x (i + 1)
-run_next {s} {a} {w} {x} {p} {q} {i} run less is indexed follows few generator = record {
-  course = is ∙ (ap (attempted s) run.course ∙ sym (attempts_more s a i (omega (arith, less, run_made run))));
-  indexed = indexed;
+pub run_next : {s : RandomSpec} {a : Builder} {g w x : Generator} {p q : Progress} {i : ℕ} → IsRun s a g p w i → p.made < wanted s → IsIndexed s a (attempted s (attempts s g i)) q x → Follows w p.draws x q.draws → q.draws ≤ p.draws + 5442 → IsGenerator x → IsRun s a g q x (i + 1)
+run_next {s} {a} {g} {w} {x} {p} {q} {i} run less indexed follows few generator = record {
+  indexed = subst (λ (k : Course). IsIndexed s a k q x) (sym (attempts_more s g i (omega (arith, less, run_made run)))) indexed;
   follows = follows_then run.follows follows;
   few_draws = omega (arith, few, run.few_draws);
   generator = generator;
 }
 
+-- one insertion more is within the limits
+pub run_ready : {s : RandomSpec} {a : Builder} {g w : Generator} {p : Progress} {i : ℕ} → IsRun s a g p w i → refusal_of_random s ≡ None → IsBare s a → p.made < wanted s → IsReady s p.builder p.made
+run_ready {s} {a} {g} {w} {p} {i} run none bare less =
+    let few : length (attempts s g i).insertions ≤ p.made = omega (arith, (few_attempts s g i).inserted, run_made run) in
+    elim (cases_Bool (int_lt s.multi (pos 0))) [
+      | inl shorter ↦ subst (λ b. IsReady s b p.made) (grown-nil a ∙ sym (run.indexed.kept.listed shorter).0) (ready s a [] p.made none bare (omega arith) less)
+      | inr longer ↦ subst (λ b. IsReady s b p.made) (sym (run.indexed.kept.inserted longer)) (ready s a (attempts s g i).insertions p.made none bare few less)
+    ]
+
 -- how the run ends
-pub run_course : {s : RandomSpec} {a w : Generator} {p : Progress} {i : ℕ} → IsRun s a p w i → i ≤ 10000000 → wanted s ≤ p.made → course_of p w ≡ course s a
-run_course {s} {a} {w} {p} {i} run le all = run.course ∙ sym (course_at s a i le (omega (arith, all, run_made run)))
+pub run_course : {s : RandomSpec} {a : Builder} {g w : Generator} {p : Progress} {i : ℕ} → IsRun s a g p w i → i ≤ 10000000 → wanted s ≤ p.made → IsIndexed s a (course s g) p w
+run_course {s} {a} {g} {w} {p} {i} run le all =
+    subst (λ (k : Course). IsIndexed s a k p w) (sym (course_at s g i le (omega (arith, all, run_made run)))) run.indexed
 
-pub run_all : {s : RandomSpec} {a w : Generator} {p : Progress} {i : ℕ} → IsRun s a p w i → i ≤ 10000000 → wanted s ≤ p.made → wanted s ≤ (course s a).made
-run_all {s} run le all = subst (λ (c : Course). wanted s ≤ c.made) (run_course run le all) all
+pub run_all : {s : RandomSpec} {a : Builder} {g w : Generator} {p : Progress} {i : ℕ} → IsRun s a g p w i → i ≤ 10000000 → wanted s ≤ p.made → wanted s ≤ (course s g).made
+run_all {s} run le all = omega (arith, (run_course run le all).kept.made, all)
 
-pub run_stuck : {s : RandomSpec} {a w : Generator} {p : Progress} {i : ℕ} → IsRun s a p w i → i ≡ 10000000 → p.made < wanted s → (course s a).made < wanted s
-run_stuck {s} {a} {w} {p} {i} run end less =
-    subst (λ (c : Course). c.made < wanted s) (run.course ∙ sym (course_end s a i end)) less
+pub run_stuck : {s : RandomSpec} {a : Builder} {g w : Generator} {p : Progress} {i : ℕ} → IsRun s a g p w i → i ≡ 10000000 → p.made < wanted s → (course s g).made < wanted s
+run_stuck {s} {a} {g} {w} {p} {i} run end less =
+    omega (arith, less, run_made run, ap (λ (k : Course). k.made) (course_end s g i end))
 
 -- ---- what comes of a course
 pub stuck_refused : (s : RandomSpec) (seed : Seed) (c : Course) {e : Refusal} → (e ≡ NoRoom) ⊎ ((e ≡ Stuck) × (c.made < wanted s)) → IsMade (plan_of_course s seed c) (Err e)
 stuck_refused s seed c (inl room) = inl room
 stuck_refused s seed c (inr stuck) = rw (lt-ltb c.made (wanted s) stuck.1, stuck.0) (refused_before Stuck)
+
+pub whole_made : (s : RandomSpec) (seed : Seed) (c : Course) {g : GraphOf} → wanted s ≤ c.made → IsMade (Ok (random_plan s seed c.insertions)) (Ok g) → IsMade (plan_of_course s seed c) (Ok g)
+whole_made s seed c all is = rw (le-ltb c.made (wanted s) all) is
 
 pub plan_before : (s : RandomSpec) (seed : Seed) (w : Generator) {e : Refusal} → refusal_of_random s ≡ Some e → plan_of_random s seed w ≡ Err e
 unfolding plan_of_random unless_refused

@@ -1,22 +1,27 @@
 -- Lemmas on how many insertions there are.
-use Rattle.std.proofs.Common.{◌≡◌, ◌≤◌, ◌<◌, ◌+◌, ◌*◌, ◌==◌, ◌&&◌, ℕ, zero, suc, ℤ, pos, List, [], ◌∷◌, ◌++◌, length, map, Bool, true, false, not, nat_lt, int_le, int_lt, None, inl, inr, refl, sym, ap, subst, ◌∙◌, arith}
+use Rattle.std.proofs.Common.{◌≡◌, ◌≤◌, ◌<◌, ◌+◌, ◌*◌, ◌==◌, ◌&&◌, ℕ, zero, suc, ℤ, pos, List, [], ◌∷◌, ◌++◌, length, map, Bool, true, false, not, nat_lt, int_le, int_lt, None, Result, Ok, Err, IfErr, OnOk, inl, inr, refl, sym, ap, ap₂, subst, ◌∙◌, arith}
 use Rattle.std.specs.List.{list_any}
 use Rattle.std.proofs.lemmas.Bool.{cases_Bool, le-ltb, or_from, ltb-true}
 use Rattle.std.proofs.lemmas.List.{length_push}
 use Rattle.std.proofs.lemmas.List.FromFn.{length-map-range_with_len}
 use Rattle.sgb_flip.specs.Generator.{Generator, uniform}
 use Rattle.sgb_graph.specs.Graph.{made_of}
-use Rattle.sgb_graph.specs.Builder.{Insertion, insertion}
+use Rattle.sgb_graph.specs.declared.builder.Builder.{Builder}
+use Rattle.sgb_graph.specs.declared.refusal.Refusal.{Refusal}
+use Rattle.sgb_graph.specs.declared.refusal.Refusal.TheVariants.{NoRoom}
+use Rattle.sgb_graph.specs.Builder.{Insertion, insertion, grown, Inserts}
 use Rattle.sgb_graph.specs.New.{bare_graph}
 use Rattle.sgb_graph.proofs.Growing as growing
+use Rattle.sgb_graph.proofs.Inserting.{RefusesInsertions}
 use Rattle.sgb_plan.specs.declared.part.Seed.{Seed}
 use Rattle.sgb_plan.specs.Length.{drawn_length}
 use Rattle.sgb_plan.specs.Plan.{Plan, graph_of_plan, is_too_large, vertex_of}
 use Rattle.sgb_random.specs.declared.spec.RandomSpec.{RandomSpec}
 use Rattle.sgb_random.specs.Random.{Course, attempted, attempts, course, joins, lowered, numbered, numbers_each, random_plan, refusal_of_random, tried, with_length, size_of, wanted}
+use Rattle.sgb_random.specs.Private.Progress.{IsBare, IsReady}
 use Rattle.sgb_random.proofs.Coursing.{insertions-with_length, tried_barred, tried_again, tried_new, tried_shorter, tried_skipped}
 use Rattle.sgb_random.proofs.Joining.{lowered_at}
-use Rattle.sgb_random.proofs.Judging.{judged}
+use Rattle.sgb_random.proofs.Judging.{judged, wanted_few}
 use Rattle.sgb_random.proofs.Once.{same_count}
 
 -- ---- each insertion counts as made
@@ -70,7 +75,7 @@ few_attempted s m c less few =
     let v = uniform u.rest (size_of s) in
     few_tried s m u.value v.value (record { insertions = c.insertions; made = c.made; draws = c.draws + (u.draws + v.draws); rest = v.rest }) less few
 
-few_attempts : (s : RandomSpec) (w : Generator) (k : ℕ) → IsFew (wanted s) (attempts s w k)
+pub few_attempts : (s : RandomSpec) (w : Generator) (k : ℕ) → IsFew (wanted s) (attempts s w k)
 unfolding attempts
 few_attempts s w zero = record { inserted = omega arith; counted = omega arith }
 few_attempts s w (suc k) =
@@ -89,6 +94,41 @@ numbers_fit : (d : Bool) (k m : ℕ) → k ≤ m → m * numbers_each d ≤ 1000
 numbers_fit true k m le few = omega (arith, le, few)
 numbers_fit false k m le few = omega (arith, le, few)
 
+same_numbers : (d : Bool) → growing.numbers_each d ≡ numbers_each d
+same_numbers true = refl
+same_numbers false = refl
+
+-- one insertion more is within the limits
+one_more : (d : Bool) (k m : ℕ) → k < m → m * numbers_each d ≤ 1000000 → k * growing.numbers_each d + numbers_each d ≤ 1000000
+one_more true k m less few = omega (arith, less, few)
+one_more false k m less few = omega (arith, less, few)
+
+pub ready : (s : RandomSpec) (a : Builder) (es : List Insertion) (made : ℕ) → refusal_of_random s ≡ None → IsBare s a → length es ≤ made → made < wanted s → IsReady s (grown a es) made
+ready s a es made none bare few less =
+    let j = judged s none in
+    let count : made_of (grown a es).graph ≡ made_of a.graph + length es * growing.numbers_each s.directed =
+    growing.made-grown a es ∙ ap (λ d. made_of a.graph + length es * growing.numbers_each d) bare.directed in
+    record {
+      vertices = growing.n-grown a es ∙ bare.vertices;
+      directed = growing.grown-directed a es ∙ bare.directed;
+      few_numbers = omega (arith, count, bare.no_numbers, one_more s.directed (length es) (wanted s) (omega (arith, few, less)) j.few_numbers);
+      few_made = omega (arith, less, wanted_few s j);
+    }
+
+-- so that one insertion is not refused
+pub room_only : {T : Type 0} {s : RandomSpec} {a b : Builder} (c : Builder) (e : Insertion) {made : ℕ} (r : Result T Refusal) → IsReady s a made → b ≡ a → Inserts b c (e ∷ []) r → IfErr r (λ x. x ≡ NoRoom)
+room_only c e (Ok x) is same done = tt
+room_only c e (Err x) is same (inl room) = room
+room_only {s = s} {a = a} {b = b} c e (Err x) is same (inr large) =
+    let count : made_of (grown b (e ∷ [])).graph ≡ made_of a.graph + 1 * growing.numbers_each s.directed =
+    ap (λ d. made_of (grown d (e ∷ [])).graph) same
+    ∙ (growing.made-grown a (e ∷ []) ∙ ap (λ d. made_of a.graph + 1 * growing.numbers_each d) is.directed) in
+    absurd (omega (arith, count, large.1, is.few_numbers, same_numbers s.directed))
+
+pub inserts_ok : {T : Type 0} (b c : Builder) (es : List Insertion) (r : Result T Refusal) → Inserts b c es r → OnOk r (c ≡ grown b es)
+inserts_ok b c es (Ok x) done = done
+inserts_ok b c es (Err x) done = tt
+
 made-plan : (p : Plan) → made_of (graph_of_plan p) ≡ length p.insertions * growing.numbers_each p.directed
 unfolding graph_of_plan
 made-plan p =
@@ -105,3 +145,19 @@ plan_fits s seed w none =
     omega (arith, made-plan p, numbers_fit s.directed (length (course s w).insertions) (wanted s) (omega (arith, c.inserted, c.counted)) j.few_numbers) in
     or_from (nat_lt 65535 (length p.vertices)) (nat_lt 1000000 (made_of (graph_of_plan p)))
     (le-ltb 65535 (length p.vertices) n) (le-ltb 1000000 (made_of (graph_of_plan p)) few)
+
+-- the insertions of the whole course are not refused
+pub course_room : (s : RandomSpec) (w : Generator) {a b : Builder} {es : List Insertion} {e : Refusal} → refusal_of_random s ≡ None → IsBare s a → b ≡ a → es ≡ (course s w).insertions → RefusesInsertions b es e → e ≡ NoRoom
+course_room s w none bare same is (inl room) = room
+course_room s w {a} {b} {es} none bare same is (inr large) =
+    let c = few_course s w in
+    let count : made_of (grown b es).graph ≡ made_of a.graph + length (course s w).insertions * growing.numbers_each s.directed =
+    ap₂ (λ d fs. made_of (grown d fs).graph) same is
+    ∙ (growing.made-grown a (course s w).insertions ∙ ap (λ d. made_of a.graph + length (course s w).insertions * growing.numbers_each d) bare.directed) in
+    absurd (omega (
+      arith,
+      count,
+      large.1,
+      bare.no_numbers,
+      numbers_fit s.directed (length (course s w).insertions) (wanted s) (omega (arith, c.inserted, c.counted)) (judged s none).few_numbers,
+    ))

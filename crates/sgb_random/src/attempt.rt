@@ -1,53 +1,54 @@
 //! One attempt: two vertices are drawn, and what comes of them.
-ghost use Rattle.std.specs.Prelude.{◌≡◌, ◌≤◌, ◌<◌, ◌+◌, ◌^◌, ◌∷◌, [], ◌++◌, ◌==◌, ◌&&◌, not, length, IfErr, OnOk};
+ghost use Rattle.std.specs.Prelude.{◌≡◌, ◌≤◌, ◌<◌, ◌+◌, ◌^◌, ◌∷◌, [], ◌++◌, ◌==◌, ◌&&◌, not, length, int_lt, pos, true, IfErr, OnOk};
 ghost use Rattle.std.specs.Int.{int_min};
 ghost use Rattle.sgb_flip.specs.Generator.{IsGenerator};
+ghost use Rattle.sgb_graph.specs.declared.builder.Builder.{Builder as Base};
 ghost use Rattle.sgb_graph.specs.Builder.{insertion};
 ghost use Rattle.sgb_plan.specs.Length.{drawn_length};
-ghost use Rattle.sgb_random.specs.Random.{attempted, tried, with_length, size_of};
+ghost use Rattle.sgb_random.specs.declared.spec.RandomSpec.{RandomSpec as Spec};
+ghost use Rattle.sgb_random.specs.Random.{Course, attempted, tried, with_length, size_of};
 ghost use Rattle.sgb_random.specs.Private.Progress.{
   Follows,
   IsIndexed,
+  IsKept,
   IsLengths,
-  course_of,
+  IsReady,
   insertion_of,
-  insertions_of,
   key_of,
   with_len_at,
 };
 
 use crate::RandomSpec;
+use crate::ends::Ends;
 use crate::progress::{Edge, Progress};
 use crate::spec::{repeats, shortens};
 use sgb_flip::Flip;
-use sgb_graph::Refusal;
+use sgb_graph::{Refusal, VertexNo};
 use sgb_plan::LengthRange;
 
-// Draws two of the `n` vertices and tries to join them. Where memory is wanting, the draws are counted all the same.
+// Draws two vertices and tries to join them. Where memory is wanting, the draws are counted all the same.
 pub(crate) fn attempt(
     flip: &mut Flip,
     spec: &RandomSpec,
-    n: u32,
+    ends: &Ends,
     range: &LengthRange,
     progress: &mut Progress,
 ) -> Result<(), Refusal>
-    requires size { n ≡ size_of spec.now }
-    requires some { 0 < n }
-    requires few { n ≤ 65535 }
+    requires size { ends.now.n ≡ size_of spec.now }
     requires range { IsLengths spec.now range.now }
-    requires indexed { IsIndexed spec.now progress.old }
-    requires made { progress.old.made < 1000000 }
+    requires ready { IsReady spec.now progress.old.builder progress.old.made }
+    requires places { int_lt spec.now.multi (pos 0) ≡ true →
+        length progress.old.pairs.keys ≡ length progress.old.edges.items }
     requires draws { progress.old.draws < 2 ^ 40 }
-    ensures ok { OnOk result
-        (course_of progress.new flip.new ≡ attempted spec.now (course_of progress.old flip.old)) }
-    ensures indexed { OnOk result (IsIndexed spec.now progress.new) }
+    ensures ok { (a : Base) (c : Course) → IsIndexed spec.now a c progress.old flip.old →
+        OnOk result (IsIndexed spec.now a (attempted spec.now c) progress.new flip.new) }
     ensures err { IfErr result (λ e. e ≡ Refusal.NoRoom) }
     ensures follows { Follows flip.old progress.old.draws flip.new progress.new.draws }
     ensures few_draws { progress.new.draws ≤ progress.old.draws + 5442 }
     ensures generator { IsGenerator flip.new }
 {
-    let from = flip.uniform(n);
-    let to = flip.uniform(n);
+    let from = ends.draw(flip);
+    let to = ends.draw(flip);
     progress.draws += from.draws as u64 + to.draws as u64;
     try_pair(flip, spec, range, progress, from.value, to.value)
 }
@@ -65,12 +66,12 @@ fn try_pair(
     requires from { from < size_of spec.now }
     requires to { to < size_of spec.now }
     requires range { IsLengths spec.now range.now }
-    requires indexed { IsIndexed spec.now progress.old }
-    requires made { progress.old.made < 1000000 }
+    requires ready { IsReady spec.now progress.old.builder progress.old.made }
+    requires places { int_lt spec.now.multi (pos 0) ≡ true →
+        length progress.old.pairs.keys ≡ length progress.old.edges.items }
     requires draws { progress.old.draws < 2 ^ 41 }
-    ensures ok { OnOk result
-        (course_of progress.new flip.new ≡ tried spec.now from to (course_of progress.old flip.old)) }
-    ensures indexed { OnOk result (IsIndexed spec.now progress.new) }
+    ensures ok { (a : Base) (c : Course) → IsIndexed spec.now a c progress.old flip.old →
+        OnOk result (IsIndexed spec.now a (tried spec.now from to c) progress.new flip.new) }
     ensures err { IfErr result (λ e. e ≡ Refusal.NoRoom) }
     ensures follows { Follows flip.old progress.old.draws flip.new progress.new.draws }
     ensures few_draws { progress.new.draws ≤ progress.old.draws + 1814 }
@@ -82,12 +83,12 @@ fn try_pair(
         return Ok(());
     }
     if repeats(*spec) {
-        return insert(flip, range, progress, from, to);
+        return insert(flip, spec, range, progress, from, to);
     }
     let key = key_of(spec.directed, from, to);
     let (place, is_new) = progress.pairs.insert_full(key)?;
     if is_new {
-        return insert(flip, range, progress, from, to);
+        return insert(flip, spec, range, progress, from, to);
     }
     if shortens(*spec) {
         lower(flip, range, progress, place);
@@ -104,32 +105,35 @@ fn is_barred(loops: bool, from: u32, to: u32) -> bool
 
 // The number of a pair, which is the same either way round where edges are inserted.
 #[inline]
-fn key_of(directed: bool, from: u32, to: u32) -> u64
+fn key_of(directed: bool, from: u32, to: u32) -> u32
     requires from { from < 65536 }
     requires to { to < 65536 }
     ensures { result ≡ key_of directed from to }
 {
     if directed {
-        from as u64 * 65536 + to as u64
+        from * 65536 + to
     } else {
-        from.min(to) as u64 * 65536 + from.max(to) as u64
+        from.min(to) * 65536 + from.max(to)
     }
 }
 
-// Draws a length and inserts an arc or an edge of this length, last.
+// Draws a length and inserts an arc or an edge of this length, or lists it where it may yet be shortened.
 fn insert(
     flip: &mut Flip,
+    spec: &RandomSpec,
     range: &LengthRange,
     progress: &mut Progress,
     from: u32,
     to: u32,
 ) -> Result<(), Refusal>
-    requires made { progress.old.made < 1000000 }
+    requires from { from < size_of spec.now }
+    requires to { to < size_of spec.now }
+    requires ready { IsReady spec.now progress.old.builder progress.old.made }
     requires draws { progress.old.draws < 2 ^ 42 }
-    ensures ok { OnOk result
-        (course_of progress.new flip.new
-        ≡ with_length range.now.min range.now.max (course_of progress.old flip.old)
-        (λ len. insertions_of progress.old ++ insertion from to len ∷ [])) }
+    ensures ok { (a : Base) (c : Course) → IsKept spec.now a c progress.old flip.old →
+        OnOk result (IsKept spec.now a
+        (with_length range.now.min range.now.max c (λ len. c.insertions ++ insertion from to len ∷ []))
+        progress.new flip.new) }
     ensures pairs { OnOk result (progress.new.pairs ≡ progress.old.pairs) }
     ensures err { IfErr result (λ e. e ≡ Refusal.NoRoom) }
     ensures follows { Follows flip.old progress.old.draws flip.new progress.new.draws }
@@ -137,18 +141,23 @@ fn insert(
     ensures generator { IsGenerator flip.new }
 {
     let len = draw_length(flip, range, progress);
-    progress.edges.push(Edge { from, to, len })?;
-    Ok(())
+    if shortens(*spec) {
+        progress.edges.push(Edge { from, to, len })?;
+        return Ok(());
+    }
+    progress.builder.insert(VertexNo(from), VertexNo(to), len)
 }
 
-// Draws a length, which the insertion at this place takes if it is smaller.
+// Draws a length, which what is listed at this place takes if it is smaller.
 fn lower(flip: &mut Flip, range: &LengthRange, progress: &mut Progress, place: usize)
     requires place { place < length progress.old.edges.items }
     requires made { progress.old.made < 1000000 }
     requires draws { progress.old.draws < 2 ^ 42 }
-    ensures ok { course_of progress.new flip.new
-        ≡ with_length range.now.min range.now.max (course_of progress.old flip.old)
-        (λ len. with_len_at (insertions_of progress.old) place len) }
+    ensures ok { (s : Spec) (a : Base) (c : Course) → int_lt s.multi (pos 0) ≡ true →
+        IsKept s a c progress.old flip.old →
+        IsKept s a
+        (with_length range.now.min range.now.max c (λ len. with_len_at c.insertions place len))
+        progress.new flip.new }
     ensures pairs { progress.new.pairs ≡ progress.old.pairs }
     ensures follows { Follows flip.old progress.old.draws flip.new progress.new.draws }
     ensures few_draws { progress.new.draws ≤ progress.old.draws + 1814 }
@@ -177,6 +186,7 @@ fn draw_length(flip: &mut Flip, range: &LengthRange, progress: &mut Progress) ->
         ≡ progress.old.draws + (drawn_length range.now.min range.now.max flip.old).draws }
     ensures rest { flip.new ≡ (drawn_length range.now.min range.now.max flip.old).rest }
     ensures made { progress.new.made ≡ progress.old.made + 1 }
+    ensures builder { progress.new.builder ≡ progress.old.builder }
     ensures edges { progress.new.edges ≡ progress.old.edges }
     ensures pairs { progress.new.pairs ≡ progress.old.pairs }
     ensures follows { Follows flip.old progress.old.draws flip.new progress.new.draws }

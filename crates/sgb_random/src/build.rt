@@ -1,39 +1,32 @@
-//! The graph of the insertions.
+//! The graph without its arcs or edges, and those that are inserted at the end.
 ghost use Rattle.std.specs.Prelude.{◌≡◌, ◌≤◌, ◌<◌, ◌∷◌, [], All, map, None, IfOk, IfErr, length};
 ghost use Rattle.std.specs.List.{range_with_len};
 ghost use Rattle.sgb_graph.specs.Builder.{Inserts};
 ghost use Rattle.sgb_graph.specs.Graph.{n_of};
-ghost use Rattle.sgb_plan.specs.Plan.{IsMade, Names};
-ghost use Rattle.sgb_random.specs.Random.{random_id, random_plan, refusal_of_random, numbered, size_of, wanted};
-ghost use Rattle.sgb_random.specs.Private.Progress.{IsWithin, insertion_of};
+ghost use Rattle.sgb_plan.specs.Plan.{Names};
+ghost use Rattle.sgb_random.specs.Random.{random_id, refusal_of_random, numbered, size_of, wanted};
+ghost use Rattle.sgb_random.specs.Private.Progress.{IsWithin, bare_builder, insertion_of};
 
 use crate::RandomSpec;
 use crate::progress::Edge;
-use crate::spec::wanted;
-use sgb_graph::{Builder, Graph, Refusal, Text, Types, VertexNo};
+use crate::spec::{vertices, wanted};
+use sgb_graph::{Builder, Refusal, Text, Types, VertexNo};
 use sgb_plan::{Part, Seed, append_dotted, id_of, label_of};
 use std::alloc::Global;
 
-// Builds the graph of `n` vertices with these arcs or edges.
-pub(crate) fn build(
-    alloc: Global,
-    spec: &RandomSpec,
-    seed: Seed,
-    n: u32,
-    edges: &[Edge],
-) -> Result<Graph, Refusal>
+// A graph with its vertices, and room for all that is to be inserted.
+pub(crate) fn begin(alloc: Global, spec: &RandomSpec, seed: Seed) -> Result<Builder, Refusal>
     requires judged { refusal_of_random spec.now ≡ None }
-    requires size { n ≡ size_of spec.now }
-    requires ends { All (IsWithin n) (map insertion_of edges.now) }
-    ensures { IsMade (Ok (random_plan spec.now seed (map insertion_of edges.now))) result }
+    ensures ok { IfOk result (λ builder. builder ≡ bare_builder spec.now seed) }
+    ensures err { IfErr result (λ e. e ≡ Refusal.NoRoom) }
 {
-    let id = random_id(alloc, spec, seed, n, wanted(*spec))?;
+    let (n, m) = (vertices(*spec), wanted(*spec));
+    let id = random_id(alloc, spec, seed, n, m)?;
     let mut builder = Builder::new(alloc, id, Types::none(), spec.directed);
     builder.reserve_vertices(n as usize)?;
     name_vertices(&mut builder, alloc, n)?;
-    builder.reserve(edges.len())?;
-    insert_edges(&mut builder, edges)?;
-    Ok(builder.finish())
+    builder.reserve(m as usize)?;
+    Ok(builder)
 }
 
 fn random_id(alloc: Global, spec: &RandomSpec, seed: Seed, n: u32, m: u32) -> Result<Text, Refusal>
@@ -71,7 +64,8 @@ fn name_vertices(builder: &mut Builder, alloc: Global, n: u32) -> Result<(), Ref
     Ok(())
 }
 
-fn insert_edges(builder: &mut Builder, edges: &[Edge]) -> Result<(), Refusal>
+// Inserts what is listed.
+pub(crate) fn insert_edges(builder: &mut Builder, edges: &[Edge]) -> Result<(), Refusal>
     requires { All (IsWithin (n_of builder.old.graph)) (map insertion_of edges.now) }
     ensures { Inserts builder.old builder.new (map insertion_of edges.now) result }
 {

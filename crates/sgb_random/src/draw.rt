@@ -2,15 +2,17 @@
 ghost use Rattle.std.specs.Prelude.{◌≡◌, ◌≤◌, ◌<◌, ◌⊎◌, [], None, Ok, Err, IfOk, IfErr, OnOk, OnErr};
 ghost use Rattle.std.specs.Result.{IsErrOf};
 ghost use Rattle.sgb_flip.specs.Generator.{IsGenerator, after, seeded};
+ghost use Rattle.sgb_graph.specs.Builder.{grown};
 ghost use Rattle.sgb_plan.specs.Plan.{IsMade};
-ghost use Rattle.sgb_random.specs.Random.{course, plan_of_course, plan_of_random, refusal_of_random, size_of, wanted, begun};
-ghost use Rattle.sgb_random.specs.Private.Progress.{IsIndexed, IsLengths, course_of};
+ghost use Rattle.sgb_random.specs.Random.{course, plan_of_random, refusal_of_random, wanted};
+ghost use Rattle.sgb_random.specs.Private.Progress.{IsFresh, IsIndexed, IsLengths, bare_builder};
 
 use crate::RandomSpec;
 use crate::attempt::attempt;
-use crate::build::build;
+use crate::build::{begin, insert_edges};
+use crate::ends::Ends;
 use crate::progress::Progress;
-use crate::spec::{judge, repeats, vertices, wanted};
+use crate::spec::{judge, repeats, shortens, vertices, wanted};
 use sgb_flip::Flip;
 use sgb_graph::{Graph, Refusal};
 use sgb_plan::{LengthRange, Seed};
@@ -44,11 +46,9 @@ pub fn random(
     // It tells that the generator is one, also where nothing is drawn.
     let _ = flip.unread();
     let range = judge(*spec)?;
-    let m = wanted(*spec);
-    let pairs = if repeats(*spec) { 0 } else { m };
-    let mut progress = Progress::new(alloc, m as usize, pairs as usize)?;
-    match draw_graph(alloc, flip, spec, seed, &range, &mut progress) {
-        Ok(graph) => Ok((graph, progress.draws)),
+    let mut progress = start(alloc, spec, seed)?;
+    match draw_graph(flip, spec, &range, &mut progress) {
+        Ok(()) => Ok((progress.builder.finish(), progress.draws)),
         Err(refusal) => {
             flip.back_by(progress.draws);
             Err(refusal)
@@ -75,48 +75,63 @@ pub fn random_graph(
     Ok((graph, flip, draws))
 }
 
-// Draws the arcs or edges and builds their graph. The draws are counted also where that is refused.
+// Nothing is tried yet, and there is room for all that is wanted.
+fn start(alloc: Global, spec: &RandomSpec, seed: Seed) -> Result<Progress, Refusal>
+    requires judged { refusal_of_random spec.now ≡ None }
+    ensures builder { IfOk result (λ p. p.builder ≡ bare_builder spec.now seed) }
+    ensures edges { IfOk result (λ p. p.edges.items ≡ []) }
+    ensures pairs { IfOk result (λ p. p.pairs.keys ≡ []) }
+    ensures made { IfOk result (λ p. p.made ≡ 0) }
+    ensures draws { IfOk result (λ p. p.draws ≡ 0) }
+    ensures err { IfErr result (λ e. e ≡ Refusal.NoRoom) }
+{
+    let builder = begin(alloc, spec, seed)?;
+    let m = wanted(*spec) as usize;
+    let edges = if shortens(*spec) { m } else { 0 };
+    let pairs = if repeats(*spec) { 0 } else { m };
+    Progress::new(alloc, builder, edges, pairs)
+}
+
+// Draws the arcs or edges, until all are inserted. The draws are counted also where that is refused.
 fn draw_graph(
-    alloc: Global,
     flip: &mut Flip,
     spec: &RandomSpec,
-    seed: Seed,
     range: &LengthRange,
     progress: &mut Progress,
-) -> Result<Graph, Refusal>
+) -> Result<(), Refusal>
     requires judged { refusal_of_random spec.now ≡ None }
     requires range { IsLengths spec.now range.now }
-    requires fresh { course_of progress.old flip.old ≡ begun flip.old }
-    requires no_pairs { progress.old.pairs.keys ≡ [] }
-    requires generator { IsGenerator flip.old }
-    ensures made { IsMade (plan_of_course spec.now seed (course spec.now flip.old)) result }
+    requires fresh { IsFresh spec.now progress.old flip.old }
+    ensures ok { OnOk result (progress.new.builder
+        ≡ grown progress.old.builder (course spec.now flip.old).insertions) }
+    ensures all { OnOk result (wanted spec.now ≤ (course spec.now flip.old).made) }
+    ensures err { IfErr result (λ e. (e ≡ Refusal.NoRoom)
+        ⊎ ((e ≡ Refusal.Stuck) × ((course spec.now flip.old).made < wanted spec.now))) }
     ensures draws { OnOk result (progress.new.draws ≡ (course spec.now flip.old).draws) }
     ensures rest { flip.new ≡ after flip.old progress.new.draws }
     ensures few_draws { progress.new.draws ≤ 54420000000 }
     ensures generator { IsGenerator flip.new }
 {
-    let n = vertices(*spec);
-    draw_all(flip, spec, n, range, progress)?;
-    build(alloc, spec, seed, n, &progress.edges)
+    draw_all(flip, spec, range, progress)?;
+    if shortens(*spec) {
+        insert_edges(&mut progress.builder, &progress.edges)?;
+    }
+    Ok(())
 }
 
 // Attempts until all that is wanted is made.
 fn draw_all(
     flip: &mut Flip,
     spec: &RandomSpec,
-    n: u32,
     range: &LengthRange,
     progress: &mut Progress,
 ) -> Result<(), Refusal>
     requires judged { refusal_of_random spec.now ≡ None }
-    requires size { n ≡ size_of spec.now }
     requires range { IsLengths spec.now range.now }
-    requires fresh { course_of progress.old flip.old ≡ begun flip.old }
-    requires no_pairs { progress.old.pairs.keys ≡ [] }
-    requires generator { IsGenerator flip.old }
-    ensures ok { OnOk result (course_of progress.new flip.new ≡ course spec.now flip.old) }
+    requires fresh { IsFresh spec.now progress.old flip.old }
+    ensures ok { OnOk result
+        (IsIndexed spec.now progress.old.builder (course spec.now flip.old) progress.new flip.new) }
     ensures all { OnOk result (wanted spec.now ≤ (course spec.now flip.old).made) }
-    ensures indexed { OnOk result (IsIndexed spec.now progress.new) }
     ensures err { IfErr result (λ e. (e ≡ Refusal.NoRoom)
         ⊎ ((e ≡ Refusal.Stuck) × ((course spec.now flip.old).made < wanted spec.now))) }
     ensures rest { flip.new ≡ after flip.old progress.new.draws }
@@ -124,11 +139,12 @@ fn draw_all(
     ensures generator { IsGenerator flip.new }
 {
     let m = wanted(*spec);
+    let ends = Ends::new(vertices(*spec));
     for _attempt in 0..MOST_ATTEMPTS {
         if progress.made >= m {
             return Ok(());
         }
-        attempt(flip, spec, n, range, progress)?;
+        attempt(flip, spec, &ends, range, progress)?;
     }
     if progress.made < m {
         return Err(Refusal::Stuck);

@@ -4,6 +4,7 @@
 mod attempt;
 mod build;
 mod draw;
+mod ends;
 mod laws;
 mod progress;
 mod spec;

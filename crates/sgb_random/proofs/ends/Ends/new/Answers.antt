@@ -1,0 +1,7 @@
+use Rattle.std.proofs.Common.{refl}
+use Rattle.sgb_flip.specs.Generator.{limit}
+use Rattle.sgb_random.proofs.ends.Ends.new.Goals as goal
+
+pub invariant_of-result : goal.invariant_of-result
+unfolding limit
+invariant_of-result c = record { some = c.requires.some; few = c.requires.few; whole = refl }

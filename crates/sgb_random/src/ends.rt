@@ -1,0 +1,53 @@
+//! The vertices that an attempt draws.
+ghost use Rattle.std.specs.Prelude.{◌≡◌, ◌≤◌, ◌<◌};
+ghost use Rattle.sgb_flip.specs.Generator.{IsGenerator, after, limit, uniform};
+
+use sgb_flip::{Drawn, Flip};
+
+// The vertices from 0 on, of which one is drawn, and the greatest multiple of their number up to 2^31: a number that is
+// not below it is drawn anew.
+#[derive(Clone, Copy)]
+pub(crate) struct Ends {
+    pub(crate) n: u32,
+    pub(crate) end: u32,
+    ghost some: { 1 ≤ n },
+    ghost few: { n ≤ 65535 },
+    ghost whole: { end ≡ limit n },
+}
+
+impl Ends {
+    pub(crate) fn new(n: u32) -> Ends
+        requires some { 1 ≤ n }
+        requires few { n ≤ 65535 }
+        ensures { result.n ≡ n }
+    {
+        Ends {
+            n,
+            end: 0x8000_0000 - 0x8000_0000 % n,
+        }
+    }
+
+    // Draws a vertex as `Flip::uniform` does. Nearly always the first number serves.
+    #[inline]
+    pub(crate) fn draw(&self, flip: &mut Flip) -> Drawn
+        ensures value { result.value ≡ (uniform flip.old self.now.n).value }
+        ensures draws { result.draws ≡ (uniform flip.old self.now.n).draws }
+        ensures rest { flip.new ≡ (uniform flip.old self.now.n).rest }
+        ensures after { flip.new ≡ after flip.old result.draws }
+        ensures few { result.draws ≤ 1814 }
+        ensures below { result.value < self.now.n }
+        ensures generator { IsGenerator flip.new }
+    {
+        // It tells that the generator is one.
+        let _ = flip.unread();
+        let number = flip.next();
+        if number < self.end {
+            return Drawn {
+                value: number % self.n,
+                draws: 1,
+            };
+        }
+        flip.back();
+        flip.uniform(self.n)
+    }
+}
