@@ -1,4 +1,5 @@
 pub mod Aiming
+pub mod Apart
 pub mod Building
 pub mod Cells
 pub mod Chaining

@@ -1,4 +1,5 @@
 pub mod Aim
+pub mod Apart
 pub mod Arena
 pub mod Blank
 pub mod Cells
