@@ -78,3 +78,41 @@ fn expect_arc(rt: &impl Abort, graph: &Graph) {
     assert!(rt; has_counts(graph, 1, 1));
     assert!(rt; is_arc(graph, 0, 1, 0, 9));
 }
+
+fn insert_row(builder: &mut Builder) -> Result<(), Refusal> {
+    if builder.graph().n() < 3 {
+        return Err(Refusal::BadOperand);
+    }
+    builder.insert_row(VertexNo(0), 1, 3, 4)
+}
+
+// Three vertices, and insertions from the first to the two others.
+fn three_vertices(alloc: Global, directed: bool) -> Result<Graph, Refusal> {
+    let mut builder = begun(alloc, directed)?;
+    push_vertex(alloc, &mut builder, b"")?;
+    push_vertex(alloc, &mut builder, b"")?;
+    push_vertex(alloc, &mut builder, b"")?;
+    insert_row(&mut builder)?;
+    Ok(builder.finish())
+}
+
+#[test]
+fn a_row_is_inserted(rt: HostRuntime) -> Result<(), Fail> {
+    let graph = three_vertices(rt.alloc(), true)?;
+    expect_row(&rt, &graph, 2, 1);
+    Ok(())
+}
+
+#[test]
+fn a_row_of_edges_is_inserted(rt: HostRuntime) -> Result<(), Fail> {
+    let graph = three_vertices(rt.alloc(), false)?;
+    expect_row(&rt, &graph, 4, 2);
+    Ok(())
+}
+
+// So many arcs, the first to the second vertex, and the one of this number to the third.
+fn expect_row(rt: &impl Abort, graph: &Graph, count: u32, number: u32) {
+    assert!(rt; has_counts(graph, count, count));
+    assert!(rt; is_arc(graph, 0, 0, 1, 4));
+    assert!(rt; is_arc(graph, number, 0, 2, 4));
+}
