@@ -5,6 +5,7 @@ pub mod Twins
 pub mod Positions
 pub mod Expanding
 pub mod Fating
+pub mod Few
 pub mod Firsts
 pub mod Gathering
 pub mod Leading

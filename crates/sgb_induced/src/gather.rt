@@ -1,5 +1,5 @@
 //! The runs that the arcs of a graph ask for.
-ghost use Rattle.std.specs.Prelude.{◌≡◌, ◌<◌, ◌==◌, ◌++◌, ◌&&◌, not, map, IfOk, OnOk};
+ghost use Rattle.std.specs.Prelude.{◌≡◌, ◌<◌, ◌≤◌, ◌==◌, ◌++◌, ◌&&◌, not, length, map, IfOk, OnOk};
 ghost use Rattle.std.specs.List.{filter};
 ghost use Rattle.sgb_graph.specs.Graph.{n_of};
 ghost use Rattle.sgb_operand.specs.Operand.{spokes};
@@ -38,7 +38,8 @@ fn read_runs(
     images: &[Image],
     directed: bool,
 ) -> Result<Vec<Run>, AllocError>
-    ensures { IfOk result (λ rs. rs.items ≡ all_runs directed graph.now images.now) }
+    ensures runs { IfOk result (λ rs. rs.items ≡ all_runs directed graph.now images.now) }
+    ensures few { IfOk result (λ rs. length rs.items ≤ 1000000) }
 {
     let mut runs = Vec::with_capacity(alloc, graph.m() as usize)?;
     for v in 0..graph.n() {

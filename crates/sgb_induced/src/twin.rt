@@ -1,5 +1,5 @@
 //! Runs of which each pair of ends has one.
-ghost use Rattle.std.specs.Prelude.{◌≡◌, ◌<◌, ◌+◌, ◌∷◌, ◌++◌, [], length, replicate, All, slice_index_or, slice_set, IfOk, OnOk};
+ghost use Rattle.std.specs.Prelude.{◌≡◌, ◌<◌, ◌≤◌, ◌+◌, ◌∷◌, ◌++◌, [], length, replicate, All, slice_index_or, slice_set, IfOk, OnOk};
 ghost use Rattle.sgb_induced.specs.Private.Run.{merged, same_run};
 ghost use Rattle.sgb_induced.specs.Private.Twin.{AreLinked, AreTwins, IsBelow, Marked, key_at, kept_with, place_by, twin_of};
 
@@ -12,13 +12,14 @@ pub(crate) fn merge_runs(
     runs: &[Run],
     directed: bool,
 ) -> Result<Vec<Run>, AllocError>
+    requires few { length runs.now ≤ 1000000 }
     ensures { IfOk result (λ rs. rs.items ≡ merged directed runs.now) }
 {
     let twins = find_twins(alloc, runs, directed)?;
     let mut kept = Vec::new(alloc);
     let mut places = Vec::with_capacity(alloc, runs.len())?;
     for i in 0..runs.len() {
-        keep_run(&mut kept, &mut places, runs[i], twins[i])?;
+        keep_run(&mut kept, &mut places, runs[i], twins[i] as usize)?;
     }
     Ok(kept)
 }
@@ -48,22 +49,24 @@ fn keep_run(
 }
 
 // For each run the place of an earlier one with its ends, or its own where there is none.
-fn find_twins(alloc: Global, runs: &[Run], directed: bool) -> Result<Vec<usize>, AllocError>
+fn find_twins(alloc: Global, runs: &[Run], directed: bool) -> Result<Vec<u32>, AllocError>
+    requires few { length runs.now ≤ 1000000 }
     ensures { IfOk result (λ twins. AreTwins directed runs.now twins.items) }
 {
     let width = width_of(runs);
-    let mut heads = vec![in alloc; runs.len(); width]?;
-    let mut nexts = vec![in alloc; runs.len(); runs.len()]?;
+    let mut heads = vec![in alloc; runs.len() as u32; width]?;
+    let mut nexts = vec![in alloc; runs.len() as u32; runs.len()]?;
     order_runs(&mut heads, &mut nexts, runs, directed);
-    let mut twins = vec![in alloc; 0usize; runs.len()]?;
-    let mut marks = vec![in alloc; 0usize; width]?;
+    let mut twins = vec![in alloc; 0u32; runs.len()]?;
+    let mut marks = vec![in alloc; 0u32; width]?;
     mark_twins(&mut twins, &mut marks, runs, &heads, &nexts, directed);
     Ok(twins)
 }
 
 // Links the runs of each first end in their order: `heads` has the place of the first, and `nexts` for each that of the
 // next, or a place behind all runs where there is none.
-fn order_runs(heads: &mut [usize], nexts: &mut [usize], runs: &[Run], directed: bool)
+fn order_runs(heads: &mut [u32], nexts: &mut [u32], runs: &[Run], directed: bool)
+    requires few { length runs.now ≤ 1000000 }
     requires fresh { heads.old ≡ replicate (length heads.old) (length runs.now) }
     requires count { length nexts.old ≡ length runs.now }
     requires ends { All (IsBelow (length heads.old)) runs.now }
@@ -76,7 +79,8 @@ fn order_runs(heads: &mut [usize], nexts: &mut [usize], runs: &[Run], directed: 
 }
 
 // Puts a run in front of those with its first end.
-fn link_run(heads: &mut [usize], nexts: &mut [usize], runs: &[Run], place: usize, directed: bool)
+fn link_run(heads: &mut [u32], nexts: &mut [u32], runs: &[Run], place: usize, directed: bool)
+    requires few { length runs.now ≤ 1000000 }
     requires place { place < length runs.now }
     requires count { length nexts.old ≡ length runs.now }
     requires end { (key_at directed runs.now place).0 < length heads.old }
@@ -86,7 +90,7 @@ fn link_run(heads: &mut [usize], nexts: &mut [usize], runs: &[Run], place: usize
 {
     let first = key_of(runs[place], directed).0 as usize;
     nexts[place] = heads[first];
-    heads[first] = place;
+    heads[first] = place as u32;
 }
 
 // A number above the ends of all the runs.
@@ -103,13 +107,14 @@ fn width_of(runs: &[Run]) -> usize
 // Writes the twin of each run. The runs of one first end come together, so a mark at the last end that was made at
 // another first end is known by the run that stands there, and none is cleared.
 fn mark_twins(
-    twins: &mut [usize],
-    marks: &mut [usize],
+    twins: &mut [u32],
+    marks: &mut [u32],
     runs: &[Run],
-    heads: &[usize],
-    nexts: &[usize],
+    heads: &[u32],
+    nexts: &[u32],
     directed: bool,
 )
+    requires few { length runs.now ≤ 1000000 }
     requires linked { AreLinked directed runs.now heads.now nexts.now }
     requires count { length twins.old ≡ length runs.now }
     requires width { length marks.old ≡ length heads.now }
@@ -123,29 +128,31 @@ fn mark_twins(
 
 // Writes the twins of the runs with one first end.
 fn mark_linked(
-    twins: &mut [usize],
-    marks: &mut [usize],
+    twins: &mut [u32],
+    marks: &mut [u32],
     runs: &[Run],
-    heads: &[usize],
-    nexts: &[usize],
+    heads: &[u32],
+    nexts: &[u32],
     first: usize,
     directed: bool,
 )
+    requires few { length runs.now ≤ 1000000 }
     requires linked { AreLinked directed runs.now heads.now nexts.now }
     requires first { first < length heads.now }
     requires ends { All (IsBelow (length marks.old)) runs.now }
     requires marked { Marked directed runs.now first 0 (length marks.old) twins.old marks.old }
     ensures { Marked directed runs.now (first + 1) 0 (length marks.old) twins.new marks.new }
 {
-    let mut place = heads[first];
+    let mut place = heads[first] as usize;
     while place < runs.len() {
         mark_twin(twins, marks, runs, place, directed);
-        place = nexts[place];
+        place = nexts[place] as usize;
     }
 }
 
 // Writes the twin of one run, and marks its last end with its place.
-fn mark_twin(twins: &mut [usize], marks: &mut [usize], runs: &[Run], place: usize, directed: bool)
+fn mark_twin(twins: &mut [u32], marks: &mut [u32], runs: &[Run], place: usize, directed: bool)
+    requires few { length runs.now ≤ 1000000 }
     requires place { place < length runs.now }
     requires count { length twins.old ≡ length runs.now }
     requires end { (key_at directed runs.now place).1 < length marks.old }
@@ -154,19 +161,19 @@ fn mark_twin(twins: &mut [usize], marks: &mut [usize], runs: &[Run], place: usiz
     ensures marks { marks.new ≡ slice_set marks.old (key_at directed runs.now place).1 place }
 {
     let last = key_of(runs[place], directed).1 as usize;
-    twins[place] = twin_of(runs, marks[last], place, directed);
-    marks[last] = place;
+    twins[place] = twin_of(runs, marks[last], place as u32, directed);
+    marks[last] = place as u32;
 }
 
 // The marked place, if an earlier run with the same ends stands there, and else the run's own.
-fn twin_of(runs: &[Run], mark: usize, place: usize, directed: bool) -> usize
+fn twin_of(runs: &[Run], mark: u32, place: u32, directed: bool) -> u32
     requires { place < length runs.now }
     ensures { result ≡ twin_of directed runs.now mark place }
 {
     if mark >= place {
         return place;
     }
-    if is_same(runs[mark], runs[place], directed) {
+    if is_same(runs[mark as usize], runs[place as usize], directed) {
         mark
     } else {
         place
