@@ -1,4 +1,3 @@
-pub mod Apart
 pub mod Back
 pub mod Counting
 pub mod Drawn

@@ -19,7 +19,6 @@ ghost use Rattle.sgb_lengths.specs.Private.Prepared.{IsPrepared};
 use crate::draw::draw_lengths;
 use crate::exchange::exchange_lengths;
 use crate::id::lengths_id;
-use crate::pairing::is_paired;
 use crate::prepared::Prepared;
 use crate::{LengthsDelta, LengthsSpec};
 use sgb_flip::Flip;
@@ -145,7 +144,7 @@ fn check_arcs(graph: &Graph, directed: bool) -> Result<(), Refusal>
     if directed {
         return check_operand(graph);
     }
-    if is_paired(graph) {
+    if graph.is_paired() {
         Ok(())
     } else {
         Err(Refusal::BadOperand)

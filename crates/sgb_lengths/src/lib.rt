@@ -7,7 +7,6 @@ mod exchange;
 mod id;
 mod laws;
 mod lengths;
-mod pairing;
 mod prepared;
 mod spec;
 
