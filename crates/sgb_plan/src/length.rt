@@ -41,6 +41,7 @@ impl LengthRange {
     }
 
     /// Draws a length: `min` without a draw where the range has no other, and else a uniform one.
+    #[inline]
     pub fn draw(&self, flip: &mut Flip) -> DrawnLength
         ensures len { result.len ≡ (drawn_length self.now.min self.now.max flip.old).len }
         ensures draws { result.draws ≡ (drawn_length self.now.min self.now.max flip.old).draws }
