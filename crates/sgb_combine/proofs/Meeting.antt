@@ -1,14 +1,18 @@
 -- Lemmas on spokes that are met as a vertex's arcs are walked.
-use Rattle.std.proofs.Common.{◌≡◌, ◌≤◌, ℕ, List, [], ◌∷◌, ◌++◌, map, fold, cond, Bool, true, false, refl, sym, ap, ◌∙◌}
+use Rattle.std.proofs.Common.{◌≡◌, ◌<◌, ◌≤◌, ◌&&◌, ℕ, List, [], ◌∷◌, ◌++◌, map, fold, cond, Bool, true, false, All, refl, sym, ap, ap₂, ◌∙◌}
 use Rattle.std.specs.List.{filter}
-use Rattle.std.proofs.lemmas.List.Elements.{filter-append}
+use Rattle.std.proofs.lemmas.Bool.{lt-ltb}
+use Rattle.std.proofs.lemmas.List.Elements.{All-head, All-tail, filter-append}
 use Rattle.std.proofs.lemmas.List.Sums.{fold-append}
-use Rattle.sgb_graph.specs.Graph.{GraphOf, n_of}
+use Rattle.sgb_graph.specs.Graph.{GraphOf, IsGraph, n_of}
 use Rattle.sgb_graph.specs.Edit.{entry_at}
 use Rattle.sgb_graph.specs.Paired.{walk}
 use Rattle.sgb_operand.specs.declared.spoke.Spoke.{Spoke}
-use Rattle.sgb_operand.specs.Operand.{spoke_of, spokes}
+use Rattle.sgb_operand.specs.Operand.{spoke_of, spokes, IsWithin}
+use Rattle.sgb_operand.proofs.Spokes.{spokes_within}
+use Rattle.sgb_combine.specs.Combined.{is_upward}
 use Rattle.sgb_combine.specs.Gunion.{candidates, is_candidate}
+use Rattle.sgb_combine.specs.Intersection.{firsts}
 use Rattle.sgb_combine.specs.Lowest.{add_or_lower, lowest}
 use Rattle.sgb_combine.proofs.Reached.{spokes_past}
 
@@ -65,3 +69,36 @@ pub met_first : (directed : Bool) (g h : GraphOf) (v n : ℕ) (zs rs : List Spok
 met_first directed g h v n zs rs none is past first =
     met_both directed g h v n zs rs rs none is first
     (ap (λ ts. fold add_or_lower rs (filter (is_candidate directed n v) ts)) (sym (spokes_past directed h v past)))
+
+-- ---- one graph, whose spokes all lead to one of n vertices
+within_upward : (directed : Bool) (n v : ℕ) (ss : List Spoke) → All (IsWithin n) ss → filter (is_candidate directed n v) ss ≡ filter (is_upward directed v) ss
+within_upward directed n v [] all = refl
+within_upward directed n v (s ∷ ss) all =
+    let here : is_candidate directed n v s ≡ is_upward directed v s = ap (λ b. b && is_upward directed v s) (lt-ltb s.to n (All-head (IsWithin n) s ss all)) in
+    ap₂ (λ b ts. cond b (s ∷ ts) ts) here (within_upward directed n v ss (All-tail (IsWithin n) s ss all))
+
+every_upward : (v : ℕ) (ss : List Spoke) → filter (is_upward true v) ss ≡ ss
+every_upward v [] = refl
+every_upward v (s ∷ ss) = ap (λ ts. s ∷ ts) (every_upward v ss)
+
+pub met_firsts : (directed : Bool) (g : GraphOf) (v n : ℕ) (zs rs : List Spoke) → IsGraph g → v < n_of g → zs ≡ [] → n ≡ n_of g → rs ≡ fold add_or_lower zs (filter (is_candidate directed n v) (spokes true g v)) → rs ≡ firsts directed g v
+unfolding firsts lowest
+met_firsts directed g v n zs rs sound low none is met =
+    let ss = spokes true g v in
+    met
+    ∙ (ap (λ ts. fold add_or_lower ts (filter (is_candidate directed n v) ss)) none
+    ∙ (ap (λ m. fold add_or_lower [] (filter (is_candidate directed m v) ss)) is
+    ∙ ap (fold add_or_lower []) (within_upward directed (n_of g) v ss (spokes_within true g v sound low))))
+
+pub met_others : (g : GraphOf) (v n : ℕ) (zs rs : List Spoke) → IsGraph g → v < n_of g → zs ≡ [] → n ≡ n_of g → rs ≡ fold add_or_lower zs (filter (is_candidate true n v) (spokes true g v)) → rs ≡ lowest (spokes true g v)
+unfolding lowest
+met_others g v n zs rs sound low none is met =
+    let ss = spokes true g v in
+    met
+    ∙ (ap (λ ts. fold add_or_lower ts (filter (is_candidate true n v) ss)) none
+    ∙ (ap (λ m. fold add_or_lower [] (filter (is_candidate true m v) ss)) is
+    ∙ ap (fold add_or_lower []) (within_upward true (n_of g) v ss (spokes_within true g v sound low) ∙ every_upward v ss)))
+
+pub met_past : (g : GraphOf) (v : ℕ) (zs : List Spoke) → n_of g ≤ v → zs ≡ [] → zs ≡ lowest (spokes true g v)
+unfolding lowest
+met_past g v zs past none = none ∙ ap (fold add_or_lower []) (sym (spokes_past true g v past))

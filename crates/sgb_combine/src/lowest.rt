@@ -68,21 +68,23 @@ impl Lowest {
         self.spokes.clear();
     }
 
-    // Takes the spokes of a vertex that are candidates besides, straight from its arcs.
+    // Takes the spokes of a vertex that are candidates besides, straight from its arcs, with the second halves of loops
+    // where `halves` is true.
     pub(crate) fn meet(
         &mut self,
         graph: &Graph,
         vertex: VertexNo,
+        halves: bool,
         directed: bool,
         n: u32,
     ) -> Result<(), AllocError>
         requires vertex { vertex.0 < n_of graph.now }
         requires width { n ≤ length self.old.places.items }
         ensures ok { OnOk result (self.new.spokes.items ≡ fold add_or_lower self.old.spokes.items
-            (filter (is_candidate directed n vertex.0) (spokes directed graph.now vertex.0))) }
+            (filter (is_candidate directed n vertex.0) (spokes halves graph.now vertex.0))) }
         ensures width { length self.new.places.items ≡ length self.old.places.items }
     {
-        for number in graph.walk(vertex, directed) {
+        for number in graph.walk(vertex, halves) {
             let spoke = spoke_at(graph, number);
             if !is_candidate(directed, n, vertex, spoke) {
                 continue;

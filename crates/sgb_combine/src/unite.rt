@@ -118,11 +118,11 @@ fn meet_candidates(
 {
     let n = first.n();
     met.forget();
-    met.meet(first, vertex, directed, n)?;
+    met.meet(first, vertex, directed, directed, n)?;
     if vertex.0 >= second.n() {
         return Ok(());
     }
-    met.meet(second, vertex, directed, n)
+    met.meet(second, vertex, directed, directed, n)
 }
 
 // Inserts the candidates of a vertex, or the lowest of them.

@@ -7,7 +7,7 @@ use Rattle.sgb_combine.proofs.lowest.Lowest.meet.Goals as goal
 
 pub loop-number-init : goal.loop-number-init
 loop-number-init c = record {
-  meets = meets_start c.args.directed c.args.graph.now c.args.vertex.0 (is_candidate c.args.directed c.args.n c.args.vertex.0) c.args.self.now.spokes.items c.into_iter-number-iterator.result (c.into_iter-number-iterator.ensures.into_iter_gives ∙ c.walk-number-items.ensures.value);
+  meets = meets_start c.args.halves c.args.graph.now c.args.vertex.0 (is_candidate c.args.directed c.args.n c.args.vertex.0) c.args.self.now.spokes.items c.into_iter-number-iterator.result (c.into_iter-number-iterator.ensures.into_iter_gives ∙ c.walk-number-items.ensures.value);
   live = subst (All (λ k. IsSome (arc_at c.args.graph.now k))) (sym c.into_iter-number-iterator.ensures.into_iter_gives) c.walk-number-items.ensures.live;
   width = refl;
 }
