@@ -3,6 +3,7 @@ pub mod Beginning
 pub mod Joined
 pub mod Joint
 pub mod Least
+pub mod Meeting
 pub mod Named
 pub mod Products
 pub mod Pruning

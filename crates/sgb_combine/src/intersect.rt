@@ -10,7 +10,7 @@ ghost use Rattle.sgb_combine.specs.Intersection.{firsts, longer, joints, interse
 
 use crate::begin::{begin_as, room_of};
 use crate::lowest::Lowest;
-use crate::run::{insert_spoke, keep_upward, read_if_there};
+use crate::run::insert_spoke;
 use sgb_graph::{Builder, Graph, Refusal, VertexNo};
 use sgb_operand::{Spoke, check_operand};
 use sgb_plan::{Part, id_of_two};
@@ -52,12 +52,11 @@ fn insert_intersections(
     ensures { Inserts builder.old builder.new
         (flat_map (intersection_at directed first.now second.now) (range_with_len 0 (n_of first.now))) result }
 {
-    let mut buffer = Vec::new(alloc);
     let mut mine = Lowest::new(alloc, first.n())?;
     let mut theirs = Lowest::new(alloc, second.n())?;
     for v in 0..first.n() {
-        read_firsts(&mut mine, &mut buffer, first, VertexNo(v), directed)?;
-        read_others(&mut theirs, &mut buffer, second, VertexNo(v))?;
+        read_firsts(&mut mine, first, VertexNo(v), directed)?;
+        read_others(&mut theirs, second, VertexNo(v))?;
         insert_joints(builder, VertexNo(v), mine.spokes(), &theirs)?;
     }
     Ok(())
@@ -66,35 +65,30 @@ fn insert_intersections(
 // The first arcs of a vertex to each other, where edges are not looked at from their larger end.
 fn read_firsts(
     mine: &mut Lowest,
-    buffer: &mut Vec<Spoke>,
     graph: &Graph,
     vertex: VertexNo,
     directed: bool,
 ) -> Result<(), AllocError>
-    requires { length mine.old.places.items ≡ n_of graph.now }
+    requires vertex { vertex.0 < n_of graph.now }
+    requires width { length mine.old.places.items ≡ n_of graph.now }
     ensures ok { OnOk result (mine.new.spokes.items ≡ firsts directed graph.now vertex.0) }
     ensures width { length mine.new.places.items ≡ length mine.old.places.items }
 {
-    buffer.clear();
-    read_if_there(buffer, graph, vertex, true)?;
-    keep_upward(buffer, directed, vertex);
-    mine.keep(buffer)
+    mine.forget();
+    mine.meet(graph, vertex, true, directed, graph.n())
 }
 
 // The same of a graph that may lack the vertex, wherever its arcs lead.
-fn read_others(
-    theirs: &mut Lowest,
-    buffer: &mut Vec<Spoke>,
-    graph: &Graph,
-    vertex: VertexNo,
-) -> Result<(), AllocError>
+fn read_others(theirs: &mut Lowest, graph: &Graph, vertex: VertexNo) -> Result<(), AllocError>
     requires { length theirs.old.places.items ≡ n_of graph.now }
     ensures ok { OnOk result (theirs.new.spokes.items ≡ lowest (spokes true graph.now vertex.0)) }
     ensures width { length theirs.new.places.items ≡ length theirs.old.places.items }
 {
-    buffer.clear();
-    read_if_there(buffer, graph, vertex, true)?;
-    theirs.keep(buffer)
+    theirs.forget();
+    if vertex.0 >= graph.n() {
+        return Ok(());
+    }
+    theirs.meet(graph, vertex, true, true, graph.n())
 }
 
 fn insert_joints(

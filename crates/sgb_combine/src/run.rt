@@ -5,6 +5,7 @@ ghost use Rattle.sgb_graph.specs.Graph.{n_of};
 ghost use Rattle.sgb_graph.specs.Builder.{Inserts};
 ghost use Rattle.sgb_operand.specs.Operand.{IsWithin, spokes};
 ghost use Rattle.sgb_combine.specs.Combined.{along, is_upward};
+ghost use Rattle.sgb_combine.specs.Gunion.{is_candidate};
 
 use sgb_graph::{Builder, Graph, Refusal, VertexNo};
 use sgb_operand::{Spoke, read_spokes};
@@ -61,4 +62,12 @@ pub(crate) fn keep_upward(spokes: &mut Vec<Spoke>, directed: bool, vertex: Verte
     ensures { spokes.new.items ≡ filter (is_upward directed vertex.0) spokes.old.items }
 {
     spokes.retain(|spoke| directed || vertex.0 <= spoke.to);
+}
+
+// It leads to one of n vertices, and not below the vertex where edges are made.
+#[inline]
+pub(crate) fn is_candidate(directed: bool, n: u32, vertex: VertexNo, spoke: Spoke) -> bool
+    ensures { result ≡ is_candidate directed n vertex.0 spoke }
+{
+    spoke.to < n && (directed || vertex.0 <= spoke.to)
 }

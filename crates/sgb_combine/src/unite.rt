@@ -1,17 +1,16 @@
 //! Unions.
-ghost use Rattle.std.specs.Prelude.{◌≡◌, ◌<◌, length, map, All, OnOk};
+ghost use Rattle.std.specs.Prelude.{◌≡◌, ◌<◌, length, OnOk};
 ghost use Rattle.std.specs.List.{flat_map, filter, range_with_len};
 ghost use Rattle.sgb_graph.specs.Graph.{n_of};
 ghost use Rattle.sgb_graph.specs.Builder.{Inserts};
-ghost use Rattle.sgb_operand.specs.Operand.{IsWithin};
 ghost use Rattle.sgb_plan.specs.Plan.{IsMade};
-ghost use Rattle.sgb_combine.specs.Combined.{along};
-ghost use Rattle.sgb_combine.specs.Gunion.{candidates, is_candidate, run_of, union_at, plan_of_gunion};
+ghost use Rattle.sgb_combine.specs.Gunion.{candidates, is_candidate, union_at, plan_of_gunion};
+ghost use Rattle.sgb_combine.specs.Lowest.{lowest};
 
 use crate::GunionSpec;
 use crate::begin::{begin_as, room_of};
 use crate::lowest::Lowest;
-use crate::run::{insert_spokes, read_if_there};
+use crate::run::{insert_spokes, is_candidate, read_if_there};
 use sgb_graph::{Builder, Graph, Refusal, VertexNo};
 use sgb_operand::{Spoke, check_operand, read_spokes};
 use sgb_plan::{Part, id_of_two};
@@ -64,11 +63,18 @@ fn insert_unions(
     ensures { Inserts builder.old builder.new
         (flat_map (union_at spec first.now second.now) (range_with_len 0 (n_of first.now))) result }
 {
-    let mut candidates = Vec::new(alloc);
-    let mut lowest = Lowest::new(alloc, first.n())?;
+    let mut buffer = Vec::new(alloc);
+    let mut met = Lowest::new(alloc, first.n())?;
     for v in 0..first.n() {
-        read_candidates(&mut candidates, first, second, VertexNo(v), spec.directed)?;
-        insert_run(builder, &mut lowest, VertexNo(v), &candidates, spec.multi)?;
+        insert_union(
+            builder,
+            &mut buffer,
+            &mut met,
+            first,
+            second,
+            VertexNo(v),
+            spec,
+        )?;
     }
     Ok(())
 }
@@ -97,31 +103,48 @@ fn keep_candidates(spokes: &mut Vec<Spoke>, directed: bool, n: u32, vertex: Vert
     spokes.retain(|spoke| is_candidate(directed, n, vertex, *spoke));
 }
 
-// It leads to one of n vertices, and not below the vertex where edges are made.
-#[inline]
-fn is_candidate(directed: bool, n: u32, vertex: VertexNo, spoke: Spoke) -> bool
-    ensures { result ≡ is_candidate directed n vertex.0 spoke }
+// Takes the candidates of a vertex, in place of what was met.
+fn meet_candidates(
+    met: &mut Lowest,
+    first: &Graph,
+    second: &Graph,
+    vertex: VertexNo,
+    directed: bool,
+) -> Result<(), AllocError>
+    requires vertex { vertex.0 < n_of first.now }
+    requires width { length met.old.places.items ≡ n_of first.now }
+    ensures ok { OnOk result (met.new.spokes.items ≡ lowest (candidates directed first.now second.now vertex.0)) }
+    ensures width { length met.new.places.items ≡ length met.old.places.items }
 {
-    spoke.to < n && (directed || vertex.0 <= spoke.to)
+    let n = first.n();
+    met.forget();
+    met.meet(first, vertex, directed, directed, n)?;
+    if vertex.0 >= second.n() {
+        return Ok(());
+    }
+    met.meet(second, vertex, directed, directed, n)
 }
 
 // Inserts the candidates of a vertex, or the lowest of them.
-fn insert_run(
+fn insert_union(
     builder: &mut Builder,
-    lowest: &mut Lowest,
+    buffer: &mut Vec<Spoke>,
+    met: &mut Lowest,
+    first: &Graph,
+    second: &Graph,
     vertex: VertexNo,
-    candidates: &[Spoke],
-    multi: bool,
+    spec: GunionSpec,
 ) -> Result<(), Refusal>
-    requires from { vertex.0 < n_of builder.old.graph }
-    requires to { All (IsWithin (n_of builder.old.graph)) candidates.now }
-    requires width { length lowest.old.places.items ≡ n_of builder.old.graph }
-    ensures inserts { Inserts builder.old builder.new (map (along vertex.0) (run_of multi candidates.now)) result }
-    ensures width { length lowest.new.places.items ≡ length lowest.old.places.items }
+    requires vertex { vertex.0 < n_of first.now }
+    requires n { n_of builder.old.graph ≡ n_of first.now }
+    requires width { length met.old.places.items ≡ n_of first.now }
+    ensures inserts { Inserts builder.old builder.new (union_at spec first.now second.now vertex.0) result }
+    ensures width { length met.new.places.items ≡ length met.old.places.items }
 {
-    if multi {
-        return insert_spokes(builder, vertex, candidates);
+    if spec.multi {
+        read_candidates(buffer, first, second, vertex, spec.directed)?;
+        return insert_spokes(builder, vertex, buffer);
     }
-    lowest.keep(candidates)?;
-    insert_spokes(builder, vertex, lowest.spokes())
+    meet_candidates(met, first, second, vertex, spec.directed)?;
+    insert_spokes(builder, vertex, met.spokes())
 }

@@ -1,9 +1,14 @@
-use Rattle.std.proofs.Common.{◌++◌, true, ap, ◌∙◌}
-use Rattle.sgb_operand.specs.Operand.{spokes}
-use Rattle.sgb_combine.proofs.Reached.{within_as}
+use Rattle.std.proofs.Common.{arith}
+use Rattle.std.proofs.lemmas.Result.{on_ok_weaker}
+use Rattle.sgb_combine.proofs.Meeting.{met_others, met_past}
 use Rattle.sgb_combine.proofs.intersect.read_others.Goals as goal
 
-pub keep-requires : goal.keep-requires
-keep-requires c =
-    let read = c.in_ok-read_if_there.ensures.ok ∙ ap (λ ss. ss ++ spokes true c.args.graph.now c.args.vertex.0) c.clear.ensures.items in
-    within_as (c.deref.ensures.value ∙ read) c.requires c.in_ok-read_if_there.ensures.within
+pub returns-then-vertex-n-clause-ok : goal.returns-then-vertex-n-clause-ok
+returns-then-vertex-n-clause-ok c =
+    met_past c.args.graph.now c.args.vertex.0 _ (omega (arith, c.n.ensures.value)) c.forget.ensures.none
+
+pub returns-clause-ok : goal.returns-clause-ok
+returns-clause-ok c =
+    on_ok_weaker c.meet.result
+    (met_others c.args.graph.now c.args.vertex.0 c.n-2.result _ _ c.n-2.ensures.graph (omega (arith, c.n.ensures.value)) c.forget.ensures.none c.n-2.ensures.value)
+    c.meet.ensures.ok
