@@ -29,9 +29,11 @@ from concurrent.futures import ThreadPoolExecutor
 # What one check takes, at most.
 MEMORY = 3_000_000_000
 # How many edits a check takes, at most: one that takes all of a large crate would run alone, long after the others.
-AT_ONCE = 20
+AT_ONCE = 30
 # One check is started at a time.
 STARTING = threading.Lock()
+# By crate, the names of its functions, where a first check told them.
+TOLD = {}
 
 NAME = re.compile(r'\w+-[\w-]+\.edit')
 FUNCTION = re.compile(r'( *)(?:pub(?:\([^)]*\))? )?(?:\w+ )*fn (\w+)')
@@ -199,7 +201,7 @@ class Said:
         self.unread = next((it for it in self.lines if rt.unread(it, changed)), '')
         if rtlib.STALE.search(text):
             self.unread = 'the kept work of a library could not be used'
-        if not self.unread and not self.lines[-1].startswith('holes='):
+        if not self.unread and not self.lines[-1].startswith(('holes=', 'only=')):
             self.unread = next((it for it in self.lines if 'error' in it), self.lines[-1])
         self.told = re.findall(r'(?m)^(?:fn|struct|enum|trait|impl) (\S+): (.*)$', text)
 
@@ -262,7 +264,14 @@ def rattle(crate, folder, flags):
     return call([*GUARD, rtlib.RATTLE, 'check', *crate.words(['--jobs', '1'], keeps=False), *flags], folder)
 
 
-def check(crate, edits, is_first=False):
+def only(crate, edits):
+    """The flags with which a check passes over what neither these edits turn nor that calls, where all turn functions that were told."""
+    names = [[it for it in TOLD.get(crate.name, []) if any(function.is_at(it) and it.endswith('::' + function.name)
+                                                           for function in edit.functions)] for edit in edits]
+    return [word for found in names for it in found for word in ('--only', it)] if all(names) else []
+
+
+def check(crate, edits, flags=(), is_first=False):
     """What the check says of the crate with these edits, and those that are not in it. The first one leaves what it proves."""
     with tempfile.TemporaryDirectory(prefix='sgb-edits-') as room:
         left = lay(crate, edits, room)
@@ -271,7 +280,10 @@ def check(crate, edits, is_first=False):
         if not is_first:
             # Each begins with the work of the proved crate, in links that a check replaces, so no edit meets what another one left.
             rt.linked(kept(crate), over)
-        return Said(rattle(crate, room, ['--incremental', over, '--allow-holes'])[1], changed), left
+        said = Said(rattle(crate, room, ['--incremental', over, '--allow-holes', *flags])[1], changed)
+        if is_first:
+            TOLD[crate.name] = [path for path, _ in said.told]
+        return said, left
 
 
 def try_alone(edit):
@@ -289,9 +301,11 @@ def try_alone(edit):
 
 def try_group(edits, is_first=False):
     """Tries the edits of a group, and returns what came of each, with the number of checks."""
-    if len(edits) == 1 and not is_first:
+    crate = edits[0].crate
+    flags = only(crate, edits)
+    if len(edits) == 1 and not is_first and not flags:
         return {edits[0]: try_alone(edits[0])}, 1
-    said, left = check(edits[0].crate, edits, is_first)
+    said, left = check(crate, edits, flags, is_first)
     found, checks = {}, 1
     if said.unread:
         broken = [it for it in edits if any(said.unread.startswith((at + ':', './%s:' % at)) for at in it.places)]
@@ -302,7 +316,7 @@ def try_group(edits, is_first=False):
         found = {it: told for it, told in judged.items() if told[0]}
         halves = [[it] for it in edits if it not in found]
     for half in filter(None, halves):
-        more, count = try_group(half)
+        more, count = ({half[0]: try_alone(half[0])}, 1) if len(half) == 1 else try_group(half)
         found.update(more)
         checks += count
     return found, checks
