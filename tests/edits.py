@@ -244,6 +244,14 @@ def kept(crate):
     return '%s/out/incremental' % crate.folder
 
 
+def link(file, to):
+    """Lets another name stand for a file, or a copy of it where that is on another disk."""
+    try:
+        os.link(file, to)
+    except OSError:
+        shutil.copy2(file, to)
+
+
 def call(words, folder):
     """Runs a command, and returns its status and what it said."""
     ran = subprocess.run(words, cwd=folder, stdin=subprocess.DEVNULL, stdout=subprocess.PIPE, stderr=subprocess.STDOUT,
@@ -279,7 +287,7 @@ def check(crate, edits, flags=(), is_first=False):
         over = kept(crate) if is_first else '%s/kept' % room
         if not is_first:
             # Each begins with the work of the proved crate, in links that a check replaces, so no edit meets what another one left.
-            rt.linked(kept(crate), over)
+            shutil.copytree(kept(crate), over, copy_function=link)
         said = Said(rattle(crate, room, ['--incremental', over, '--allow-holes', *flags])[1], changed)
         if is_first:
             TOLD[crate.name] = [path for path, _ in said.told]
