@@ -1,7 +1,7 @@
 -- Lemmas on spokes to distinct vertices.
-use Rattle.std.proofs.Common.{◌≡◌, ◌≢◌, ◌<◌, ◌+◌, ℕ, zero, suc, List, [], ◌∷◌, ◌++◌, length, get_or, set, take, fold, All, inl, inr, refl, sym, ap, ◌∙◌, arith}
+use Rattle.std.proofs.Common.{◌≡◌, ◌≢◌, ◌<◌, ◌+◌, ℕ, zero, suc, List, [], ◌∷◌, ◌++◌, length, get_or, set, take, fold, cond, int_lt, false, All, inl, inr, refl, sym, ap, ◌∙◌, arith}
 use Rattle.std.proofs.lemmas.Bool.{eq-eqb, ne_eqb, cases_eq}
-use Rattle.std.proofs.lemmas.List.{take_more, get_or_default, get_or-set_same, get_or-set_other, length-set}
+use Rattle.std.proofs.lemmas.List.{take_more, get_or_default, set-get_or, get_or-set_same, get_or-set_other, length-set}
 use Rattle.std.proofs.lemmas.List.Elements.{All-head, All-tail}
 use Rattle.std.proofs.lemmas.List.Sums.{fold-append}
 use Rattle.sgb_operand.specs.declared.spoke.Spoke.{Spoke}
@@ -48,6 +48,18 @@ marked_lowered places ss p s r marked h here is =
     ∙ lowered_at ss p s h (here s)
     (λ j low same. let at : j ≡ p = one_place places ss j p s marked (omega arith) h (same ∙ sym (here s)) in omega arith)
 
+-- the spoke in its place, lowered
+pub lowered_is : (ss : List Spoke) (p : ℕ) (x s r : Spoke) → p < length ss → x ≡ get_or ss p x → r ≡ lowered x s → r ≡ lowered (get_or ss p s) s
+lowered_is ss p x s r h read is = is ∙ ap (λ y. lowered y s) (read ∙ get_or_default ss p x s h)
+
+-- the spoke in its place, which is as short already
+pub marked_kept : (places : List ℕ) (ss : List Spoke) (p : ℕ) (s x : Spoke) → IsMarked places ss → p < length ss → ((d : Spoke) → (get_or ss p d).to ≡ s.to) → x ≡ get_or ss p x → int_lt s.len x.len ≡ false → ss ≡ add_or_lower ss s
+marked_kept places ss p s x marked h here read short =
+    let same : lowered x s ≡ x = ap (λ b. record x { len = cond b s.len x.len }) short in
+    sym (set-get_or ss p x)
+    ∙ (ap (set ss p) (sym read ∙ sym same)
+    ∙ marked_lowered places ss p s (lowered x s) marked h here (lowered_is ss p x s (lowered x s) h read refl))
+
 same_to : (ss : List Spoke) (p : ℕ) (r : Spoke) → p < length ss → (i : ℕ) (d : Spoke) → i < length ss → r.to ≡ (get_or ss p d).to → (get_or (set ss p r) i d).to ≡ (get_or ss i d).to
 same_to ss p r h i d low is =
     elim (cases_eq i p) [
@@ -67,7 +79,3 @@ marked_set places ss p r marked h is = record {
       let below : i < length ss = omega (arith, length-set ss p r) in
       ap (λ t. get_or places t 0) (same_to ss p r h i d below (is d)) ∙ marked.place i d below;
 }
-
--- the spoke in its place, lowered
-pub lowered_is : (ss : List Spoke) (p : ℕ) (x s r : Spoke) → p < length ss → x ≡ get_or ss p x → r ≡ lowered x s → r ≡ lowered (get_or ss p s) s
-lowered_is ss p x s r h read is = is ∙ ap (λ y. lowered y s) (read ∙ get_or_default ss p x s h)

@@ -25,7 +25,7 @@ unfolding spokes
 meets_start directed g v p start rest is =
     record { same = ap (λ ks. fold add_or_lower start (filter p (map (λ k. spoke_of (entry_at g k)) ks))) is }
 
-passed : (g : GraphOf) (p : Spoke → Bool) (rest after : List ℕ) (k : ℕ) (s : Spoke) → rest ≡ k ∷ after → s ≡ spoke_of (entry_at g k)
+pub passed : (g : GraphOf) (p : Spoke → Bool) (rest after : List ℕ) (k : ℕ) (s : Spoke) → rest ≡ k ∷ after → s ≡ spoke_of (entry_at g k)
     → filter p (map (λ j. spoke_of (entry_at g j)) rest) ≡ cond (p s) (s ∷ filter p (map (λ j. spoke_of (entry_at g j)) after)) (filter p (map (λ j. spoke_of (entry_at g j)) after))
 passed g p rest after k s steps is =
     let ts = filter p (map (λ j. spoke_of (entry_at g j)) after) in

@@ -1,8 +1,7 @@
 -- Lemmas on the spokes of vertices that a graph may lack, and on those that lead below a number.
-use Rattle.std.proofs.Common.{◌≡◌, ◌<◌, ◌≤◌, ℕ, pos, List, [], ◌++◌, get_or, map, Bool, true, false, All, sym, ap, subst, ◌∙◌, arith}
+use Rattle.std.proofs.Common.{◌≡◌, ◌<◌, ◌≤◌, ℕ, pos, List, [], ◌++◌, get_or, map, Bool, true, false, All, sym, ap, subst, arith}
 use Rattle.std.proofs.lemmas.Bool.{and_parts, ltb-true}
-use Rattle.std.proofs.lemmas.List.{append-nil}
-use Rattle.std.proofs.lemmas.List.Elements.{All-nil, filter_passes}
+use Rattle.std.proofs.lemmas.List.Elements.{filter_passes}
 use Rattle.sgb_graph.specs.Graph.{GraphOf, n_of}
 use Rattle.sgb_graph.specs.Edit.{entry_at}
 use Rattle.sgb_graph.specs.Paired.{walk, without_halves}
@@ -31,18 +30,11 @@ pub spokes_past : (directed : Bool) (g : GraphOf) (v : ℕ) → n_of g ≤ v →
 unfolding spokes
 spokes_past directed g v past = ap (map (λ k. spoke_of (entry_at g k))) (walk_past directed g v past)
 
--- what was there before a vertex without spokes
-pub none_read : (ss : List Spoke) (directed : Bool) (g : GraphOf) (v : ℕ) → n_of g ≤ v → ss ≡ ss ++ spokes directed g v
-none_read ss directed g v past = sym (append-nil ss) ∙ ap (λ ts. ss ++ ts) (sym (spokes_past directed g v past))
-
 pub candidates_within : (directed : Bool) (g h : GraphOf) (v : ℕ) → All (IsWithin (n_of g)) (candidates directed g h v)
 unfolding candidates
 candidates_within directed g h v k d low =
     let all = spokes directed g v ++ spokes directed h v in
     ltb-true _ (n_of g) (and_parts _ _ (filter_passes (is_candidate directed (n_of g) v) all k d low)).0
-
-pub none_within : (directed : Bool) (g : GraphOf) (v : ℕ) → n_of g ≤ v → All (IsWithin (n_of g)) (spokes directed g v)
-none_within directed g v past = subst (All (IsWithin (n_of g))) (sym (spokes_past directed g v past)) (All-nil (IsWithin (n_of g)))
 
 -- a number below the count of a graph that is another's
 pub below_n : {w n : ℕ} {g h : GraphOf} → w < n → n ≡ n_of g → g ≡ h → w < n_of h

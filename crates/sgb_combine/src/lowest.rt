@@ -1,5 +1,5 @@
 //! Spokes to distinct vertices, each with the least length that was met.
-ghost use Rattle.std.specs.Prelude.{◌≡◌};
+ghost use Rattle.std.specs.Prelude.{◌≡◌, int_lt};
 ghost use Rattle.sgb_combine.specs.Lowest.{lowered};
 ghost use Rattle.sgb_combine.specs.Private.Targets.{IsMarked};
 
@@ -132,10 +132,23 @@ impl Lowest {
     {
         match self.place_of(spoke.to) {
             Some(place) => {
-                self.spokes[place] = lowered(self.spokes[place], spoke);
+                self.lower(place, spoke);
                 Ok(())
             }
             None => self.add_new(spoke),
+        }
+    }
+
+    // A shorter length of the spoke in this place, if that of another to the same vertex is less.
+    #[inline]
+    fn lower(&mut self, place: usize, spoke: Spoke)
+        requires { StandsAt self.old.spokes.items spoke.to (Some place) }
+        ensures spokes { self.new.spokes.items ≡ add_or_lower self.old.spokes.items spoke }
+        ensures width { length self.new.places.items ≡ length self.old.places.items }
+    {
+        let met = self.spokes[place];
+        if is_shorter(spoke, met) {
+            self.spokes[place] = lowered(met, spoke);
         }
     }
 
@@ -151,6 +164,14 @@ impl Lowest {
         self.places[spoke.to as usize] = place;
         Ok(())
     }
+}
+
+// Its length is less than the other's.
+#[inline]
+fn is_shorter(spoke: Spoke, other: Spoke) -> bool
+    ensures { result ≡ int_lt spoke.len other.len }
+{
+    spoke.len < other.len
 }
 
 // The spoke, with the other's length where that is less.

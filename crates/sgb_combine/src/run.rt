@@ -1,15 +1,14 @@
 //! Spokes that are read and inserted, for one vertex.
-ghost use Rattle.std.specs.Prelude.{◌≡◌, ◌<◌, ◌++◌, ◌∷◌, [], All, map, OnOk};
+ghost use Rattle.std.specs.Prelude.{◌≡◌, ◌<◌, ◌∷◌, [], All, map};
 ghost use Rattle.std.specs.List.{filter};
 ghost use Rattle.sgb_graph.specs.Graph.{n_of};
 ghost use Rattle.sgb_graph.specs.Builder.{Inserts};
-ghost use Rattle.sgb_operand.specs.Operand.{IsWithin, spokes};
+ghost use Rattle.sgb_operand.specs.Operand.{IsWithin};
 ghost use Rattle.sgb_combine.specs.Combined.{along, is_upward};
 ghost use Rattle.sgb_combine.specs.Gunion.{is_candidate};
 
-use sgb_graph::{Builder, Graph, Refusal, VertexNo};
-use sgb_operand::{Spoke, read_spokes};
-use std::alloc::AllocError;
+use sgb_graph::{Builder, Refusal, VertexNo};
+use sgb_operand::Spoke;
 
 // Inserts an arc or an edge from the vertex for each spoke.
 pub(crate) fn insert_spokes(
@@ -39,22 +38,6 @@ pub(crate) fn insert_spoke(
     ensures { Inserts builder.old builder.new (along from.0 spoke ∷ []) result }
 {
     builder.insert(from, VertexNo(spoke.to), spoke.len)
-}
-
-// Writes the spokes of a vertex, which the graph may lack, behind those in the buffer.
-pub(crate) fn read_if_there(
-    into: &mut Vec<Spoke>,
-    graph: &Graph,
-    vertex: VertexNo,
-    directed: bool,
-) -> Result<(), AllocError>
-    ensures ok { OnOk result (into.new.items ≡ into.old.items ++ spokes directed graph.now vertex.0) }
-    ensures within { All (IsWithin (n_of graph.now)) (spokes directed graph.now vertex.0) }
-{
-    if vertex.0 >= graph.n() {
-        return Ok(());
-    }
-    read_spokes(into, graph, vertex, directed)
 }
 
 // Drops what leads below the vertex where edges are made.

@@ -1,18 +1,20 @@
 //! Unions.
-ghost use Rattle.std.specs.Prelude.{◌≡◌, ◌<◌, length, OnOk};
+ghost use Rattle.std.specs.Prelude.{◌≡◌, ◌<◌, ◌≤◌, length, map, OnOk};
 ghost use Rattle.std.specs.List.{flat_map, filter, range_with_len};
 ghost use Rattle.sgb_graph.specs.Graph.{n_of};
 ghost use Rattle.sgb_graph.specs.Builder.{Inserts};
+ghost use Rattle.sgb_operand.specs.Operand.{spokes};
 ghost use Rattle.sgb_plan.specs.Plan.{IsMade};
+ghost use Rattle.sgb_combine.specs.Combined.{along};
 ghost use Rattle.sgb_combine.specs.Gunion.{candidates, is_candidate, union_at, plan_of_gunion};
 ghost use Rattle.sgb_combine.specs.Lowest.{lowest};
 
 use crate::GunionSpec;
 use crate::begin::{begin_as, room_of};
 use crate::lowest::Lowest;
-use crate::run::{insert_spokes, is_candidate, read_if_there};
+use crate::run::{insert_spoke, insert_spokes, is_candidate};
 use sgb_graph::{Builder, Graph, Refusal, VertexNo};
-use sgb_operand::{Spoke, check_operand, read_spokes};
+use sgb_operand::{check_operand, spoke_at};
 use sgb_plan::{Part, id_of_two};
 use std::alloc::{AllocError, Global};
 
@@ -63,44 +65,77 @@ fn insert_unions(
     ensures { Inserts builder.old builder.new
         (flat_map (union_at spec first.now second.now) (range_with_len 0 (n_of first.now))) result }
 {
-    let mut buffer = Vec::new(alloc);
     let mut met = Lowest::new(alloc, first.n())?;
     for v in 0..first.n() {
-        insert_union(
-            builder,
-            &mut buffer,
-            &mut met,
-            first,
-            second,
-            VertexNo(v),
-            spec,
-        )?;
+        insert_union(builder, &mut met, first, second, VertexNo(v), spec)?;
     }
     Ok(())
 }
 
-// What may be inserted from a vertex, in place of what the buffer holds.
-fn read_candidates(
-    into: &mut Vec<Spoke>,
+// Inserts the candidates of a vertex, or the lowest of them.
+fn insert_union(
+    builder: &mut Builder,
+    met: &mut Lowest,
+    first: &Graph,
+    second: &Graph,
+    vertex: VertexNo,
+    spec: GunionSpec,
+) -> Result<(), Refusal>
+    requires vertex { vertex.0 < n_of first.now }
+    requires n { n_of builder.old.graph ≡ n_of first.now }
+    requires width { length met.old.places.items ≡ n_of first.now }
+    ensures inserts { Inserts builder.old builder.new (union_at spec first.now second.now vertex.0) result }
+    ensures width { length met.new.places.items ≡ length met.old.places.items }
+{
+    if spec.multi {
+        return insert_all(builder, first, second, vertex, spec.directed);
+    }
+    meet_candidates(met, first, second, vertex, spec.directed)?;
+    insert_spokes(builder, vertex, met.spokes())
+}
+
+// Inserts all candidates of a vertex.
+fn insert_all(
+    builder: &mut Builder,
     first: &Graph,
     second: &Graph,
     vertex: VertexNo,
     directed: bool,
-) -> Result<(), AllocError>
-    requires { vertex.0 < n_of first.now }
-    ensures { OnOk result (into.new.items ≡ candidates directed first.now second.now vertex.0) }
+) -> Result<(), Refusal>
+    requires vertex { vertex.0 < n_of first.now }
+    requires n { n_of builder.old.graph ≡ n_of first.now }
+    ensures { Inserts builder.old builder.new
+        (map (along vertex.0) (candidates directed first.now second.now vertex.0)) result }
 {
-    into.clear();
-    read_spokes(into, first, vertex, directed)?;
-    read_if_there(into, second, vertex, directed)?;
-    keep_candidates(into, directed, first.n(), vertex);
-    Ok(())
+    let n = first.n();
+    insert_candidates(builder, first, vertex, directed, n)?;
+    insert_candidates(builder, second, vertex, directed, n)
 }
 
-fn keep_candidates(spokes: &mut Vec<Spoke>, directed: bool, n: u32, vertex: VertexNo)
-    ensures { spokes.new.items ≡ filter (is_candidate directed n vertex.0) spokes.old.items }
+// Inserts along the candidates of a vertex, which the graph may lack, straight from its arcs.
+fn insert_candidates(
+    builder: &mut Builder,
+    graph: &Graph,
+    vertex: VertexNo,
+    directed: bool,
+    n: u32,
+) -> Result<(), Refusal>
+    requires from { vertex.0 < n_of builder.old.graph }
+    requires to { n ≤ n_of builder.old.graph }
+    ensures { Inserts builder.old builder.new
+        (map (along vertex.0) (filter (is_candidate directed n vertex.0) (spokes directed graph.now vertex.0))) result }
 {
-    spokes.retain(|spoke| is_candidate(directed, n, vertex, *spoke));
+    if vertex.0 >= graph.n() {
+        return Ok(());
+    }
+    for number in graph.walk(vertex, directed) {
+        let spoke = spoke_at(graph, number);
+        if !is_candidate(directed, n, vertex, spoke) {
+            continue;
+        }
+        insert_spoke(builder, vertex, spoke)?;
+    }
+    Ok(())
 }
 
 // Takes the candidates of a vertex, in place of what was met.
@@ -123,28 +158,4 @@ fn meet_candidates(
         return Ok(());
     }
     met.meet(second, vertex, directed, directed, n)
-}
-
-// Inserts the candidates of a vertex, or the lowest of them.
-fn insert_union(
-    builder: &mut Builder,
-    buffer: &mut Vec<Spoke>,
-    met: &mut Lowest,
-    first: &Graph,
-    second: &Graph,
-    vertex: VertexNo,
-    spec: GunionSpec,
-) -> Result<(), Refusal>
-    requires vertex { vertex.0 < n_of first.now }
-    requires n { n_of builder.old.graph ≡ n_of first.now }
-    requires width { length met.old.places.items ≡ n_of first.now }
-    ensures inserts { Inserts builder.old builder.new (union_at spec first.now second.now vertex.0) result }
-    ensures width { length met.new.places.items ≡ length met.old.places.items }
-{
-    if spec.multi {
-        read_candidates(buffer, first, second, vertex, spec.directed)?;
-        return insert_spokes(builder, vertex, buffer);
-    }
-    meet_candidates(met, first, second, vertex, spec.directed)?;
-    insert_spokes(builder, vertex, met.spokes())
 }
