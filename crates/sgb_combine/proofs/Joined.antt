@@ -1,5 +1,6 @@
 -- Lemmas on the spoke that leads to a vertex.
-use Rattle.std.proofs.Common.{◌≡◌, ◌≢◌, ◌<◌, ◌==◌, ℕ, zero, suc, List, [], ◌∷◌, length, get_or, Option, Some, None, is_some, Bool, true, false, ◌||◌, All, fold, inl, inr, refl, sym, ap, ◌∙◌, arith}
+use Rattle.std.proofs.Common.{◌≡◌, ◌≢◌, ◌<◌, ◌==◌, ℕ, zero, suc, List, [], ◌∷◌, length, get_or, Option, Some, None, is_some, Bool, true, false, ◌||◌, All, fold, cond, inl, inr, refl, sym, ap, ◌∙◌, arith}
+use Rattle.std.specs.List.{filter}
 use Rattle.std.proofs.lemmas.Bool.{eq-eqb, ne_eqb, cases_Bool, eqb-true}
 use Rattle.std.proofs.lemmas.List.Elements.{All-head, All-tail}
 use Rattle.std.proofs.lemmas.List.Folds.{list_any_none, list_any_at}
@@ -72,3 +73,55 @@ leads-fold rs (s ∷ ss) w =
 pub leads-lowest : (ss : List Spoke) (w : ℕ) → leads_to (lowest ss) w ≡ leads_to ss w
 unfolding lowest
 leads-lowest ss w = leads-fold [] ss w
+
+-- ---- the spokes to one vertex are what those to it alone would be
+leading-lowered : (rs : List Spoke) (s : Spoke) (w : ℕ) → (s.to == w) ≡ true → leading_to w (add_or_lower rs s) ≡ add_or_lower (leading_to w rs) s
+unfolding add_or_lower
+leading-lowered [] s w here = rw here refl
+leading-lowered (r ∷ rs) s w here =
+    elim (cases_Bool (r.to == s.to)) [
+      | inl same ↦
+          let at : (r.to == w) ≡ true = ap (λ t. t == w) (eqb-true r.to s.to same) ∙ here in
+          rw (same, at, same) refl
+      | inr apart ↦
+          let off : (r.to == w) ≡ false = ap (λ t. r.to == t) (sym (eqb-true s.to w here)) ∙ apart in
+          rw (apart, off) (leading-lowered rs s w here)
+    ]
+
+leading-past : (rs : List Spoke) (s : Spoke) (w : ℕ) → (s.to == w) ≡ false → leading_to w (add_or_lower rs s) ≡ leading_to w rs
+unfolding add_or_lower
+leading-past [] s w off = rw off refl
+leading-past (r ∷ rs) s w off =
+    elim (cases_Bool (r.to == s.to)) [
+      | inl same ↦
+          let past : (r.to == w) ≡ false = ap (λ t. t == w) (eqb-true r.to s.to same) ∙ off in
+          rw (same, past) refl
+      | inr apart ↦ rw apart (ap (λ ts. cond (r.to == w) (r ∷ ts) ts) (leading-past rs s w off))
+    ]
+
+leading-fold : (rs ss : List Spoke) (w : ℕ) → leading_to w (fold add_or_lower rs ss) ≡ fold add_or_lower (leading_to w rs) (leading_to w ss)
+leading-fold rs [] w = refl
+leading-fold rs (s ∷ ss) w =
+    leading-fold (add_or_lower rs s) ss w
+    ∙ elim (cases_Bool (s.to == w)) [
+      | inl here ↦ rw here (ap (λ ts. fold add_or_lower ts (leading_to w ss)) (leading-lowered rs s w here))
+      | inr off ↦ rw off (ap (λ ts. fold add_or_lower ts (leading_to w ss)) (leading-past rs s w off))
+    ]
+
+leading-filter : (p : Spoke → Bool) (ss : List Spoke) (w : ℕ) → ((s : Spoke) → s.to ≡ w → p s ≡ true) → leading_to w (filter p ss) ≡ leading_to w ss
+leading-filter p [] w passes = refl
+leading-filter p (s ∷ ss) w passes =
+    elim (cases_Bool (s.to == w)) [
+      | inl here ↦ rw (passes s (eqb-true s.to w here), here) (ap (λ ts. s ∷ ts) (leading-filter p ss w passes))
+      | inr off ↦
+          elim (cases_Bool (p s)) [
+            | inl kept ↦ rw (kept, off) (leading-filter p ss w passes)
+            | inr gone ↦ rw (gone, off) (leading-filter p ss w passes)
+          ]
+    ]
+
+-- where all spokes to a vertex pass, the one to it is the same among those that pass
+pub leading-lowest : (p : Spoke → Bool) (ss : List Spoke) (w : ℕ) → ((s : Spoke) → s.to ≡ w → p s ≡ true) → leading_to w (lowest (filter p ss)) ≡ leading_to w (lowest ss)
+unfolding lowest
+leading-lowest p ss w passes =
+    leading-fold [] (filter p ss) w ∙ (ap (fold add_or_lower []) (leading-filter p ss w passes) ∙ sym (leading-fold [] ss w))

@@ -77,10 +77,6 @@ within_upward directed n v (s ∷ ss) all =
     let here : is_candidate directed n v s ≡ is_upward directed v s = ap (λ b. b && is_upward directed v s) (lt-ltb s.to n (All-head (IsWithin n) s ss all)) in
     ap₂ (λ b ts. cond b (s ∷ ts) ts) here (within_upward directed n v ss (All-tail (IsWithin n) s ss all))
 
-every_upward : (v : ℕ) (ss : List Spoke) → filter (is_upward true v) ss ≡ ss
-every_upward v [] = refl
-every_upward v (s ∷ ss) = ap (λ ts. s ∷ ts) (every_upward v ss)
-
 pub met_firsts : (directed : Bool) (g : GraphOf) (v n : ℕ) (zs rs : List Spoke) → IsGraph g → v < n_of g → zs ≡ [] → n ≡ n_of g → rs ≡ fold add_or_lower zs (filter (is_candidate directed n v) (spokes true g v)) → rs ≡ firsts directed g v
 unfolding firsts lowest
 met_firsts directed g v n zs rs sound low none is met =
@@ -90,15 +86,7 @@ met_firsts directed g v n zs rs sound low none is met =
     ∙ (ap (λ m. fold add_or_lower [] (filter (is_candidate directed m v) ss)) is
     ∙ ap (fold add_or_lower []) (within_upward directed (n_of g) v ss (spokes_within true g v sound low))))
 
-pub met_others : (g : GraphOf) (v n : ℕ) (zs rs : List Spoke) → IsGraph g → v < n_of g → zs ≡ [] → n ≡ n_of g → rs ≡ fold add_or_lower zs (filter (is_candidate true n v) (spokes true g v)) → rs ≡ lowest (spokes true g v)
-unfolding lowest
-met_others g v n zs rs sound low none is met =
-    let ss = spokes true g v in
-    met
-    ∙ (ap (λ ts. fold add_or_lower ts (filter (is_candidate true n v) ss)) none
-    ∙ (ap (λ m. fold add_or_lower [] (filter (is_candidate true m v) ss)) is
-    ∙ ap (fold add_or_lower []) (within_upward true (n_of g) v ss (spokes_within true g v sound low) ∙ every_upward v ss)))
-
-pub met_past : (g : GraphOf) (v : ℕ) (zs : List Spoke) → n_of g ≤ v → zs ≡ [] → zs ≡ lowest (spokes true g v)
-unfolding lowest
-met_past g v zs past none = none ∙ ap (fold add_or_lower []) (sym (spokes_past true g v past))
+pub met_past : (directed : Bool) (g : GraphOf) (v : ℕ) (zs : List Spoke) → n_of g ≤ v → zs ≡ [] → zs ≡ firsts directed g v
+unfolding firsts lowest
+met_past directed g v zs past none =
+    none ∙ ap (λ ss. fold add_or_lower [] (filter (is_upward directed v) ss)) (sym (spokes_past true g v past))

@@ -1,11 +1,10 @@
 //! Intersections.
-ghost use Rattle.std.specs.Prelude.{◌≡◌, ◌<◌, length, All, OnOk, true};
+ghost use Rattle.std.specs.Prelude.{◌≡◌, ◌<◌, length, All, OnOk};
 ghost use Rattle.std.specs.List.{flat_map, range_with_len};
 ghost use Rattle.sgb_graph.specs.Graph.{n_of};
 ghost use Rattle.sgb_graph.specs.Builder.{Inserts};
-ghost use Rattle.sgb_operand.specs.Operand.{IsWithin, spokes};
+ghost use Rattle.sgb_operand.specs.Operand.{IsWithin};
 ghost use Rattle.sgb_plan.specs.Plan.{IsMade};
-ghost use Rattle.sgb_combine.specs.Lowest.{lowest};
 ghost use Rattle.sgb_combine.specs.Intersection.{firsts, longer, joints, intersection_at, plan_of_intersection};
 
 use crate::begin::{begin_as, room_of};
@@ -41,6 +40,7 @@ pub fn intersection(
     Ok(builder.finish())
 }
 
+// Where edges are made, no list is asked for what leads below its vertex, since no insertion is made along it.
 fn insert_intersections(
     builder: &mut Builder,
     alloc: Global,
@@ -56,39 +56,29 @@ fn insert_intersections(
     let mut theirs = Lowest::new(alloc, second.n())?;
     for v in 0..first.n() {
         read_firsts(&mut mine, first, VertexNo(v), directed)?;
-        read_others(&mut theirs, second, VertexNo(v))?;
+        read_firsts(&mut theirs, second, VertexNo(v), directed)?;
         insert_joints(builder, VertexNo(v), mine.spokes(), &theirs)?;
     }
     Ok(())
 }
 
-// The first arcs of a vertex to each other, where edges are not looked at from their larger end.
+// The first arcs of a vertex, which the graph may lack, to each other, where edges are not looked at from their larger
+// end.
 fn read_firsts(
-    mine: &mut Lowest,
+    met: &mut Lowest,
     graph: &Graph,
     vertex: VertexNo,
     directed: bool,
 ) -> Result<(), AllocError>
-    requires vertex { vertex.0 < n_of graph.now }
-    requires width { length mine.old.places.items ≡ n_of graph.now }
-    ensures ok { OnOk result (mine.new.spokes.items ≡ firsts directed graph.now vertex.0) }
-    ensures width { length mine.new.places.items ≡ length mine.old.places.items }
+    requires { length met.old.places.items ≡ n_of graph.now }
+    ensures ok { OnOk result (met.new.spokes.items ≡ firsts directed graph.now vertex.0) }
+    ensures width { length met.new.places.items ≡ length met.old.places.items }
 {
-    mine.forget();
-    mine.meet(graph, vertex, true, directed, graph.n())
-}
-
-// The same of a graph that may lack the vertex, wherever its arcs lead.
-fn read_others(theirs: &mut Lowest, graph: &Graph, vertex: VertexNo) -> Result<(), AllocError>
-    requires { length theirs.old.places.items ≡ n_of graph.now }
-    ensures ok { OnOk result (theirs.new.spokes.items ≡ lowest (spokes true graph.now vertex.0)) }
-    ensures width { length theirs.new.places.items ≡ length theirs.old.places.items }
-{
-    theirs.forget();
+    met.forget();
     if vertex.0 >= graph.n() {
         return Ok(());
     }
-    theirs.meet(graph, vertex, true, true, graph.n())
+    met.meet(graph, vertex, true, directed, graph.n())
 }
 
 fn insert_joints(
