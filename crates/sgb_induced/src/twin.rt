@@ -16,7 +16,7 @@ pub(crate) fn merge_runs(
     ensures { IfOk result (λ rs. rs.items ≡ merged directed runs.now) }
 {
     let twins = find_twins(alloc, runs, directed)?;
-    let mut kept = Vec::new(alloc);
+    let mut kept = Vec::with_capacity(alloc, runs.len())?;
     let mut places = Vec::with_capacity(alloc, runs.len())?;
     for i in 0..runs.len() {
         keep_run(&mut kept, &mut places, runs[i], twins[i] as usize)?;
@@ -28,22 +28,23 @@ pub(crate) fn merge_runs(
 // where that was.
 fn keep_run(
     kept: &mut Vec<Run>,
-    places: &mut Vec<usize>,
+    places: &mut Vec<u32>,
     run: Run,
     twin: usize,
 ) -> Result<(), AllocError>
-    requires { twin < length places.old.items → slice_index_or places.old.items twin 0 < length kept.old.items }
+    requires few { length kept.old.items ≤ 1000000 }
+    requires place { twin < length places.old.items → slice_index_or places.old.items twin 0 < length kept.old.items }
     ensures runs { OnOk result (kept.new.items ≡ kept_with kept.old.items places.old.items run twin) }
     ensures places { OnOk result (places.new.items
         ≡ places.old.items ++ place_by places.old.items twin (length kept.old.items) ∷ []) }
 {
     if twin >= places.len() {
-        places.push(kept.len())?;
+        places.push(kept.len() as u32)?;
         kept.push(run)?;
         return Ok(());
     }
     let place = places[twin];
-    kept[place] = lowered_run(kept[place], run);
+    kept[place as usize] = lowered_run(kept[place as usize], run);
     places.push(place)?;
     Ok(())
 }
