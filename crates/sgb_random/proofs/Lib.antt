@@ -1,5 +1,6 @@
 mod Building
 mod Coursing
+mod Dividing
 mod Following
 mod Joining
 mod Judging

@@ -1,18 +1,21 @@
 //! The vertices that an attempt draws.
-ghost use Rattle.std.specs.Prelude.{◌≡◌, ◌≤◌, ◌<◌};
+ghost use Rattle.std.specs.Prelude.{◌≡◌, ◌≤◌, ◌<◌, ◌+◌, ◌*◌, ◌%◌, ◌^◌};
 ghost use Rattle.sgb_flip.specs.Generator.{IsGenerator, after, limit, uniform};
 
 use sgb_flip::{Drawn, Flip};
 
 // The vertices from 0 on, of which one is drawn, and the greatest multiple of their number up to 2^31: a number that is
-// not below it is drawn anew.
+// not below it is drawn anew. The inverse is the next number above 2^63 by their number.
 #[derive(Clone, Copy)]
 pub(crate) struct Ends {
     pub(crate) n: u32,
     pub(crate) end: u32,
+    pub(crate) inverse: u64,
     ghost some: { 1 ≤ n },
     ghost few: { n ≤ 65535 },
     ghost whole: { end ≡ limit n },
+    ghost least: { 2 ^ 63 ≤ n * inverse },
+    ghost most: { n * inverse ≤ 2 ^ 63 + n },
 }
 
 impl Ends {
@@ -24,7 +27,19 @@ impl Ends {
         Ends {
             n,
             end: 0x8000_0000 - 0x8000_0000 % n,
+            inverse: 0x8000_0000_0000_0000 / n as u64 + 1,
         }
+    }
+
+    // A number modulo that of the vertices. Two multiplications take less time than a division.
+    #[inline]
+    fn reduce(&self, number: u32) -> u32
+        requires { number < 2 ^ 31 }
+        ensures { result ≡ number % self.now.n }
+    {
+        let doubled = number as u64 * 2;
+        let quotient = (doubled as u128 * self.inverse as u128 >> 64) as u32;
+        number - quotient * self.n
     }
 
     // Draws a vertex as `Flip::uniform` does. Nearly always the first number serves.
@@ -43,7 +58,7 @@ impl Ends {
         let number = flip.next();
         if number < self.end {
             return Drawn {
-                value: number % self.n,
+                value: self.reduce(number),
                 draws: 1,
             };
         }
