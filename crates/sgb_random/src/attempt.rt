@@ -118,6 +118,7 @@ fn key_of(directed: bool, from: u32, to: u32) -> u32
 }
 
 // Draws a length and inserts an arc or an edge of this length, or lists it where it may yet be shortened.
+#[inline(always)]
 fn insert(
     flip: &mut Flip,
     spec: &RandomSpec,
@@ -178,6 +179,7 @@ fn shortened(edge: Edge, len: i64) -> Edge
 }
 
 // Draws a length, and counts one more as made.
+#[inline]
 fn draw_length(flip: &mut Flip, range: &LengthRange, progress: &mut Progress) -> i64
     requires made { progress.old.made < 1000000 }
     requires draws { progress.old.draws < 2 ^ 42 }
