@@ -12,3 +12,4 @@ pub mod Looking
 pub mod Counting
 pub mod Runs
 pub mod Moves
+pub mod Digits

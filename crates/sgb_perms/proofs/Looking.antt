@@ -3,7 +3,7 @@ use Rattle.std.proofs.Common.{◌≡◌, ◌≢◌, ◌<◌, ◌≤◌, ◌+◌,
 use Rattle.std.specs.List.{list_any, position, position_or_len}
 use Rattle.std.specs.Option.{unwrap_or}
 use Rattle.std.proofs.lemmas.Bool.{false≢true, cases_Bool, cases_lt, lt-ltb, le-ltb, eq-eqb, ne_eqb}
-use Rattle.std.proofs.lemmas.List.{map-append, length-map, take_more, length-take-le, get_or-take, get_or_default, get_or-map, at_drop_more, at_drop_all}
+use Rattle.std.proofs.lemmas.List.{map-append, length-map, take_more, length-take-le, get_or-take, get_or_default, get_or-map, drop_more, at_drop_all}
 use Rattle.std.proofs.lemmas.List.Elements.{All-head, All-tail}
 use Rattle.std.proofs.lemmas.List.Sums.{prefix_len-le-length, position_or_len_is, passes_at_first}
 use Rattle.std.proofs.lemmas.List.Folds.{list_any_at}
@@ -15,7 +15,7 @@ use Rattle.sgb_plan.specs.Key.{bytes_of}
 use Rattle.sgb_plan.proofs.Distincts.{position_or_len-map}
 use Rattle.sgb_perms.specs.Arrangement.{same_list}
 use Rattle.sgb_perms.specs.Perms.{place_of}
-use Rattle.sgb_perms.specs.Private.Places.{shown_by, with_digit, word_from, word_of, IsWordsOf}
+use Rattle.sgb_perms.specs.Private.Places.{shown_by, with_digit, word_of, word_place, IsWordsOf}
 use Rattle.sgb_perms.proofs.Arranged.{same_from_test}
 
 -- the comparison by which keys are looked up
@@ -44,7 +44,7 @@ key_more rows i k ks after apart less is shown put =
     ∙ rw fresh (map-append bytes_of ks (k ∷ [])
     ∙ (ap₂ (λ xs y. xs ++ y ∷ []) shown is ∙ sym (take_more rows i [] less)))
 
-position_or_end : {X : Type 0} (p : X → Bool) (xs : List X) → unwrap_or (position p xs) (length xs) ≡ position_or_len p xs
+pub position_or_end : {X : Type 0} (p : X → Bool) (xs : List X) → unwrap_or (position p xs) (length xs) ≡ position_or_len p xs
 position_or_end p xs =
     let most : position_or_len p xs ≤ length xs = prefix_len-le-length (λ x. not (p x)) xs in
     elim (cases_lt (position_or_len p xs) (length xs)) [
@@ -58,13 +58,13 @@ found row keys =
     ∙ sym (position_or_len-map (same_list row) bytes_of keys)
 
 -- ---- by words
-pub word_more : (word : ℕ) (row : List ℕ) (i : ℕ) → i < length row → word_from word (drop i row) ≡ word_from (with_digit word (get_or row i 0)) (drop (i + 1) row)
-unfolding word_from
-word_more word row i less = at_drop_more (word_from word) row i 0 less
+pub word_none : (row : List ℕ) (i : ℕ) → length row ≤ i → word_of (drop i row) ≡ 0
+unfolding word_of
+word_none row i past = at_drop_all word_of row i past
 
-pub word_all : (word : ℕ) (row : List ℕ) (i : ℕ) → length row ≤ i → word_from word (drop i row) ≡ word
-unfolding word_from
-word_all word row i past = at_drop_all (word_from word) row i past
+pub word_more : (word : ℕ) (row : List ℕ) (i : ℕ) → i < length row → word ≡ word_of (drop (i + 1) row) → with_digit word (get_or row i 0) ≡ word_of (drop i row)
+unfolding word_of
+word_more word row i less is = ap (λ w. with_digit w (get_or row i 0)) is ∙ sym (ap word_of (drop_more row i 0 less))
 
 pub words_none : (words : List ℕ) → words ≡ [] → IsWordsOf [] words
 words_none words none = record {
@@ -95,7 +95,7 @@ words_more rows i word words after less is known added put =
     }
 
 -- a row that is listed is found by its word
-pub word_found : (rows : List (List ℕ)) (words : List ℕ) (row : List ℕ) → IsWordsOf rows words → place_of rows row < length rows → unwrap_or (position (λ k. word_of row == k) words) (length rows) ≡ place_of rows row
+pub word_found : (rows : List (List ℕ)) (words : List ℕ) (row : List ℕ) → IsWordsOf rows words → place_of rows row < length rows → word_place words (word_of row) ≡ place_of rows row
 word_found rows words row known within =
     let p = place_of rows row in
     let word = word_of row in
@@ -103,8 +103,6 @@ word_found rows words row known within =
     let here : row ≡ get_or rows p [] = same_from_test row (get_or rows p []) (passes_at_first (same_list row) rows [] within) in
     let mine : word ≡ get_or words p 0 =
     ap word_of here ∙ (sym (get_or-map word_of rows p [] 0 within) ∙ ap (λ ws. get_or ws p 0) (sym known.are)) in
-    ap (unwrap_or (position (λ k. word == k) words)) (sym long)
-    ∙ (position_or_end (λ k. word == k) words
-    ∙ position_or_len_is (λ k. word == k) words p 0 (omega (arith, within, long))
+    position_or_len_is (λ k. word == k) words p 0 (omega (arith, within, long))
     (λ k low. ne_eqb word (get_or words k 0) (λ same. known.apart k p 0 low (omega (arith, within, long)) (sym same ∙ mine)))
-    (λ less. eq-eqb word (get_or words p 0) mine))
+    (λ less. eq-eqb word (get_or words p 0) mine)

@@ -1,5 +1,5 @@
 -- Lemmas on the exchanges that are inserted.
-use Rattle.std.proofs.Common.{◌≡◌, ◌<◌, ◌≤◌, ◌+◌, ◌-◌, ℕ, List, [], ◌∷◌, length, get_or, true, false, cond, sym, ap, subst, ◌∙◌, pos}
+use Rattle.std.proofs.Common.{◌≡◌, ◌<◌, ◌≤◌, ◌+◌, ◌-◌, ℕ, List, [], ◌∷◌, length, get_or, true, false, cond, sym, ap, subst, ◌∙◌, pos, arith}
 use Rattle.std.specs.List.{flat_map, range_with_len}
 use Rattle.std.proofs.lemmas.Bool.{cond-true, cond-false, lt-ltb, le-ltb}
 use Rattle.std.proofs.lemmas.List.Elements.{Contains-get_or}
@@ -7,8 +7,8 @@ use Rattle.sgb_graph.specs.Builder.{Insertion, insertion}
 use Rattle.sgb_graph.proofs.Inserting.{LeftFrom, from_start, map-filter}
 use Rattle.sgb_graph.specs.declared.builder.Builder.{Builder}
 use Rattle.sgb_perms.specs.Arrangement.{is_descent, descents, exchanged, arrangements}
-use Rattle.sgb_perms.specs.Perms.{exchange, exchanges_of, place_of, row_at}
-use Rattle.sgb_perms.specs.Private.Places.{IsClosed}
+use Rattle.sgb_perms.specs.Perms.{exchange, exchanges, exchanges_of, place_of, row_at}
+use Rattle.sgb_perms.specs.Private.Places.{IsClosed, LeadsWithin}
 use Rattle.sgb_perms.proofs.Exchanging.{exchange_listed, place_within, exchanged_back}
 
 -- the exchange at a place, where there is one
@@ -22,6 +22,10 @@ moves_are rows v a = sym (map-filter (exchange rows v a) (is_descent a) (range_w
 pub moves_start : (b : Builder) (rows : List (List ℕ)) (v : ℕ) (a : List ℕ) → LeftFrom b (exchanges_of rows v a) b (move_at rows v a) 0 (length a - 1)
 moves_start b rows v a =
     subst (λ all. LeftFrom b all b (move_at rows v a) 0 (length a - 1)) (moves_are rows v a) (from_start b (move_at rows v a) (length a - 1))
+
+pub exchanges_start : (b : Builder) (rows : List (List ℕ)) → LeftFrom b (exchanges rows) b (λ v. exchanges_of rows v (row_at rows v)) 0 (length rows)
+unfolding exchanges
+exchanges_start b rows = from_start b (λ v. exchanges_of rows v (row_at rows v)) (length rows)
 
 pub move_some : (rows : List (List ℕ)) (v : ℕ) (a : List ℕ) (place from : ℕ) → is_descent a place ≡ true → from ≡ place_of rows (exchanged a place) → insertion from v (pos 1) ∷ [] ≡ move_at rows v a place
 move_some rows v a place from descends is =
@@ -52,3 +56,9 @@ place_so rows row after a place to same put is = is ∙ ap (place_of rows) (put 
 pub row_back : (row after last a : List ℕ) (place : ℕ) → place + 1 < length a → row ≡ a → after ≡ exchanged row place → last ≡ exchanged after place → last ≡ a
 row_back row after last a place within same put back =
     back ∙ (ap (λ r. exchanged r place) (put ∙ ap (λ r. exchanged r place) same) ∙ exchanged_back a place within)
+
+-- where an exchange leads there is a vertex
+pub from_within : (rows : List (List ℕ)) (a : List ℕ) (place from : ℕ) → LeadsWithin rows a → place + 1 < length a → is_descent a place ≡ true → from ≡ place_of rows (exchanged a place) → from < length rows
+from_within rows a place from closed low descends is =
+    let less : place_of rows (exchanged a place) < length rows = closed place low descends in
+    omega arith

@@ -4,11 +4,13 @@ ghost use Rattle.sgb_graph.specs.Builder.{Inserts};
 ghost use Rattle.sgb_graph.specs.Graph.{n_of};
 ghost use Rattle.sgb_perms.specs.Arrangement.{is_descent, exchanged};
 ghost use Rattle.sgb_perms.specs.Perms.{exchanges, exchanges_of, place_of, row_at};
-ghost use Rattle.sgb_perms.specs.Private.Places.{IsIndexOf, IsClosed, LeadsWithin};
+ghost use Rattle.sgb_perms.specs.Private.Places.{shown_by, IsWordsOf, IsIndexOf, IsClosed, LeadsWithin};
 
-use crate::places::{Places, find_row};
+use crate::places::{Places, place_of, place_of_word, word_of};
 use crate::rows::Rows;
+use indexmap::IndexSet;
 use sgb_graph::{Builder, Refusal, VertexNo};
+use sgb_plan::Key;
 use std::alloc::Global;
 
 // Inserts the exchanges that lead to each row.
@@ -24,11 +26,72 @@ pub(crate) fn insert_exchanges(
     ensures { Inserts builder.old builder.new (exchanges rows.now.rows) result }
 {
     builder.reserve(count_exchanges(rows))?;
+    match places {
+        Places::ByWord(words) => insert_by_word(builder, rows, words),
+        Places::ByBytes(keys) => insert_by_bytes(builder, alloc, rows, keys),
+    }
+}
+
+// The same by the words of the rows.
+fn insert_by_word(builder: &mut Builder, rows: &Rows, words: &IndexSet<u64>) -> Result<(), Refusal>
+    requires vertices { n_of builder.old.graph ≡ length rows.now.rows }
+    requires words { IsWordsOf rows.now.rows words.now.keys }
+    requires closed { IsClosed rows.now.rows }
+    ensures { Inserts builder.old builder.new (exchanges rows.now.rows) result }
+{
+    for v in 0..rows.len() {
+        insert_to_word(builder, rows, VertexNo(v as u32), words)?;
+    }
+    Ok(())
+}
+
+// Inserts the exchanges that lead to the vertex. Where the greater of two elements goes one place on, its digit is worth 31
+// times as much, and that of the smaller one a 31st.
+fn insert_to_word(
+    builder: &mut Builder,
+    rows: &Rows,
+    to: VertexNo,
+    words: &IndexSet<u64>,
+) -> Result<(), Refusal>
+    requires vertex { to.0 < length rows.now.rows }
+    requires vertices { n_of builder.old.graph ≡ length rows.now.rows }
+    requires few { length rows.now.rows ≤ 65535 }
+    requires words { IsWordsOf rows.now.rows words.now.keys }
+    requires closed { IsClosed rows.now.rows }
+    ensures { Inserts builder.old builder.new (exchanges_of rows.now.rows to.0 (row_at rows.now.rows to.0)) result }
+{
+    let row = rows.row(to.0 as usize);
+    let word = word_of(row);
+    let mut worth: u64 = 30;
+    for place in 0..row.len().saturating_sub(1) {
+        let (left, right) = (row[place], row[place + 1]);
+        if right < left {
+            let step = worth.wrapping_mul((left - right) as u64);
+            let source = place_of_word(words, word.wrapping_add(step));
+            builder.insert(VertexNo(source as u32), to, 1)?;
+        }
+        worth = worth.wrapping_mul(31);
+    }
+    Ok(())
+}
+
+// The same by the bytes of the rows.
+fn insert_by_bytes(
+    builder: &mut Builder,
+    alloc: Global,
+    rows: &Rows,
+    keys: &IndexSet<Key<'_>>,
+) -> Result<(), Refusal>
+    requires vertices { n_of builder.old.graph ≡ length rows.now.rows }
+    requires keys { shown_by keys.now.keys ≡ rows.now.rows }
+    requires closed { IsClosed rows.now.rows }
+    ensures { Inserts builder.old builder.new (exchanges rows.now.rows) result }
+{
     let mut row = Vec::with_capacity(alloc, rows.width())?;
     for v in 0..rows.len() {
         row.clear();
         row.extend_from_slice(rows.row(v))?;
-        insert_to(builder, rows, VertexNo(v as u32), &mut row, places)?;
+        insert_to(builder, VertexNo(v as u32), &mut row, keys)?;
     }
     Ok(())
 }
@@ -36,22 +99,20 @@ pub(crate) fn insert_exchanges(
 // Inserts the exchanges that lead to the vertex, whose row this is.
 fn insert_to(
     builder: &mut Builder,
-    rows: &Rows,
     to: VertexNo,
     row: &mut [u8],
-    places: &Places<'_>,
+    keys: &IndexSet<Key<'_>>,
 ) -> Result<(), Refusal>
     requires vertex { to.0 < n_of builder.old.graph }
-    requires vertices { n_of builder.old.graph ≡ length rows.now.rows }
-    requires places { IsIndexOf rows.now.rows places.now }
+    requires vertices { n_of builder.old.graph ≡ length (shown_by keys.now.keys) }
     requires few { n_of builder.old.graph ≤ 65535 }
-    requires closed { LeadsWithin rows.now.rows row.old }
-    ensures { Inserts builder.old builder.new (exchanges_of rows.now.rows to.0 row.old) result }
+    requires closed { LeadsWithin (shown_by keys.now.keys) row.old }
+    ensures { Inserts builder.old builder.new (exchanges_of (shown_by keys.now.keys) to.0 row.old) result }
 {
     for place in 0..row.len().saturating_sub(1) {
         if row[place + 1] < row[place] {
             row.swap(place, place + 1);
-            let from = find_row(rows, places, row);
+            let from = place_of(keys, row);
             row.swap(place, place + 1);
             builder.insert(VertexNo(from as u32), to, 1)?;
         }

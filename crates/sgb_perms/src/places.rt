@@ -2,7 +2,7 @@
 ghost use Rattle.std.specs.Prelude.{◌≡◌, ◌<◌, length, IfOk, IfErr, IfSome};
 ghost use Rattle.sgb_plan.specs.Distinct.{Distinct};
 ghost use Rattle.sgb_perms.specs.Perms.{place_of};
-ghost use Rattle.sgb_perms.specs.Private.Places.{shown_by, word_of, IsWordsOf, IsIndexOf};
+ghost use Rattle.sgb_perms.specs.Private.Places.{shown_by, word_of, word_place, IsWordsOf, IsIndexOf};
 
 use crate::rows::Rows;
 use indexmap::IndexSet;
@@ -44,14 +44,15 @@ fn index_words(alloc: Global, rows: &Rows) -> Result<Option<IndexSet<u64>>, Refu
     Ok(Some(words))
 }
 
-// A number of the row. Rows of up to 12 elements, which are below 16, have different ones.
+// A number of the row: its elements are digits in base 31, the first the lowest. Rows of up to 12 elements, which are below
+// 16, have different ones.
 #[inline]
-fn word_of(row: &[u8]) -> u64
+pub(crate) fn word_of(row: &[u8]) -> u64
     ensures { result ≡ word_of row.now }
 {
     let mut word: u64 = 0;
-    for kind in row {
-        word = word.wrapping_mul(31).wrapping_add(*kind as u64);
+    for place in (0..row.len()).rev() {
+        word = word.wrapping_mul(31).wrapping_add(row[place] as u64);
     }
     word
 }
@@ -70,20 +71,16 @@ fn index_rows<'a>(alloc: Global, rows: &'a Rows) -> Result<IndexSet<Key<'a>>, Re
 }
 
 // The place of the row, or how many there are where it is none of them.
-fn place_of(places: &IndexSet<Key<'_>>, row: &[u8]) -> usize
+pub(crate) fn place_of(places: &IndexSet<Key<'_>>, row: &[u8]) -> usize
     ensures { result ≡ place_of (shown_by places.now.keys) row.now }
 {
     places.get_index_of(&Key::lent(row)).unwrap_or(places.len())
 }
 
-// The place of the row, which is one of them.
-pub(crate) fn find_row(rows: &Rows, places: &Places<'_>, row: &[u8]) -> usize
-    requires places { IsIndexOf rows.now.rows places.now }
-    requires within { place_of rows.now.rows row.now < length rows.now.rows }
-    ensures { result ≡ place_of rows.now.rows row.now }
+// The place of the word, or how many there are where it is none of them.
+#[inline]
+pub(crate) fn place_of_word(words: &IndexSet<u64>, word: u64) -> usize
+    ensures { result ≡ word_place words.now.keys word }
 {
-    match places {
-        Places::ByWord(words) => words.get_index_of(&word_of(row)).unwrap_or(rows.len()),
-        Places::ByBytes(keys) => place_of(keys, row),
-    }
+    words.get_index_of(&word).unwrap_or(words.len())
 }

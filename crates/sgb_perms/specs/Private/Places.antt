@@ -1,5 +1,6 @@
 -- Rows by which a vertex is looked up.
-use Rattle.std.specs.Prelude.{◌≡◌, ◌<◌, ◌+◌, ◌*◌, ◌^◌, ◌%◌, ℕ, List, [], ◌∷◌, length, map, true}
+use Rattle.std.specs.Prelude.{◌≡◌, ◌<◌, ◌+◌, ◌*◌, ◌^◌, ◌%◌, ◌==◌, ℕ, zero, suc, List, [], ◌∷◌, length, map, true}
+use Rattle.std.specs.List.{position_or_len}
 use Rattle.sgb_plan.specs.declared.key.Key.{Key}
 use Rattle.sgb_plan.specs.Distinct.{Distinct}
 use Rattle.sgb_plan.specs.Key.{bytes_of}
@@ -11,16 +12,21 @@ use Rattle.sgb_perms.specs.Perms.{place_of, row_at}
 abbrev pub shown_by : List Key → List (List ℕ)
 shown_by keys = map bytes_of keys
 
--- a row's word: its kinds are digits, as far as a word has room
+-- a row's word: its kinds are digits, the first the lowest, as far as a word has room
 abbrev pub with_digit : ℕ → ℕ → ℕ
 with_digit word kind = (word * 31 % 2 ^ 64 + kind) % 2 ^ 64
 
-unfoldable pub word_from : ℕ → List ℕ → ℕ
-word_from word [] = word
-word_from word (kind ∷ kinds) = word_from (with_digit word kind) kinds
+unfoldable pub word_of : List ℕ → ℕ
+word_of [] = 0
+word_of (kind ∷ kinds) = with_digit (word_of kinds) kind
 
-abbrev pub word_of : List ℕ → ℕ
-word_of row = word_from 0 row
+-- what it adds to the word where an element that is greater by 1 is exchanged with the one behind it
+unfoldable pub worth_at : ℕ → ℕ
+worth_at zero = 30
+worth_at (suc place) = worth_at place * 31 % 2 ^ 64
+
+abbrev pub word_place : List ℕ → ℕ → ℕ
+word_place words word = position_or_len (λ k. word == k) words
 
 -- the words of the rows, of which no two have the same
 pub record IsWordsOf (rows : List (List ℕ)) (words : List ℕ) : Type 0 where
