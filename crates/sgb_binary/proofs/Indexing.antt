@@ -1,9 +1,9 @@
 -- Lemmas on names that stand one behind another, and are kept in a set by their numbers.
-use Rattle.std.proofs.Common.{◌≡◌, ◌<◌, ◌≤◌, ◌+◌, ◌-◌, ◌*◌, ◌==◌, ℕ, suc, List, [], ◌∷◌, ◌++◌, length, get_or, map, take, drop, false, All, inl, inr, refl, sym, ap, ap₂, ◌∙◌, arith}
+use Rattle.std.proofs.Common.{◌≡◌, ◌<◌, ◌≤◌, ◌+◌, ◌-◌, ◌*◌, ◌==◌, ℕ, suc, List, [], ◌∷◌, ◌++◌, length, get_or, map, take, drop, false, All, inl, inr, refl, sym, ap, ap₂, subst, ◌∙◌, arith}
 use Rattle.std.specs.List.{concat, list_any}
 use Rattle.std.specs.Cmp.Lexicographic.{pointwise}
 use Rattle.std.proofs.lemmas.Bool.{cases_Bool}
-use Rattle.std.proofs.lemmas.List.{length-append, length-map, map-append, take_at, drop_at, get_or_append_left, get_or_at, get_or-map}
+use Rattle.std.proofs.lemmas.List.{length-append, length-map, map-append, take_at, take_more, take-append-drop, drop_at, drop_more, get_or_append_left, get_or_at, get_or-map}
 use Rattle.std.proofs.lemmas.List.Elements.{All-head, All-tail}
 use Rattle.std.proofs.lemmas.List.Folds.{list_any_none}
 use Rattle.std.proofs.lemmas.Slice.Eq.{bytes_eq-Decides}
@@ -40,6 +40,17 @@ pub name_added : (keys : List Key) (name : Key) (rest : List (List ℕ)) → Dis
 name_added keys name rest apart =
     let new = name_new keys (bytes_of name) rest apart in
     rw new (map-append bytes_of keys (name ∷ []))
+
+-- the names up to one are keys; this one goes last
+pub name_more : (names : List (List ℕ)) (i : ℕ) (keys after : List Key) (name : Key) → Distinct names → i < length names → bytes_of name ≡ get_or names i [] → names_of keys ≡ take i names
+    → after ≡ insert_key (λ a b. pointwise ◌==◌ (bytes_of a) (bytes_of b)) keys name → names_of after ≡ take (i + 1) names
+name_more names i keys after name apart less is shown put =
+    let rest : List (List ℕ) = drop (i + 1) names in
+    let all : names_of keys ++ (bytes_of name ∷ rest) ≡ names =
+    ap₂ (λ xs x. xs ++ (x ∷ rest)) shown is ∙ (ap (λ xs. take i names ++ xs) (sym (drop_more names i [] less)) ∙ take-append-drop i names) in
+    ap names_of put
+    ∙ (name_added keys name rest (subst Distinct (sym all) apart)
+    ∙ (ap₂ (λ xs x. xs ++ x ∷ []) shown is ∙ sym (take_more names i [] less)))
 
 -- ---- pieces
 pub pieces_more : (width k m : ℕ) (xs : List ℕ) → k ≡ suc m → pieces width k xs ≡ take width xs ∷ pieces width m (drop width xs)

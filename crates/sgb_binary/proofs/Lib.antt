@@ -7,3 +7,4 @@ pub mod Rows
 pub mod Shapes
 pub mod Spans
 pub mod Turning
+pub mod Coding

@@ -9,15 +9,15 @@ use Rattle.sgb_graph.specs.declared.refusal.Refusal.TheVariants.{NoRoom, TooLarg
 use Rattle.sgb_graph.specs.Graph.{n_of}
 use Rattle.sgb_graph.specs.New.{bare_graph}
 use Rattle.sgb_graph.specs.Text.{IsText, is_text_byte}
-use Rattle.sgb_plan.specs.Distinct.{Distinct}
 use Rattle.sgb_plan.specs.Plan.{Plan, IsMade, with_named}
 use Rattle.sgb_plan.proofs.Planning.{begun, many_vertices, n-with_named}
 use Rattle.sgb_simplex.specs.Room.{MayWant}
 use Rattle.sgb_binary.specs.Binary.{binary_plan, tree_vertex}
 use Rattle.sgb_binary.specs.Tree.{words, is_low_tree, trees}
+use Rattle.sgb_binary.specs.Private.Code.{IsName}
 use Rattle.sgb_binary.specs.Private.Listing.{pieces}
 use Rattle.sgb_binary.proofs.Indexing.{pieces_concat, concat_length}
-use Rattle.sgb_binary.proofs.Shapes.{trees_length, trees_distinct}
+use Rattle.sgb_binary.proofs.Shapes.{trees_length, trees_letters}
 
 -- ---- names of vertices
 words_printable : (m : ℕ) → All (λ w. IsTrue (list_all is_text_byte w)) (words m)
@@ -37,6 +37,9 @@ trees_text n most few k d h =
       printable = All-filter (is_low_tree most) (λ w. IsTrue (list_all is_text_byte w)) (words (2 * n + 1)) (words_printable (2 * n + 1)) k d h;
     }
 
+pub trees_names : (n most : ℕ) → All (IsName (2 * n + 1)) (trees n most)
+trees_names n most k d h = record { long = trees_length n most k d h; letters = trees_letters n most k d h }
+
 -- ---- the trees in one buffer
 pub cut_trees : (n most count : ℕ) (letters : List ℕ) → letters ≡ concat (trees n most) → count ≡ length (trees n most) → pieces (2 * n + 1) count letters ≡ trees n most
 cut_trees n most count letters is many =
@@ -45,10 +48,6 @@ cut_trees n most count letters is many =
 pub letters_whole : (n most count : ℕ) (letters : List ℕ) → letters ≡ concat (trees n most) → count ≡ length (trees n most) → length letters ≡ count * (2 * n + 1)
 letters_whole n most count letters is many =
     ap (λ xs. length xs) is ∙ (concat_length (2 * n + 1) (trees n most) (trees_length n most) ∙ ap (λ k. k * (2 * n + 1)) (sym many))
-
-pub pieces_apart : (n most count : ℕ) (letters : List ℕ) → letters ≡ concat (trees n most) → count ≡ length (trees n most) → Distinct (pieces (2 * n + 1) count letters)
-pieces_apart n most count letters is many =
-    subst Distinct (sym (cut_trees n most count letters is many)) (trees_distinct n most)
 
 -- ---- the builder that the plan begins with
 pub begins : (n most : ℕ) (directed : Bool) (id types : List ℕ) (b : Builder) → b ≡ record { graph = bare_graph id types []; directed = directed }

@@ -238,13 +238,17 @@ pub trees_length : (n most : ℕ) → All (λ w. length w ≡ 2 * n + 1) (trees 
 unfolding trees
 trees_length n most = All-filter (is_low_tree most) (λ v. length v ≡ 2 * n + 1) (words (2 * n + 1)) (words_length (2 * n + 1))
 
+pub trees_letters : (n most : ℕ) → All (All IsLetter) (trees n most)
+unfolding trees
+trees_letters n most = All-filter (is_low_tree most) (All IsLetter) (words (2 * n + 1)) (words_letters (2 * n + 1))
+
 -- a word of the list
 pub tree_word : (n most : ℕ) (w : List ℕ) → Contains (trees n most) w → (h : ℕ) × (heights w ≡ Some (h ∷ [])) × (h ≤ most) × IsWord w
 unfolding trees is_low_tree
 tree_word n most w at =
     let ws : List (List ℕ) = words (2 * n + 1) in
     let low : is_low_tree most w ≡ true = All-contains (λ v. is_low_tree most v ≡ true) (trees n most) w (filter_passes (is_low_tree most) ws) at in
-    let letters : All IsLetter w = All-contains (All IsLetter) (trees n most) w (All-filter (is_low_tree most) (All IsLetter) ws (words_letters (2 * n + 1))) at in
+    let letters : All IsLetter w = All-contains (All IsLetter) (trees n most) w (trees_letters n most) at in
     let one = one_of w most (heights w) refl low in
     (one.0, one.1, one.2, word_from w letters)
 

@@ -7,7 +7,7 @@ ghost use Rattle.sgb_simplex.specs.Room.{MayWant};
 ghost use Rattle.sgb_binary.specs.Binary.{plan_of_binary, binary_plan, is_binary, height_within, tree_vertex};
 
 use crate::BinarySpec;
-use crate::index::index_names;
+use crate::index::split_names;
 use crate::judge::count_trees;
 use crate::lister::list_trees;
 use crate::rotation::insert_rotations;
@@ -67,10 +67,12 @@ fn make_graph(alloc: Global, n: u32, most: u32, directed: bool) -> Result<Graph,
         &[Part::Count(n), Part::Count(most), Part::Flag(directed)],
     )?;
     let names = list_trees(alloc, n, most, count)?;
-    let index = index_names(alloc, &names, 2 * n as usize + 1)?;
+    let width = 2 * n as usize + 1;
+    let keys = split_names(alloc, &names, width)?;
+    let trees = keys.as_slice();
     let mut builder = Builder::new(alloc, id, Types::none(), directed);
-    name_vertices(&mut builder, alloc, index.as_slice())?;
-    insert_rotations(&mut builder, alloc, &index)?;
+    name_vertices(&mut builder, alloc, trees)?;
+    insert_rotations(&mut builder, alloc, trees, width)?;
     Ok(builder.finish())
 }
 

@@ -10,26 +10,40 @@ use crate::lister::Names;
 use indexmap::IndexSet;
 use sgb_graph::Refusal;
 use sgb_plan::Key;
-use std::alloc::Global;
+use std::alloc::{AllocError, Global};
+
+/// The names, one by one.
+pub(crate) fn split_names<'a>(
+    alloc: Global,
+    names: &'a Names,
+    width: usize,
+) -> Result<Vec<Key<'a>>, AllocError>
+    requires { length names.now.letters.items ≡ names.now.count * width }
+    ensures { IfOk result
+        (λ keys. map bytes_of keys.items ≡ pieces width names.now.count names.now.letters.items) }
+{
+    let mut keys = Vec::with_capacity(alloc, names.count as usize)?;
+    let mut rest = names.letters.as_slice();
+    for _v in 0..names.count {
+        let (name, others) = rest.split_at(width);
+        keys.push(Key::lent(name))?;
+        rest = others;
+    }
+    Ok(keys)
+}
 
 /// The names, each with its number for its place.
 pub(crate) fn index_names<'a>(
     alloc: Global,
-    names: &'a Names,
-    width: usize,
+    names: &'a [Key<'_>],
 ) -> Result<IndexSet<Key<'a>>, Refusal>
-    requires whole { length names.now.letters.items ≡ names.now.count * width }
-    requires apart { Distinct (pieces width names.now.count names.now.letters.items) }
-    ensures keys { IfOk result
-        (λ index. map bytes_of index.keys ≡ pieces width names.now.count names.now.letters.items) }
+    requires { Distinct (map bytes_of names.now) }
+    ensures keys { IfOk result (λ index. map bytes_of index.keys ≡ map bytes_of names.now) }
     ensures err { IfErr result (λ e. e ≡ Refusal.NoRoom) }
 {
-    let mut index = IndexSet::with_capacity(alloc, names.count as usize)?;
-    let mut rest = names.letters.as_slice();
-    for _v in 0..names.count {
-        let (name, others) = rest.split_at(width);
-        index.insert(Key::new(name))?;
-        rest = others;
+    let mut index = IndexSet::with_capacity(alloc, names.len())?;
+    for name in names {
+        index.insert(Key::new(name.bytes()))?;
     }
     Ok(index)
 }

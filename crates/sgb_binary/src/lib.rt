@@ -1,6 +1,7 @@
 //! Graphs of binary trees and their rotations.
 #![tactic(auto)]
 
+mod code;
 mod facts;
 mod generator;
 mod index;

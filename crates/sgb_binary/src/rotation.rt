@@ -1,19 +1,56 @@
 //! Rotations of trees, by their names.
-ghost use Rattle.std.specs.Prelude.{◌≡◌, ◌<◌, ◌≤◌, ◌+◌, length, map, take, drop, IfSome};
+ghost use Rattle.std.specs.Prelude.{◌≡◌, ◌<◌, ◌≤◌, ◌+◌, length, map, take, drop, All, IfSome};
 ghost use Rattle.std.specs.Option.{option_to_list};
 ghost use Rattle.sgb_graph.specs.Builder.{Inserts};
 ghost use Rattle.sgb_graph.specs.Graph.{n_of};
 ghost use Rattle.sgb_plan.specs.Key.{bytes_of};
+ghost use Rattle.sgb_plan.specs.Distinct.{Distinct};
+ghost use Rattle.sgb_binary.specs.Private.Code.{IsName};
 ghost use Rattle.sgb_binary.specs.Rotation.{tree_fronts, targets, rotations, rotations_of};
 
-use crate::index::number_of;
+use crate::code::insert_by_code;
+use crate::index::{index_names, number_of};
 use indexmap::IndexSet;
 use sgb_graph::{Builder, Refusal, VertexNo};
 use sgb_plan::Key;
 use std::alloc::Global;
 
-/// Inserts from each tree in order to each that it turns into.
+/// Inserts from each tree in order to each that it turns into: by the codes of the names, where a code has room for one.
 pub(crate) fn insert_rotations(
+    builder: &mut Builder,
+    alloc: Global,
+    names: &[Key<'_>],
+    width: usize,
+) -> Result<(), Refusal>
+    requires vertices { n_of builder.old.graph ≡ length names.now }
+    requires few { length names.now ≤ 65535 }
+    requires names { All (IsName width) (map bytes_of names.now) }
+    requires apart { Distinct (map bytes_of names.now) }
+    ensures { Inserts builder.old builder.new (rotations (map bytes_of names.now)) result }
+{
+    builder.reserve(count_rotations(names))?;
+    if width < 64 {
+        return insert_by_code(builder, alloc, names);
+    }
+    let index = index_names(alloc, names)?;
+    insert_by_name(builder, alloc, &index)
+}
+
+// How many insertions there are at most, so that room for them is taken once. A tree with n dots has n - 1 below others;
+// in all trees together as many stand to the left as to the right, since the mirror image of each is among them, and
+// only those to the left are turned.
+fn count_rotations(names: &[Key<'_>]) -> usize {
+    match names.first() {
+        Some(name) => {
+            let dots = name.bytes().len() / 2;
+            names.len().saturating_mul(dots.saturating_sub(1)) / 2
+        }
+        None => 0,
+    }
+}
+
+// The same by the names themselves.
+fn insert_by_name(
     builder: &mut Builder,
     alloc: Global,
     index: &IndexSet<Key<'_>>,
@@ -22,7 +59,6 @@ pub(crate) fn insert_rotations(
     requires few { length index.now.keys ≤ 65535 }
     ensures { Inserts builder.old builder.new (rotations (map bytes_of index.now.keys)) result }
 {
-    builder.reserve(count_rotations(index))?;
     let mut word = Vec::new(alloc);
     for (v, name) in index.as_slice().iter().enumerate() {
         word.clear();
@@ -30,20 +66,6 @@ pub(crate) fn insert_rotations(
         insert_from(builder, index, v as u32, &mut word)?;
     }
     Ok(())
-}
-
-// How many insertions there are at most, so that room for them is taken once. A tree with n dots has n - 1 below others;
-// in all trees together as many stand to the left as to the right, since the mirror image of each is among them, and
-// only those to the left are turned.
-fn count_rotations(index: &IndexSet<Key<'_>>) -> usize {
-    let names = index.as_slice();
-    match names.first() {
-        Some(name) => {
-            let dots = name.bytes().len() / 2;
-            names.len().saturating_mul(dots.saturating_sub(1)) / 2
-        }
-        None => 0,
-    }
 }
 
 // Inserts from the vertex with this name to each that it turns into.

@@ -1,39 +1,22 @@
-use Rattle.std.proofs.Common.{◌≡◌, ◌+◌, ◌-◌, ◌++◌, ◌∷◌, [], List, ℕ, length, drop, subst, ap, ap₂, sym, ◌∙◌, arith, append_assoc}
-use Rattle.std.proofs.lemmas.List.{append-nil}
-use Rattle.sgb_plan.specs.Distinct.{Distinct}
-use Rattle.sgb_plan.specs.declared.key.Key.{Key}
+use Rattle.std.proofs.Common.{◌≡◌, ◌<◌, length, ap, ◌∙◌, arith}
+use Rattle.std.proofs.lemmas.List.{length-map, take_all}
 use Rattle.sgb_plan.specs.Key.{bytes_of}
-use Rattle.sgb_binary.specs.Private.Listing.{pieces}
-use Rattle.sgb_binary.proofs.Indexing.{names_of, name_added, piece_taken, pieces_end, width_left, width_next}
+use Rattle.sgb_binary.proofs.Coding.{name_at}
+use Rattle.sgb_binary.proofs.Indexing.{names_of, name_more}
 use Rattle.sgb_binary.proofs.index.index_names.Goals as goal
 
-pub split_at-requires : goal.split_at-requires
-split_at-requires c =
-    width_left c.args.width c.args.names.now.count c.loop-v._v (length c.loop-v.rest.now) c.loop-v-test.true c.loop-v.invariant.whole
+pub loop-name-init : goal.loop-name-init
+loop-name-init c = ap names_of c.in_ok-index.ensures.empty
 
-pub loop-v-preserved : goal.loop-v-preserved
-loop-v-preserved c =
-    let width : ℕ = c.args.width in
-    let count : ℕ = c.args.names.now.count in
-    let v : ℕ = c.loop-v._v in
-    let rest : List ℕ = c.loop-v.rest.now in
-    let keys : List Key = c.loop-v.index.keys in
-    let name : Key = c.new.result in
-    let left : List (List ℕ) = pieces width (count - (v + 1)) (drop width rest) in
-    let taken = piece_taken width count v rest c.loop-v-test.true in
-    let start : names_of keys ++ (bytes_of name ∷ left) ≡ pieces width count c.args.names.now.letters.items =
-    ap (λ ps. names_of keys ++ ps) (ap (λ x. x ∷ left) (c.new.ensures ∙ c.split_at.ensures.front) ∙ sym taken) ∙ c.loop-v.invariant.names in
-    let added = name_added keys name left (subst Distinct (sym start) c.requires.apart) in
-    record {
-      names =
-          ap₂ (λ xs ys. xs ++ ys) (ap names_of c.in_ok-insert.ensures.keys ∙ added) (ap (pieces width (count - (v + 1))) c.split_at.ensures.back)
-          ∙ (append_assoc (names_of keys) (bytes_of name ∷ []) left ∙ start);
-      whole = let next = width_next width count v (length rest) c.loop-v-test.true c.loop-v.invariant.whole in omega (arith, next, c.split_at.ensures.back_len);
-    }
+pub loop-name-preserved : goal.loop-name-preserved
+loop-name-preserved c =
+    let less : c.loop-name.name-index < length c.args.names.now = c.loop-name-test.true in
+    name_more (names_of c.args.names.now) c.loop-name.name-index c.loop-name.index.keys c.insert.new.self.keys c.new.result c.requires
+    (omega (arith, less, length-map c.args.names.now bytes_of))
+    (c.new.ensures ∙ (c.bytes.ensures ∙ (c.name-item.is ∙ name_at c.args.names.now c.loop-name.name-index _ less)))
+    c.loop-name.invariant c.in_ok-insert.ensures.keys
 
 pub returns-clause-keys : goal.returns-clause-keys
 returns-clause-keys c =
-    let none : c.args.names.now.count - c.loop-v._v ≡ 0 = omega arith in
-    sym (append-nil (names_of c.loop-v.index.keys))
-    ∙ (ap (λ ps. names_of c.loop-v.index.keys ++ ps) (sym (pieces_end c.args.width (c.args.names.now.count - c.loop-v._v) c.loop-v.rest.now none))
-    ∙ c.loop-v.invariant.names)
+    c.loop-name.invariant
+    ∙ take_all c.loop-name.name-index (names_of c.args.names.now) (omega (arith, length-map c.args.names.now bytes_of))

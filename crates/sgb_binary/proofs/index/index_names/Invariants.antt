@@ -1,10 +1,6 @@
-use Rattle.std.proofs.Common.{◌≡◌, ◌-◌, ◌*◌, ◌++◌, length}
-use Rattle.sgb_binary.specs.Private.Listing.{pieces}
+use Rattle.std.proofs.Common.{◌≡◌, take}
 use Rattle.sgb_binary.proofs.Indexing.{names_of}
 use Rattle.sgb_binary.proofs.index.index_names.Given as goal
 
-abbrev pub invariant-loop-v : goal.invariant-loop-v
-invariant-loop-v l = record {
-  names : names_of l.index.keys ++ pieces l.width (l.names.count - l._v) l.rest ≡ pieces l.width l.names.count l.names.letters.items;
-  whole : length l.rest ≡ (l.names.count - l._v) * l.width;
-}
+abbrev pub invariant-loop-name : goal.invariant-loop-name
+invariant-loop-name l = names_of l.index.keys ≡ take l.name-index (names_of l.names)

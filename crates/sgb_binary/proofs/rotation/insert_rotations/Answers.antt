@@ -1,63 +1,34 @@
-use Rattle.std.proofs.Common.{◌≡◌, ◌++◌, ◌<◌, [], List, ℕ, length, get_or, subst, ap, sym, ◌∙◌, arith}
-use Rattle.std.proofs.lemmas.List.{get_or-map, length-map}
-use Rattle.std.proofs.lemmas.Result.{err_from_is_err_and}
-use Rattle.sgb_graph.specs.declared.builder.Builder.{Builder}
-use Rattle.sgb_graph.specs.Builder.{grown}
-use Rattle.sgb_graph.proofs.Inserting.{RefusesInsertions, LeftFrom, from_start, from_some, from_refused, from_end, from_n}
-use Rattle.sgb_plan.specs.declared.key.Key.{Key}
+use Rattle.std.proofs.Common.{List, length, map, sym, ap, subst, ◌∙◌, arith}
+use Rattle.std.proofs.lemmas.List.{length-map}
+use Rattle.sgb_graph.specs.Builder.{Inserts}
+use Rattle.sgb_graph.specs.Graph.{n_of}
 use Rattle.sgb_plan.specs.Key.{bytes_of}
-use Rattle.sgb_binary.specs.Rotation.{rotations_from, rotations_of, rotations}
-use Rattle.sgb_binary.proofs.Indexing.{names_of}
+use Rattle.sgb_binary.specs.Rotation.{rotations}
 use Rattle.sgb_binary.proofs.rotation.insert_rotations.Goals as goal
 
--- the name that is copied
-name_copied : (keys items : List Key) (v : ℕ) (d : Key) {cleared extended word : List ℕ} → items ≡ keys → v < length keys
-    → cleared ≡ [] → extended ≡ cleared ++ bytes_of (get_or items v d) → word ≡ extended → word ≡ get_or (names_of keys) v []
-name_copied keys items v d same h none copied is =
-    is
-    ∙ (copied
-    ∙ (ap (λ xs. xs ++ bytes_of (get_or items v d)) none
-    ∙ (ap (λ ks. bytes_of (get_or ks v d)) same ∙ sym (get_or-map bytes_of keys v d [] h))))
+pub insert_by_code-requires-clause-vertices : goal.insert_by_code-requires-clause-vertices
+insert_by_code-requires-clause-vertices c = ap (λ b. n_of b.graph) c.in_ok-reserve.ensures.same ∙ c.requires.vertices
 
-rotations_start : (b : Builder) (names : List (List ℕ)) → LeftFrom b (rotations names) b (rotations_from names) 0 (length names)
-rotations_start b names = from_start b (rotations_from names) (length names)
+pub insert_by_code-requires-clause-names : goal.insert_by_code-requires-clause-names
+insert_by_code-requires-clause-names c = record { width = c.args.width; short = c.if-width-lt64.true; names = c.requires.names; apart = c.requires.apart }
 
-pub loop-v-init : goal.loop-v-init
-loop-v-init c =
-    let names : List (List ℕ) = names_of c.args.index.now.keys in
-    subst (λ b. LeftFrom c.args.builder.now (rotations names) b (rotations_from names) 0 (length names)) (sym c.in_ok-reserve.ensures.same)
-    (rotations_start c.args.builder.now names)
+pub insert_by_name-requires-clause-vertices : goal.insert_by_name-requires-clause-vertices
+insert_by_name-requires-clause-vertices c =
+    omega
+    (arith, ap (λ b. n_of b.graph) c.in_ok-reserve.ensures.same, c.requires.vertices, ap (λ xs. length xs) c.in_ok-index.ensures.keys, length-map c.in_ok-index.index.keys bytes_of, length-map c.args.names.now bytes_of)
 
-pub insert_from-requires-clause-vertices : goal.insert_from-requires-clause-vertices
-insert_from-requires-clause-vertices c = from_n c.loop-v.invariant ∙ c.requires.vertices
+pub insert_by_name-requires-clause-few : goal.insert_by_name-requires-clause-few
+insert_by_name-requires-clause-few c =
+    omega
+    (arith, c.requires.few, ap (λ xs. length xs) c.in_ok-index.ensures.keys, length-map c.in_ok-index.index.keys bytes_of, length-map c.args.names.now bytes_of)
 
-pub returns-in_err-insert_from : goal.returns-in_err-insert_from
-returns-in_err-insert_from c =
-    let p = err_from_is_err_and c.from_residual-in_err-insert_from.result c.from_residual-in_err-insert_from.ensures.1 in
-    let keys : List Key = c.args.index.now.keys in
-    let names : List (List ℕ) = names_of keys in
-    let h : c.loop-v.v < length keys = omega (arith, ap (λ xs. length xs) c.as_slice-name-items.ensures.keys) in
-    let same : c.deref_mut.result.now ≡ get_or names c.loop-v.v [] =
-    name_copied keys c.as_slice-name-items.result.now c.loop-v.v _ c.as_slice-name-items.ensures.keys h c.clear.ensures.items
-    (c.in_ok-extend_from_slice.ensures.items ∙ ap (λ xs. c.clear.new.self.items ++ xs) (c.bytes.ensures ∙ c.name-item.is)) c.deref_mut.ensures.value in
-    let below : c.loop-v.v < length names = omega (arith, h, length-map keys bytes_of) in
-    rw (p.1, p.2)
-    (from_refused below c.loop-v.invariant
-    (subst (λ w. RefusesInsertions c.loop-v.builder (rotations_of names c.loop-v.v w) c.in_err-insert_from.field-0.0) same c.in_err-insert_from.ensures))
-
-pub loop-v-preserved : goal.loop-v-preserved
-loop-v-preserved c =
-    let keys : List Key = c.args.index.now.keys in
-    let names : List (List ℕ) = names_of keys in
-    let h : c.loop-v.v < length keys = omega (arith, ap (λ xs. length xs) c.as_slice-name-items.ensures.keys) in
-    let same : c.deref_mut.result.now ≡ get_or names c.loop-v.v [] =
-    name_copied keys c.as_slice-name-items.result.now c.loop-v.v _ c.as_slice-name-items.ensures.keys h c.clear.ensures.items
-    (c.in_ok-extend_from_slice.ensures.items ∙ ap (λ xs. c.clear.new.self.items ++ xs) (c.bytes.ensures ∙ c.name-item.is)) c.deref_mut.ensures.value in
-    let below : c.loop-v.v < length names = omega (arith, h, length-map keys bytes_of) in
-    from_some below c.loop-v.invariant (c.in_ok-insert_from.ensures ∙ ap (λ w. grown c.loop-v.builder (rotations_of names c.loop-v.v w)) same)
+pub returns-then-width-lt64 : goal.returns-then-width-lt64
+returns-then-width-lt64 c =
+    subst (λ b. Inserts b c.insert_by_code.new.builder (rotations (map bytes_of c.args.names.now)) c.insert_by_code.result) c.in_ok-reserve.ensures.same
+    c.insert_by_code.ensures
 
 pub returns : goal.returns
 returns c =
-    let keys : List Key = c.args.index.now.keys in
-    let all = ap (λ xs. length xs) c.as_slice-name-items.ensures.keys in
-    from_end (omega (arith, all, length-map keys bytes_of)) c.loop-v.invariant
+    subst (λ b. Inserts b c.insert_by_name.new.builder (rotations (map bytes_of c.args.names.now)) c.insert_by_name.result) c.in_ok-reserve.ensures.same
+    (subst (λ es. Inserts c.reserve.new.self c.insert_by_name.new.builder es c.insert_by_name.result) (ap rotations c.in_ok-index.ensures.keys)
+    c.insert_by_name.ensures)
