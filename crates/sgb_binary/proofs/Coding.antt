@@ -1,5 +1,5 @@
 -- Lemmas on the codes of names.
-use Rattle.std.proofs.Common.{◌≡◌, ◌≢◌, ◌<◌, ◌≤◌, ◌+◌, ◌-◌, ◌*◌, ◌^◌, ◌%◌, ◌==◌, ℕ, zero, suc, pos, List, [], ◌∷◌, ◌++◌, length, get_or, map, take, drop, codes, Bool, true, false, All, inl, inr, refl, sym, ap, ap₂, subst, ◌∙◌, arith}
+use Rattle.std.proofs.Common.{◌≡◌, ◌≢◌, ◌<◌, ◌≤◌, ◌+◌, ◌-◌, ◌*◌, ◌^◌, ◌%◌, ◌==◌, ℕ, suc, pos, List, [], ◌∷◌, ◌++◌, length, get_or, map, take, drop, codes, true, false, All, inl, inr, refl, sym, ap, ap₂, subst, ◌∙◌, arith}
 use Rattle.std.specs.Prelude.{position}
 use Rattle.std.specs.List.{flat_map, list_any, starts_with}
 use Rattle.std.specs.Option.{option_to_list}
@@ -7,7 +7,7 @@ use Rattle.std.specs.Cmp.Lexicographic.{pointwise}
 use Rattle.std.proofs.Math.Pow.{pow_mono}
 use Rattle.std.proofs.Math.Nat.{mul-add, mul_assoc, mul_comm, mul_left_comm, mod-eq_of_lt, pow-succ'}
 use Rattle.std.proofs.lemmas.Bool.{false≢true, cases_Bool, eq-eqb, ne_eqb}
-use Rattle.std.proofs.lemmas.List.{length-append, length-map, map-append, length-take-le, length-drop, take-append-drop, take_more, take_all, drop_more, at_drop_all, get_or-map, get_or-take}
+use Rattle.std.proofs.lemmas.List.{length-append, length-map, map-append, length-take-le, length-drop, take-append-drop, take_more, drop_more, at_drop_all, get_or-map, get_or-take}
 use Rattle.std.proofs.lemmas.List.Folds.{list_any_none}
 use Rattle.std.proofs.lemmas.List.Elements.{All-nil, All-cons, All-head, All-tail, All-append, All-map, All-take, All-drop}
 use Rattle.std.proofs.lemmas.Slice.Eq.{bytes_eq-Decides}

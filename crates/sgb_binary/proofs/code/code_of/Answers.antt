@@ -1,5 +1,4 @@
-use Rattle.std.proofs.Common.{◌≡◌, ◌<◌, ◌+◌, ◌-◌, ◌*◌, length, get_or, drop, ℕ, ap, sym, ◌∙◌, arith}
-use Rattle.sgb_binary.specs.Private.Code.{leaf, code_of}
+use Rattle.std.proofs.Common.{◌+◌, ◌-◌, ◌*◌, length, ap, sym, ◌∙◌, arith}
 use Rattle.sgb_binary.proofs.Coding.{code_fits, code_end, code_grown}
 use Rattle.sgb_binary.proofs.code.code_of.Goals as goal
 

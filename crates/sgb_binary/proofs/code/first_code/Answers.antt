@@ -1,4 +1,4 @@
-use Rattle.std.proofs.Common.{◌≡◌, ◌≤◌, ◌<◌, ◌+◌, ◌∷◌, [], take, drop, map, List, ℕ, ap, sym, refl, subst, ◌∙◌, arith}
+use Rattle.std.proofs.Common.{◌≡◌, ◌≤◌, ◌+◌, ◌∷◌, [], take, drop, map, List, ℕ, ap, sym, refl, ◌∙◌, arith}
 use Rattle.std.specs.Option.{option_to_list}
 use Rattle.sgb_binary.specs.Rotation.{tree_fronts}
 use Rattle.sgb_binary.specs.Private.Code.{code_of}

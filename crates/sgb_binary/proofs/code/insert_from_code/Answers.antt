@@ -1,12 +1,11 @@
-use Rattle.std.proofs.Common.{◌≡◌, ◌<◌, ◌+◌, ◌∷◌, [], List, ℕ, length, get_or, map, refl, subst, ap, sym, ◌∙◌, arith}
-use Rattle.std.specs.List.{flat_map}
+use Rattle.std.proofs.Common.{◌≡◌, ◌<◌, ◌+◌, [], List, ℕ, length, get_or, map, subst, ap, sym, ◌∙◌, arith}
 use Rattle.std.proofs.lemmas.List.{length-map}
 use Rattle.std.proofs.lemmas.Result.{err_from_is_err_and}
 use Rattle.sgb_graph.specs.Builder.{grown}
 use Rattle.sgb_graph.proofs.Inserting.{LeftFrom, RefusesInsertions, from_some, from_none, from_refused, from_end, from_n}
 use Rattle.sgb_plan.specs.Key.{bytes_of}
 use Rattle.sgb_binary.specs.Rotation.{rotations_at, rotations_of}
-use Rattle.sgb_binary.specs.Private.Code.{code_of, codes_of}
+use Rattle.sgb_binary.specs.Private.Code.{code_of}
 use Rattle.sgb_binary.proofs.Coding.{name_short, name_at, target_some, target_none}
 use Rattle.sgb_binary.proofs.code.insert_from_code.Goals as goal
 use Rattle.sgb_binary.proofs.code.insert_from_code.Goals.{in-Some+in_ok-insert, in_default}

@@ -1,4 +1,4 @@
-use Rattle.std.proofs.Common.{◌≡◌, length, get_or, map, []}
+use Rattle.std.proofs.Common.{length, map}
 use Rattle.sgb_graph.proofs.Inserting.{LeftFrom}
 use Rattle.sgb_plan.specs.Key.{bytes_of}
 use Rattle.sgb_binary.specs.Rotation.{rotations_at, rotations_of}

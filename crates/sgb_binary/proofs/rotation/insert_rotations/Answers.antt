@@ -1,4 +1,4 @@
-use Rattle.std.proofs.Common.{List, length, map, sym, ap, subst, ◌∙◌, arith}
+use Rattle.std.proofs.Common.{length, map, ap, subst, ◌∙◌, arith}
 use Rattle.std.proofs.lemmas.List.{length-map}
 use Rattle.sgb_graph.specs.Builder.{Inserts}
 use Rattle.sgb_graph.specs.Graph.{n_of}

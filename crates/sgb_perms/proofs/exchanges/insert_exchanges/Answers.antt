@@ -1,4 +1,4 @@
-use Rattle.std.proofs.Common.{sym, ap, subst, ◌∙◌}
+use Rattle.std.proofs.Common.{ap, subst, ◌∙◌}
 use Rattle.sgb_graph.specs.Builder.{Inserts}
 use Rattle.sgb_graph.specs.Graph.{n_of}
 use Rattle.sgb_perms.specs.Perms.{exchanges}
