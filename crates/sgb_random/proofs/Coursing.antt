@@ -2,7 +2,7 @@
 use Rattle.std.proofs.Common.{◌≡◌, ◌≤◌, ◌<◌, ◌+◌, ◌==◌, ◌&&◌, ℕ, ℤ, pos, negsuc, List, [], ◌∷◌, ◌++◌, length, get_or, set, map, Bool, true, false, not, int_le, int_lt, Result, Ok, Err, OnOk, refl, sym, ap, ap₂, subst, ◌∙◌, arith}
 use Rattle.std.specs.List.{list_any, position_or_len}
 use Rattle.std.proofs.lemmas.Bool.{ltb-true}
-use Rattle.std.proofs.lemmas.List.{length-map, map-append}
+use Rattle.std.proofs.lemmas.List.{length-map, length-set, length_push, map-append}
 use Rattle.std.proofs.lemmas.List.Elements.{All-append}
 use Rattle.sgb_flip.specs.Generator.{Generator, uniform}
 use Rattle.sgb_graph.specs.declared.builder.Builder.{Builder}
@@ -10,11 +10,11 @@ use Rattle.sgb_graph.specs.Builder.{Insertion, insertion, grown}
 use Rattle.sgb_plan.specs.Length.{drawn_length}
 use Rattle.sgb_random.specs.declared.progress.Progress.{Progress}
 use Rattle.sgb_random.specs.declared.spec.RandomSpec.{RandomSpec}
-use Rattle.sgb_random.specs.Random.{Course, joins, lowered, with_length, tried, attempted, size_of}
+use Rattle.sgb_random.specs.Random.{Course, joins, lowered, with_length, tried, attempted, size_of, wanted}
 use Rattle.sgb_random.specs.Private.Progress.{insertion_of, insertions_of, key_of, key_of_insertion, keys_of, IsIndexed, IsKept, IsWithin, with_len_at}
-use Rattle.sgb_random.specs.Private.Table.{holds, IsListed, IsNumbered}
-use Rattle.sgb_random.proofs.Joining.{any_key, place_key, keys-with_len_at, within-with_len_at, within_more, within_one}
-use Rattle.sgb_random.proofs.Placing.{holds_more, listed_by, numbered_put}
+use Rattle.sgb_random.specs.Private.Table.{holds, taken, HasRoom, IsListed, IsNumbered}
+use Rattle.sgb_random.proofs.Joining.{any_key, place_key, same_count, keys-with_len_at, within-with_len_at, within_more, within_one}
+use Rattle.sgb_random.proofs.Placing.{holds_more, listed_by, numbered_put, taken_put}
 
 -- a length was drawn, with which the insertions become these
 pub kept_drawn : {s : RandomSpec} {a : Builder} {k : Course} {p q : Progress} {w x : Generator} (low high : ℤ) (es : ℤ → List Insertion) (len : ℤ) → IsKept s a k p w → len ≡ (drawn_length low high w).len → q.made ≡ p.made + 1 → q.draws ≡ p.draws + (drawn_length low high w).draws → x ≡ (drawn_length low high w).rest → (int_lt s.multi (pos 0) ≡ true → (q.builder ≡ a) × (insertions_of q ≡ es len)) → (int_lt s.multi (pos 0) ≡ false → q.builder ≡ grown a (es len)) → IsKept s a (with_length low high k es) q x
@@ -81,6 +81,8 @@ indexed_drawn {s} {a} {k} {p} {q} i x indexed made draws builder edges pairs num
   };
   ends = indexed.ends;
   keys = λ once key. ap (holds key) pairs ∙ indexed.keys once key;
+  taken = λ once. ap taken pairs ∙ indexed.taken once;
+  room = λ once. subst (λ slots. wanted s < length slots) (sym pairs) (indexed.room once);
   numbers = λ shorter. numbered_same pairs (ap (λ v. v.items) numbers) (indexed.numbers shorter);
 }
 
@@ -129,6 +131,8 @@ indexed_same {s} {a} {k} {p} {q} indexed kept pairs numbers = record {
   kept = kept;
   ends = indexed.ends;
   keys = λ once key. ap (holds key) pairs ∙ indexed.keys once key;
+  taken = λ once. ap taken pairs ∙ indexed.taken once;
+  room = λ once. subst (λ slots. wanted s < length slots) (sym pairs) (indexed.room once);
   numbers = λ shorter. numbered_same pairs (ap (λ v. v.items) numbers) (indexed.numbers shorter);
 }
 
@@ -145,6 +149,14 @@ indexed_more {s} {a} {k} {p} {q} {w} {x} low high u v place indexed hu hv kept p
           let is = put once in
           ap (holds i) is.put
           ∙ (holds_more i key p.pairs (keys_of s k) place (indexed.keys once i) is.below is.free ∙ ap (list_any (λ j. i == j)) (sym keys));
+      taken = λ once.
+          let is = put once in
+          ap taken is.put
+          ∙ (taken_put p.pairs place (key + 1) is.below is.free (λ zero_is. omega (arith, zero_is))
+          ∙ (ap (λ n. n + 1) (indexed.taken once) ∙ sym (length_push k.insertions more)));
+      room = λ once.
+          let is = put once in
+          subst (λ n. wanted s < n) (sym (ap length is.put ∙ length-set p.pairs place (key + 1))) (indexed.room once);
       numbers = λ shorter.
           let once = below_le s.multi shorter in
           let is = put once in
@@ -163,8 +175,14 @@ indexed_lower {s} {a} {k} {p} {q} {w} {x} low high place indexed kept pairs numb
       kept = kept;
       ends = within-with_len_at (size_of s) k.insertions place len indexed.ends;
       keys = λ once i. ap (holds i) pairs ∙ (indexed.keys once i ∙ ap (list_any (λ j. i == j)) (sym keys));
+      taken = λ once. ap taken pairs ∙ (indexed.taken once ∙ sym (same_count k.insertions place len));
+      room = λ once. subst (λ slots. wanted s < length slots) (sym pairs) (indexed.room once);
       numbers = λ shorter. subst (IsNumbered q.pairs q.numbers.items) (sym keys) (numbered_same pairs (ap (λ v. v.items) numbers) (indexed.numbers shorter));
     }
+
+-- the table has room for one pair more
+pub room_is : {s : RandomSpec} {a : Builder} {k : Course} {p : Progress} {w : Generator} → IsIndexed s a k p w → length k.insertions < wanted s → int_le s.multi (pos 0) ≡ true → HasRoom p.pairs
+room_is indexed less once = omega (arith, less, indexed.taken once, indexed.room once)
 
 -- beside each number of a pair stands a place of the list
 pub places_are : {s : RandomSpec} {a : Builder} {k : Course} {p : Progress} {w : Generator} → IsIndexed s a k p w → length k.insertions ≤ 1000000 → int_lt s.multi (pos 0) ≡ true → IsListed p.pairs p.numbers.items (length p.edges.items)

@@ -1,11 +1,11 @@
 -- Lemmas on the table of the pairs.
-use Rattle.std.proofs.Common.{◌≡◌, ◌≢◌, ◌⊎◌, ◌<◌, ◌≤◌, ◌+◌, ◌==◌, ◌||◌, ℕ, zero, suc, List, [], ◌∷◌, ◌++◌, length, get_or, set, Bool, true, false, cond, Option, Some, None, IfSome, inl, inr, refl, sym, ap, ap₂, subst, ◌∙◌, arith}
+use Rattle.std.proofs.Common.{◌≡◌, ◌≢◌, ◌⊎◌, ◌<◌, ◌≤◌, ◌+◌, ◌==◌, ◌||◌, ℕ, zero, suc, List, [], ◌∷◌, ◌++◌, length, get_or, set, Bool, true, false, cond, inl, inr, refl, sym, ap, ap₂, subst, ◌∙◌, arith}
 use Rattle.std.specs.List.{list_any, position_or_len}
 use Rattle.std.proofs.lemmas.Bool.{cases_Bool, cases_lt, eq-eqb, ne_eqb}
 use Rattle.std.proofs.lemmas.Bool.Decides.{eqb_tells}
 use Rattle.std.proofs.lemmas.List.{get_or-set_same, get_or-set_other, get_or_default, get_or_past, set-get_or, length-set}
 use Rattle.std.proofs.lemmas.List.Folds.{list_any-append, list_any_at, list_any_none, position_or_len_push}
-use Rattle.sgb_random.specs.Private.Table.{first_place, holds, IsFree, IsPassed, IsTable, IsFirstOf, IsListed, IsNumbered, IsPlaceOf}
+use Rattle.sgb_random.specs.Private.Table.{first_place, holds, taken, HasRoom, IsFree, IsFull, IsPassed, IsTable, IsFirstOf, IsListed, IsNumbered, IsPlaceOf}
 
 -- ---- what stands in a table
 pub held_at : (key : ℕ) (slots : List ℕ) (q : ℕ) → q < length slots → get_or slots q 0 ≡ key + 1 → holds key slots ≡ true
@@ -61,9 +61,8 @@ place_at_once slots key from place is table found =
       absent = absent_at_once slots key place table first;
     }
 
-pub place_around : (slots : List ℕ) (key from : ℕ) (found : Option ℕ) → from ≡ first_place key (length slots) → IsPassed slots (key + 1) from (length slots) → IfSome found (λ place. IsFirstOf slots (key + 1) 0 place) → IfSome found (λ place. IsTable slots → IsPlaceOf slots key place)
-place_around slots key from None is passed first = tt
-place_around slots key from (Some place) is passed first = λ table.
+pub place_around : (slots : List ℕ) (key from place : ℕ) → from ≡ first_place key (length slots) → IsTable slots → IsPassed slots (key + 1) from (length slots) → IsFirstOf slots (key + 1) 0 place → IsPlaceOf slots key place
+place_around slots key from place is table passed first =
     let all : IsPassed slots (key + 1) (first_place key (length slots)) (length slots) = subst (λ i. IsPassed slots (key + 1) i (length slots)) is passed in
     record {
       below = first.below;
@@ -71,6 +70,31 @@ place_around slots key from (Some place) is passed first = λ table.
       behind = inr ((λ i low high. (all i low high).0), λ i low high. (first.passed i low high).0);
       absent = absent_around slots key place table all first;
     }
+
+-- ---- how many places are taken
+pub taken_free : (slots : List ℕ) → IsFree slots → taken slots ≡ 0
+unfolding taken
+taken_free [] free = refl
+taken_free (x ∷ xs) free = rw (eq-eqb x 0 (free 0)) (taken_free xs (λ place. free (suc place)))
+
+taken_full : (slots : List ℕ) → IsFull slots 0 (length slots) → taken slots ≡ length slots
+unfolding taken
+taken_full [] full = refl
+taken_full (x ∷ xs) full =
+    rw (ne_eqb x 0 (full 0 (omega arith) (omega arith)))
+    (omega (arith, taken_full xs (λ i low high. full (suc i) (omega arith) (omega arith))))
+
+pub has_room : (slots : List ℕ) (slot : ℕ) → HasRoom slots → IsPassed slots slot 0 (length slots) → ⊥
+has_room slots slot room passed = omega (arith, room, taken_full slots (λ i low high. (passed i low high).0))
+
+pub taken_put : (slots : List ℕ) (place slot : ℕ) → place < length slots → get_or slots place 0 ≡ 0 → slot ≢ 0 → taken (set slots place slot) ≡ taken slots + 1
+unfolding taken
+taken_put [] place slot below free some = absurd (omega arith)
+taken_put (x ∷ xs) zero slot below free some = rw (eq-eqb x 0 free, ne_eqb slot 0 some) (omega arith)
+taken_put (x ∷ xs) (suc place) slot below free some = elim (cases_Bool (x == 0)) [
+  | inl is ↦ rw is (taken_put xs place slot (omega arith) free some)
+  | inr other ↦ rw other (omega (arith, taken_put xs place slot (omega arith) free some))
+]
 
 -- ---- a number that is put at its place
 or_turned : (a b : Bool) → (a || b) ≡ (b || a)

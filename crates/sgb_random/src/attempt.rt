@@ -1,5 +1,5 @@
 //! One attempt: two vertices are drawn, and what comes of them.
-ghost use Rattle.std.specs.Prelude.{◌≡◌, ◌≤◌, ◌<◌, ◌+◌, ◌^◌, ◌∷◌, [], ◌++◌, ◌==◌, ◌&&◌, not, length, set, int_lt, pos, true, IfErr, OnOk};
+ghost use Rattle.std.specs.Prelude.{◌≡◌, ◌≤◌, ◌<◌, ◌+◌, ◌^◌, ◌∷◌, [], ◌++◌, ◌==◌, ◌&&◌, not, length, set, int_le, int_lt, pos, true, IfErr, OnOk};
 ghost use Rattle.std.specs.Int.{int_min};
 ghost use Rattle.sgb_flip.specs.Generator.{IsGenerator};
 ghost use Rattle.sgb_graph.specs.declared.builder.Builder.{Builder as Base};
@@ -17,7 +17,7 @@ ghost use Rattle.sgb_random.specs.Private.Progress.{
   key_of,
   with_len_at,
 };
-ghost use Rattle.sgb_random.specs.Private.Table.{IsListed};
+ghost use Rattle.sgb_random.specs.Private.Table.{HasRoom, IsListed};
 
 use crate::RandomSpec;
 use crate::ends::Ends;
@@ -40,6 +40,7 @@ pub(crate) fn attempt(
     requires ready { IsReady spec.now progress.old.builder progress.old.made }
     requires places { int_lt spec.now.multi (pos 0) ≡ true →
         IsListed progress.old.pairs progress.old.numbers.items (length progress.old.edges.items) }
+    requires room { int_le spec.now.multi (pos 0) ≡ true → HasRoom progress.old.pairs }
     requires draws { progress.old.draws < 2 ^ 40 }
     ensures ok { (a : Base) (c : Course) → IsIndexed spec.now a c progress.old flip.old →
         OnOk result (IsIndexed spec.now a (attempted spec.now c) progress.new flip.new) }
@@ -70,6 +71,7 @@ fn try_pair(
     requires ready { IsReady spec.now progress.old.builder progress.old.made }
     requires places { int_lt spec.now.multi (pos 0) ≡ true →
         IsListed progress.old.pairs progress.old.numbers.items (length progress.old.edges.items) }
+    requires room { int_le spec.now.multi (pos 0) ≡ true → HasRoom progress.old.pairs }
     requires draws { progress.old.draws < 2 ^ 41 }
     ensures ok { (a : Base) (c : Course) → IsIndexed spec.now a c progress.old flip.old →
         OnOk result (IsIndexed spec.now a (tried spec.now from to c) progress.new flip.new) }
@@ -87,7 +89,7 @@ fn try_pair(
         return insert(flip, spec, range, progress, from, to);
     }
     let key = key_of(spec.directed, from, to);
-    let (place, is_new) = progress.pairs.insert(key)?;
+    let (place, is_new) = progress.pairs.insert(key);
     if is_new {
         number(spec, progress, place);
         return insert(flip, spec, range, progress, from, to);

@@ -1,5 +1,5 @@
 //! Random graphs from a generator, and from a seed.
-ghost use Rattle.std.specs.Prelude.{◌≡◌, ◌≤◌, ◌<◌, ◌⊎◌, [], None, Ok, Err, IfOk, IfErr, OnOk, OnErr, int_lt, pos, true, length};
+ghost use Rattle.std.specs.Prelude.{◌≡◌, ◌≤◌, ◌<◌, ◌⊎◌, [], None, Ok, Err, IfOk, IfErr, OnOk, OnErr, int_le, int_lt, pos, true, length};
 ghost use Rattle.std.specs.Result.{IsErrOf};
 ghost use Rattle.sgb_flip.specs.Generator.{IsGenerator, after, seeded};
 ghost use Rattle.sgb_graph.specs.Builder.{grown};
@@ -82,6 +82,7 @@ fn start(alloc: Global, spec: &RandomSpec, seed: Seed) -> Result<Progress, Refus
     ensures builder { IfOk result (λ p. p.builder ≡ bare_builder spec.now seed) }
     ensures edges { IfOk result (λ p. p.edges.items ≡ []) }
     ensures pairs { IfOk result (λ p. IsFree p.pairs) }
+    ensures room { IfOk result (λ p. int_le spec.now.multi (pos 0) ≡ true → wanted spec.now < length p.pairs) }
     ensures numbers { IfOk result (λ p. int_lt spec.now.multi (pos 0) ≡ true →
         length p.numbers.items ≡ length p.pairs) }
     ensures made { IfOk result (λ p. p.made ≡ 0) }
@@ -96,9 +97,10 @@ fn start(alloc: Global, spec: &RandomSpec, seed: Seed) -> Result<Progress, Refus
     Progress::new(alloc, builder, edges, places, numbers)
 }
 
-// How many places the table of the pairs has: of three of them one at least stays free.
+// How many places the table of the pairs has: a third of them stays free.
 fn places(spec: &RandomSpec, m: u32) -> u32
     requires { m ≤ 1000000 }
+    ensures { int_le spec.now.multi (pos 0) ≡ true → m < result }
 {
     if repeats(*spec) { 0 } else { m + m / 2 + 1 }
 }

@@ -1,6 +1,7 @@
 //! The pairs that are joined.
 ghost use Rattle.std.specs.Prelude.{◌≡◌, ◌≤◌, ◌<◌, ◌+◌, ◌^◌, ℕ, set, length, get_or, not, IfOk, IfErr, IfSome, IfNone, if◌then◌else◌};
 ghost use Rattle.sgb_random.specs.Private.Table.{
+  HasRoom,
   IsFirstOf,
   IsFree,
   IsPassed,
@@ -50,33 +51,35 @@ impl Pairs {
 
     // Puts a number in where it is not in the table yet. Answers its place, and whether it is new there.
     #[inline]
-    pub(crate) fn insert(&mut self, key: u32) -> Result<(usize, bool), Refusal>
-        requires { key + 1 < 2 ^ 32 }
-        ensures is_new { IfOk result (λ found. found.1 ≡ not (holds key self.old)) }
-        ensures place { IfOk result (λ found. found.0 < length self.old) }
-        ensures here { IfOk result (λ found. get_or self.old found.0 0 ≡ (if found.1 then 0 else key + 1)) }
-        ensures put { IfOk result (λ found. self.new ≡ set self.old found.0 (key + 1)) }
-        ensures err { IfErr result (λ e. e ≡ Refusal.NoRoom) }
+    pub(crate) fn insert(&mut self, key: u32) -> (usize, bool)
+        requires key { key + 1 < 2 ^ 32 }
+        requires room { HasRoom self.old }
+        ensures is_new { result.1 ≡ not (holds key self.old) }
+        ensures place { result.0 < length self.old }
+        ensures here { get_or self.old result.0 0 ≡ (if result.1 then 0 else key + 1) }
+        ensures put { self.new ≡ set self.old result.0 (key + 1) }
     {
-        let Some(place) = place_of(&self.slots, key) else {
-            return Err(Refusal::NoRoom);
-        };
+        let place = place_of(&self.slots, key);
         let is_new = self.slots[place] == 0;
         self.slots[place] = key + 1;
-        Ok((place, is_new))
+        (place, is_new)
     }
 }
 
 // The place of a number, or the free one that it is to take.
 #[inline]
-fn place_of(slots: &[u32], key: u32) -> Option<usize>
+fn place_of(slots: &[u32], key: u32) -> usize
     requires key { key + 1 < 2 ^ 32 }
-    requires few { length slots.now ≤ 2 ^ 32 }
-    ensures { IfSome result (λ place. IsTable slots.now → IsPlaceOf slots.now key place) }
+    requires table { IsTable slots.now }
+    requires room { HasRoom slots.now }
+    ensures { IsPlaceOf slots.now key result }
 {
-    match find(slots, first_place(slots.len(), key), key + 1) {
-        Some(place) => Some(place),
-        None => find(slots, 0, key + 1),
+    if let Some(place) = find(slots, first_place(slots.len(), key), key + 1) {
+        return place;
+    }
+    match find(slots, 0, key + 1) {
+        Some(place) => place,
+        None => unreachable!(),
     }
 }
 

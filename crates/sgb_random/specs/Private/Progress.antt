@@ -13,8 +13,8 @@ use Rattle.sgb_plan.specs.Plan.{no_letters, with_named}
 use Rattle.sgb_random.specs.declared.progress.Edge.{Edge}
 use Rattle.sgb_random.specs.declared.progress.Progress.{Progress}
 use Rattle.sgb_random.specs.declared.spec.RandomSpec.{RandomSpec}
-use Rattle.sgb_random.specs.Random.{Course, numbered, numbers_each, random_id, size_of}
-use Rattle.sgb_random.specs.Private.Table.{holds, IsFree, IsNumbered}
+use Rattle.sgb_random.specs.Random.{Course, numbered, numbers_each, random_id, size_of, wanted}
+use Rattle.sgb_random.specs.Private.Table.{holds, taken, IsFree, IsNumbered}
 
 abbrev pub insertion_of : Edge → Insertion
 insertion_of e = insertion e.from e.to e.len
@@ -56,6 +56,8 @@ pub record IsIndexed (s : RandomSpec) (a : Builder) (c : Course) (p : Progress) 
   pub kept : IsKept s a c p w
   pub ends : All (IsWithin (size_of s)) c.insertions
   pub keys : int_le s.multi (pos 0) ≡ true → (key : ℕ) → holds key p.pairs ≡ list_any (λ k. key == k) (keys_of s c)
+  pub taken : int_le s.multi (pos 0) ≡ true → taken p.pairs ≡ length c.insertions
+  pub room : int_le s.multi (pos 0) ≡ true → wanted s < length p.pairs
   pub numbers : int_lt s.multi (pos 0) ≡ true → IsNumbered p.pairs p.numbers.items (keys_of s c)
 
 -- a builder with the vertices and nothing else
@@ -69,6 +71,7 @@ pub record IsFresh (s : RandomSpec) (p : Progress) (w : Generator) : Type 0 wher
   pub bare : IsBare s p.builder
   pub no_edges : p.edges.items ≡ []
   pub no_pairs : IsFree p.pairs
+  pub room : int_le s.multi (pos 0) ≡ true → wanted s < length p.pairs
   pub numbers : int_lt s.multi (pos 0) ≡ true → length p.numbers.items ≡ length p.pairs
   pub none_made : p.made ≡ 0
   pub no_draws : p.draws ≡ 0

@@ -1,5 +1,5 @@
 -- The table of the pairs that are joined: where a number is looked for, and what stands at the places.
-use Rattle.std.specs.Prelude.{◌≡◌, ◌≢◌, ◌⊎◌, ◌+◌, ◌*◌, ◌/◌, ◌%◌, ◌^◌, ◌<◌, ◌≤◌, ◌==◌, ℕ, List, length, get_or, Bool, false}
+use Rattle.std.specs.Prelude.{◌≡◌, ◌≢◌, ◌⊎◌, ◌+◌, ◌*◌, ◌/◌, ◌%◌, ◌^◌, ◌<◌, ◌≤◌, ◌==◌, ℕ, List, [], ◌∷◌, length, get_or, Bool, false, cond}
 use Rattle.std.specs.List.{list_any, position_or_len}
 
 -- Of so many places, the one where a number is looked for first.
@@ -42,6 +42,15 @@ pub record IsPlaceOf (slots : List ℕ) (key place : ℕ) : Type 0 where
   pub here : (get_or slots place 0 ≡ 0) ⊎ (get_or slots place 0 ≡ key + 1)
   pub behind : IsBehind slots (first_place key (length slots)) place
   pub absent : get_or slots place 0 ≡ 0 → holds key slots ≡ false
+
+-- how many places are taken
+unfoldable pub taken : List ℕ → ℕ
+taken [] = 0
+taken (slot ∷ slots) = cond (slot == 0) (taken slots) (1 + taken slots)
+
+-- a place is free
+abbrev pub HasRoom : List ℕ → Type 0
+HasRoom slots = taken slots < length slots
 
 -- all places are free
 abbrev pub IsFree : List ℕ → Type 0

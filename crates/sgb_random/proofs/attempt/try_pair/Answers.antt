@@ -34,7 +34,7 @@ returns-then-repeats-clause-ok c = λ a k indexed.
     (c.insert.ensures.ok a k indexed.kept)
 
 pub number-requires-clause-place : goal.number-requires-clause-place
-number-requires-clause-place c = λ shorter. omega (arith, (c.requires.places shorter).count, c.in_ok-place.ensures.place)
+number-requires-clause-place c = λ shorter. omega (arith, (c.requires.places shorter).count, c.insert-place.ensures.place)
 
 pub number-requires-clause-few : goal.number-requires-clause-few
 number-requires-clause-few c = λ shorter. (c.requires.places shorter).few
@@ -47,11 +47,11 @@ returns-then-is_new-clause-ok c = λ a k indexed.
     let u = c.args.from in
     let v = c.args.to in
     let key = c.key_of-key.result in
-    let place = c.in_ok-place.place in
+    let place = c.insert-place.result.0 in
     let n = c.number.ensures in
     let more = c.insert-then-is_new in
     let once : int_le s.multi (pos 0) ≡ true = not_false (int_le s.multi (pos 0)) (sym c.repeats.ensures ∙ c.if-repeats.false) in
-    let absent : holds key p.pairs ≡ false = not_true (holds key p.pairs) (sym c.in_ok-place.ensures.is_new ∙ c.if-is_new.true) in
+    let absent : holds key p.pairs ≡ false = not_true (holds key p.pairs) (sym c.insert-place.ensures.is_new ∙ c.if-is_new.true) in
     on_ok_both more.result
     (more.ensures.ok a k (kept_same indexed.kept n.made n.draws n.builder (ap (λ v. map insertion_of v.items) n.edges)))
     (on_ok_both {R = (more.new.progress.pairs ≡ c.number.new.progress.pairs) × (more.new.progress.numbers ≡ c.number.new.progress.numbers)} more.result more.ensures.pairs more.ensures.numbers (λ pairs numbers. (pairs, numbers)))
@@ -62,24 +62,24 @@ returns-then-is_new-clause-ok c = λ a k indexed.
     (sym (found_is u v key indexed c.requires.few c.requires.from c.requires.to c.key_of-key.ensures once) ∙ absent)))
     (indexed_more r.min r.max u v place indexed c.requires.from c.requires.to kept
     (λ is. subst (λ x. IsPut p.pairs x place more.new.progress.pairs) c.key_of-key.ensures (record {
-      below = c.in_ok-place.ensures.place;
-      free = c.in_ok-place.ensures.here ∙ ap (λ b. if b then 0 else key + 1) c.if-is_new.true;
+      below = c.insert-place.ensures.place;
+      free = c.insert-place.ensures.here ∙ ap (λ b. if b then 0 else key + 1) c.if-is_new.true;
       absent = absent;
-      put = same.0 ∙ (n.pairs ∙ c.in_ok-place.ensures.put);
+      put = same.0 ∙ (n.pairs ∙ c.insert-place.ensures.put);
     }))
     (λ shorter. ap (λ v. v.items) same.1 ∙ n.numbers shorter)))
 
 pub lower-requires-clause-place : goal.lower-requires-clause-place
 lower-requires-clause-place c =
     let listed = c.requires.places (sym c.shortens.ensures ∙ c.if-shortens.true) in
-    let held : get_or c.args.progress.now.pairs c.in_ok-place.place 0 ≡ c.key_of-key.result + 1 =
-    c.in_ok-place.ensures.here ∙ ap (λ b. if b then 0 else c.key_of-key.result + 1) c.if-is_new.false in
-    let below : c.in_ok-place.place < length c.args.progress.now.numbers.items = omega (arith, listed.count, c.in_ok-place.ensures.place) in
+    let held : get_or c.args.progress.now.pairs c.insert-place.result.0 0 ≡ c.key_of-key.result + 1 =
+    c.insert-place.ensures.here ∙ ap (λ b. if b then 0 else c.key_of-key.result + 1) c.if-is_new.false in
+    let below : c.insert-place.result.0 < length c.args.progress.now.numbers.items = omega (arith, listed.count, c.insert-place.ensures.place) in
     omega (
       arith,
-      listed.below c.in_ok-place.place (λ free. let wrong : 0 ≡ c.key_of-key.result + 1 = sym free ∙ held in omega arith),
+      listed.below c.insert-place.result.0 (λ free. let wrong : 0 ≡ c.key_of-key.result + 1 = sym free ∙ held in omega arith),
       c.index.ensures,
-      get_or_default c.args.progress.now.numbers.items c.in_ok-place.place 0 c.index.result.now below,
+      get_or_default c.args.progress.now.numbers.items c.insert-place.result.0 0 c.index.result.now below,
     )
 
 pub returns-then-shortens-clause-ok : goal.returns-then-shortens-clause-ok
@@ -90,19 +90,19 @@ returns-then-shortens-clause-ok c = λ a k indexed.
     let u = c.args.from in
     let v = c.args.to in
     let key = c.key_of-key.result in
-    let place = c.in_ok-place.place in
+    let place = c.insert-place.result.0 in
     let once : int_le s.multi (pos 0) ≡ true = not_false (int_le s.multi (pos 0)) (sym c.repeats.ensures ∙ c.if-repeats.false) in
     let shorter = sym c.shortens.ensures ∙ c.if-shortens.true in
-    let present : holds key p.pairs ≡ true = not_false (holds key p.pairs) (sym c.in_ok-place.ensures.is_new ∙ c.if-is_new.false) in
-    let held : get_or p.pairs place 0 ≡ key + 1 = c.in_ok-place.ensures.here ∙ ap (λ b. if b then 0 else key + 1) c.if-is_new.false in
-    let below : place < length p.numbers.items = omega (arith, (c.requires.places shorter).count, c.in_ok-place.ensures.place) in
+    let present : holds key p.pairs ≡ true = not_false (holds key p.pairs) (sym c.insert-place.ensures.is_new ∙ c.if-is_new.false) in
+    let held : get_or p.pairs place 0 ≡ key + 1 = c.insert-place.ensures.here ∙ ap (λ b. if b then 0 else key + 1) c.if-is_new.false in
+    let below : place < length p.numbers.items = omega (arith, (c.requires.places shorter).count, c.insert-place.ensures.place) in
     let listed : c.index.result.now ≡ position_or_len (joins s.directed u v) k.insertions =
     c.index.ensures
     ∙ (get_or_default p.numbers.items place c.index.result.now 0 below
-    ∙ place_is u v key indexed c.requires.few c.requires.from c.requires.to c.key_of-key.ensures once place shorter c.in_ok-place.ensures.place held) in
+    ∙ place_is u v key indexed c.requires.few c.requires.from c.requires.to c.key_of-key.ensures once place shorter c.insert-place.ensures.place held) in
     let lower = indexed_lower r.min r.max c.index.result.now indexed
     (c.lower.ensures.ok s a k shorter (kept_same indexed.kept refl refl refl refl))
-    (c.lower.ensures.pairs ∙ (c.in_ok-place.ensures.put ∙ put_again key p.pairs place held)) c.lower.ensures.numbers in
+    (c.lower.ensures.pairs ∙ (c.insert-place.ensures.put ∙ put_again key p.pairs place held)) c.lower.ensures.numbers in
     subst (λ (x : Course). IsIndexed s a x c.lower.new.progress c.lower.new.flip)
     (ap₂ (λ low high. with_length low high k (λ len. with_len_at k.insertions c.index.result.now len)) c.requires.range.0 c.requires.range.1
     ∙ (with_length_same s.min s.max k (λ len. with_len_at k.insertions c.index.result.now len) (λ len. lowered s.directed u v len k.insertions)
@@ -120,10 +120,10 @@ returns-else-shortens-clause-ok c = λ a k indexed.
     let v = c.args.to in
     let key = c.key_of-key.result in
     let once : int_le s.multi (pos 0) ≡ true = not_false (int_le s.multi (pos 0)) (sym c.repeats.ensures ∙ c.if-repeats.false) in
-    let present : holds key p.pairs ≡ true = not_false (holds key p.pairs) (sym c.in_ok-place.ensures.is_new ∙ c.if-is_new.false) in
-    let held : get_or p.pairs c.in_ok-place.place 0 ≡ key + 1 = c.in_ok-place.ensures.here ∙ ap (λ b. if b then 0 else key + 1) c.if-is_new.false in
-    subst (λ (x : Course). IsIndexed s a x (record p { pairs = c.insert-2.new.self }) c.args.flip.now)
+    let present : holds key p.pairs ≡ true = not_false (holds key p.pairs) (sym c.insert-place.ensures.is_new ∙ c.if-is_new.false) in
+    let held : get_or p.pairs c.insert-place.result.0 0 ≡ key + 1 = c.insert-place.ensures.here ∙ ap (λ b. if b then 0 else key + 1) c.if-is_new.false in
+    subst (λ (x : Course). IsIndexed s a x (record p { pairs = c.insert-place.new.self }) c.args.flip.now)
     (sym (tried_skipped s u v k (sym c.is_barred.ensures ∙ c.if-is_barred.false) once
     (sym (found_is u v key indexed c.requires.few c.requires.from c.requires.to c.key_of-key.ensures once) ∙ present)
     (sym c.shortens.ensures ∙ c.if-shortens.false)))
-    (indexed_same indexed (kept_same indexed.kept refl refl refl refl) (c.in_ok-place.ensures.put ∙ put_again key p.pairs c.in_ok-place.place held) refl)
+    (indexed_same indexed (kept_same indexed.kept refl refl refl refl) (c.insert-place.ensures.put ∙ put_again key p.pairs c.insert-place.result.0 held) refl)

@@ -22,6 +22,7 @@ draw_graph-requires-clause-fresh c =
       bare = bare_is c.args.spec.now c.args.seed fresh.builder;
       no_edges = fresh.edges;
       no_pairs = fresh.pairs;
+      room = fresh.room;
       numbers = fresh.numbers;
       none_made = fresh.made;
       no_draws = fresh.draws;
