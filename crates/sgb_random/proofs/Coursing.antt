@@ -1,8 +1,8 @@
 -- Lemmas on what comes of an attempt.
-use Rattle.std.proofs.Common.{◌≡◌, ◌≤◌, ◌<◌, ◌+◌, ◌==◌, ◌&&◌, ℕ, ℤ, pos, negsuc, List, [], ◌∷◌, ◌++◌, length, Bool, true, false, not, int_le, int_lt, Result, Ok, Err, OnOk, refl, sym, ap, ap₂, ◌∙◌, arith}
+use Rattle.std.proofs.Common.{◌≡◌, ◌≤◌, ◌<◌, ◌+◌, ◌==◌, ◌&&◌, ℕ, ℤ, pos, negsuc, List, [], ◌∷◌, ◌++◌, length, get_or, set, map, Bool, true, false, not, int_le, int_lt, Result, Ok, Err, OnOk, refl, sym, ap, ap₂, subst, ◌∙◌, arith}
 use Rattle.std.specs.List.{list_any, position_or_len}
 use Rattle.std.proofs.lemmas.Bool.{ltb-true}
-use Rattle.std.proofs.lemmas.List.{length-map, map-append}
+use Rattle.std.proofs.lemmas.List.{length-map, length-set, length_push, map-append}
 use Rattle.std.proofs.lemmas.List.Elements.{All-append}
 use Rattle.sgb_flip.specs.Generator.{Generator, uniform}
 use Rattle.sgb_graph.specs.declared.builder.Builder.{Builder}
@@ -10,9 +10,11 @@ use Rattle.sgb_graph.specs.Builder.{Insertion, insertion, grown}
 use Rattle.sgb_plan.specs.Length.{drawn_length}
 use Rattle.sgb_random.specs.declared.progress.Progress.{Progress}
 use Rattle.sgb_random.specs.declared.spec.RandomSpec.{RandomSpec}
-use Rattle.sgb_random.specs.Random.{Course, joins, lowered, with_length, tried, attempted, size_of}
-use Rattle.sgb_random.specs.Private.Progress.{insertion_of, insertions_of, key_of, key_of_insertion, IsIndexed, IsKept, IsWithin, with_len_at}
-use Rattle.sgb_random.proofs.Joining.{any_key, place_key, keys-with_len_at, within-with_len_at, within_more, within_one}
+use Rattle.sgb_random.specs.Random.{Course, joins, lowered, with_length, tried, attempted, size_of, wanted}
+use Rattle.sgb_random.specs.Private.Progress.{insertion_of, insertions_of, key_of, key_of_insertion, keys_of, IsIndexed, IsKept, IsWithin, with_len_at}
+use Rattle.sgb_random.specs.Private.Table.{holds, taken, HasRoom, IsListed, IsNumbered}
+use Rattle.sgb_random.proofs.Joining.{any_key, place_key, same_count, keys-with_len_at, within-with_len_at, within_more, within_one}
+use Rattle.sgb_random.proofs.Placing.{holds_more, listed_by, numbered_put, taken_put}
 
 -- a length was drawn, with which the insertions become these
 pub kept_drawn : {s : RandomSpec} {a : Builder} {k : Course} {p q : Progress} {w x : Generator} (low high : ℤ) (es : ℤ → List Insertion) (len : ℤ) → IsKept s a k p w → len ≡ (drawn_length low high w).len → q.made ≡ p.made + 1 → q.draws ≡ p.draws + (drawn_length low high w).draws → x ≡ (drawn_length low high w).rest → (int_lt s.multi (pos 0) ≡ true → (q.builder ≡ a) × (insertions_of q ≡ es len)) → (int_lt s.multi (pos 0) ≡ false → q.builder ≡ grown a (es len)) → IsKept s a (with_length low high k es) q x
@@ -63,9 +65,13 @@ pub attempted_is : (s : RandomSpec) (k : Course) (n u v i : ℕ) (g w x : Genera
 unfolding attempted
 attempted_is s k n u v i g w x g_is n_is u_is w_is v_is x_is i_is = rw (u_is, v_is, x_is, i_is, w_is, n_is, g_is) refl
 
+numbered_same : {slots rows numbers marks keys : List ℕ} → slots ≡ rows → numbers ≡ marks → IsNumbered rows marks keys → IsNumbered slots numbers keys
+numbered_same {slots} {rows} {numbers} {marks} {keys} pairs beside numbered =
+    subst (λ xs. IsNumbered xs numbers keys) (sym pairs) (subst (λ xs. IsNumbered rows xs keys) (sym beside) numbered)
+
 -- draws change nothing else
-pub indexed_drawn : {s : RandomSpec} {a : Builder} {k : Course} {p q : Progress} {w : Generator} (i : ℕ) (x : Generator) → IsIndexed s a k p w → q.made ≡ p.made → q.draws ≡ p.draws + i → q.builder ≡ p.builder → insertions_of q ≡ insertions_of p → q.pairs ≡ p.pairs → IsIndexed s a (record { insertions = k.insertions; made = k.made; draws = k.draws + i; rest = x }) q x
-indexed_drawn {s} {a} {k} {p} {q} i x indexed made draws builder edges pairs = record {
+pub indexed_drawn : {s : RandomSpec} {a : Builder} {k : Course} {p q : Progress} {w : Generator} (i : ℕ) (x : Generator) → IsIndexed s a k p w → q.made ≡ p.made → q.draws ≡ p.draws + i → q.builder ≡ p.builder → insertions_of q ≡ insertions_of p → q.pairs ≡ p.pairs → q.numbers ≡ p.numbers → IsIndexed s a (record { insertions = k.insertions; made = k.made; draws = k.draws + i; rest = x }) q x
+indexed_drawn {s} {a} {k} {p} {q} i x indexed made draws builder edges pairs numbers = record {
   kept = record {
     made = made ∙ indexed.kept.made;
     draws = draws ∙ ap (λ n. n + i) indexed.kept.draws;
@@ -74,20 +80,41 @@ indexed_drawn {s} {a} {k} {p} {q} i x indexed made draws builder edges pairs = r
     inserted = λ longer. builder ∙ indexed.kept.inserted longer;
   };
   ends = indexed.ends;
-  keys = λ once. ap (λ is. is.keys) pairs ∙ indexed.keys once;
+  keys = λ once key. ap (holds key) pairs ∙ indexed.keys once key;
+  taken = λ once. ap taken pairs ∙ indexed.taken once;
+  room = λ once. subst (λ slots. wanted s < length slots) (sym pairs) (indexed.room once);
+  numbers = λ shorter. numbered_same pairs (ap (λ v. v.items) numbers) (indexed.numbers shorter);
 }
 
 -- ---- the numbers of the pairs
 module _ {s : RandomSpec} {a : Builder} {k : Course} {p : Progress} {w : Generator} (u v key : ℕ) (indexed : IsIndexed s a k p w) (few : size_of s ≤ 65535) (hu : u < size_of s) (hv : v < size_of s) (is : key ≡ key_of s.directed u v) (once : int_le s.multi (pos 0) ≡ true) where
-  pub found_is : list_any (λ i. key == i) p.pairs.keys ≡ list_any (joins s.directed u v) k.insertions
+  pub found_is : holds key p.pairs ≡ list_any (joins s.directed u v) k.insertions
   found_is =
-      ap₂ (λ x is. list_any (λ i. x == i) is) is (indexed.keys once)
+      indexed.keys once key
+      ∙ ap (λ x. list_any (λ i. x == i) (keys_of s k)) is
       ∙ any_key s.directed u v k.insertions (omega arith) (omega arith) (within_more (size_of s) 65536 k.insertions (omega arith) indexed.ends)
 
-  pub place_is : position_or_len (λ i. key == i) p.pairs.keys ≡ position_or_len (joins s.directed u v) k.insertions
-  place_is =
-      ap₂ (λ x is. position_or_len (λ i. x == i) is) is (indexed.keys once)
+  pub place_is : (place : ℕ) → int_lt s.multi (pos 0) ≡ true → place < length p.pairs → get_or p.pairs place 0 ≡ key + 1 → get_or p.numbers.items place 0 ≡ position_or_len (joins s.directed u v) k.insertions
+  place_is place shorter below held =
+      (indexed.numbers shorter).places key place below held
+      ∙ ap (λ x. position_or_len (λ i. x == i) (keys_of s k)) is
       ∙ place_key s.directed u v k.insertions (omega arith) (omega arith) (within_more (size_of s) 65536 k.insertions (omega arith) indexed.ends)
+
+pub below_le : (z : ℤ) → int_lt z (pos 0) ≡ true → int_le z (pos 0) ≡ true
+below_le (pos n) is = absurd (omega (arith, ltb-true n 0 is))
+below_le (negsuc n) is = refl
+
+listed_count : {s : RandomSpec} {a : Builder} {k : Course} {p : Progress} {w : Generator} → IsIndexed s a k p w → int_lt s.multi (pos 0) ≡ true → length p.edges.items ≡ length (keys_of s k)
+listed_count {s} {a} {k} {p} {w} indexed shorter =
+    sym (length-map p.edges.items insertion_of)
+    ∙ (ap length (indexed.kept.listed shorter).1 ∙ sym (length-map k.insertions (key_of_insertion s.directed)))
+
+-- a new number is put at a free place
+pub record IsPut (slots : List ℕ) (key place : ℕ) (rows : List ℕ) : Type 0 where
+  pub below : place < length slots
+  pub free : get_or slots place 0 ≡ 0
+  pub absent : holds key slots ≡ false
+  pub put : rows ≡ set slots place (key + 1)
 
 -- other numbers of pairs change nothing of what is kept
 pub kept_same : {s : RandomSpec} {a : Builder} {k : Course} {p q : Progress} {w : Generator} → IsKept s a k p w → q.made ≡ p.made → q.draws ≡ p.draws → q.builder ≡ p.builder → insertions_of q ≡ insertions_of p → IsKept s a k q w
@@ -99,41 +126,70 @@ kept_same kept made draws builder edges = record {
   inserted = λ longer. builder ∙ kept.inserted longer;
 }
 
-pub indexed_same : {s : RandomSpec} {a : Builder} {k : Course} {p q : Progress} {w : Generator} → IsIndexed s a k p w → IsKept s a k q w → q.pairs.keys ≡ p.pairs.keys → IsIndexed s a k q w
-indexed_same indexed kept keys = record { kept = kept; ends = indexed.ends; keys = λ once. keys ∙ indexed.keys once }
+pub indexed_same : {s : RandomSpec} {a : Builder} {k : Course} {p q : Progress} {w : Generator} → IsIndexed s a k p w → IsKept s a k q w → q.pairs ≡ p.pairs → q.numbers ≡ p.numbers → IsIndexed s a k q w
+indexed_same {s} {a} {k} {p} {q} indexed kept pairs numbers = record {
+  kept = kept;
+  ends = indexed.ends;
+  keys = λ once key. ap (holds key) pairs ∙ indexed.keys once key;
+  taken = λ once. ap taken pairs ∙ indexed.taken once;
+  room = λ once. subst (λ slots. wanted s < length slots) (sym pairs) (indexed.room once);
+  numbers = λ shorter. numbered_same pairs (ap (λ v. v.items) numbers) (indexed.numbers shorter);
+}
 
-pub indexed_more : {s : RandomSpec} {a : Builder} {k : Course} {p q : Progress} {w x : Generator} (low high : ℤ) (u v : ℕ) → IsIndexed s a k p w → u < size_of s → v < size_of s → IsKept s a (with_length low high k (λ len. k.insertions ++ insertion u v len ∷ [])) q x → (int_le s.multi (pos 0) ≡ true → q.pairs.keys ≡ p.pairs.keys ++ key_of s.directed u v ∷ []) → IsIndexed s a (with_length low high k (λ len. k.insertions ++ insertion u v len ∷ [])) q x
+pub indexed_more : {s : RandomSpec} {a : Builder} {k : Course} {p q : Progress} {w x : Generator} (low high : ℤ) (u v place : ℕ) → IsIndexed s a k p w → u < size_of s → v < size_of s → IsKept s a (with_length low high k (λ len. k.insertions ++ insertion u v len ∷ [])) q x → (int_le s.multi (pos 0) ≡ true → IsPut p.pairs (key_of s.directed u v) place q.pairs) → (int_lt s.multi (pos 0) ≡ true → q.numbers.items ≡ set p.numbers.items place (length p.edges.items)) → IsIndexed s a (with_length low high k (λ len. k.insertions ++ insertion u v len ∷ [])) q x
 unfolding with_length
-indexed_more {s} {a} {k} {p} {q} {w} {x} low high u v indexed hu hv kept keys =
+indexed_more {s} {a} {k} {p} {q} {w} {x} low high u v place indexed hu hv kept put numbers =
     let more = insertion u v (drawn_length low high k.rest).len in
+    let key = key_of s.directed u v in
+    let keys : map (key_of_insertion s.directed) (k.insertions ++ more ∷ []) ≡ keys_of s k ++ key ∷ [] = map-append (key_of_insertion s.directed) k.insertions (more ∷ []) in
     record {
       kept = kept;
       ends = All-append (IsWithin (size_of s)) k.insertions (more ∷ []) indexed.ends (within_one (size_of s) more (hu, hv));
-      keys = λ once.
-          keys once
-          ∙ (ap (λ is. is ++ key_of s.directed u v ∷ []) (indexed.keys once) ∙ sym (map-append (key_of_insertion s.directed) k.insertions (more ∷ [])));
+      keys = λ once i.
+          let is = put once in
+          ap (holds i) is.put
+          ∙ (holds_more i key p.pairs (keys_of s k) place (indexed.keys once i) is.below is.free ∙ ap (list_any (λ j. i == j)) (sym keys));
+      taken = λ once.
+          let is = put once in
+          ap taken is.put
+          ∙ (taken_put p.pairs place (key + 1) is.below is.free (λ zero_is. omega (arith, zero_is))
+          ∙ (ap (λ n. n + 1) (indexed.taken once) ∙ sym (length_push k.insertions more)));
+      room = λ once.
+          let is = put once in
+          subst (λ n. wanted s < n) (sym (ap length is.put ∙ length-set p.pairs place (key + 1))) (indexed.room once);
+      numbers = λ shorter.
+          let once = below_le s.multi shorter in
+          let is = put once in
+          let count : length p.edges.items ≡ length (keys_of s k) = listed_count indexed shorter in
+          subst (IsNumbered q.pairs q.numbers.items) (sym keys)
+          (numbered_same is.put (numbers shorter ∙ ap (set p.numbers.items place) count)
+          (numbered_put p.pairs p.numbers.items (keys_of s k) key place (indexed.keys once) (indexed.numbers shorter) is.below is.absent));
     }
 
-pub indexed_lower : {s : RandomSpec} {a : Builder} {k : Course} {p q : Progress} {w x : Generator} (low high : ℤ) (place : ℕ) → IsIndexed s a k p w → IsKept s a (with_length low high k (λ len. with_len_at k.insertions place len)) q x → q.pairs.keys ≡ p.pairs.keys → IsIndexed s a (with_length low high k (λ len. with_len_at k.insertions place len)) q x
+pub indexed_lower : {s : RandomSpec} {a : Builder} {k : Course} {p q : Progress} {w x : Generator} (low high : ℤ) (place : ℕ) → IsIndexed s a k p w → IsKept s a (with_length low high k (λ len. with_len_at k.insertions place len)) q x → q.pairs ≡ p.pairs → q.numbers ≡ p.numbers → IsIndexed s a (with_length low high k (λ len. with_len_at k.insertions place len)) q x
 unfolding with_length
-indexed_lower {s} {a} {k} {p} {q} {w} {x} low high place indexed kept keys =
+indexed_lower {s} {a} {k} {p} {q} {w} {x} low high place indexed kept pairs numbers =
     let len = (drawn_length low high k.rest).len in
+    let keys : map (key_of_insertion s.directed) (with_len_at k.insertions place len) ≡ keys_of s k = keys-with_len_at s.directed k.insertions place len in
     record {
       kept = kept;
       ends = within-with_len_at (size_of s) k.insertions place len indexed.ends;
-      keys = λ once. keys ∙ (indexed.keys once ∙ sym (keys-with_len_at s.directed k.insertions place len));
+      keys = λ once i. ap (holds i) pairs ∙ (indexed.keys once i ∙ ap (list_any (λ j. i == j)) (sym keys));
+      taken = λ once. ap taken pairs ∙ (indexed.taken once ∙ sym (same_count k.insertions place len));
+      room = λ once. subst (λ slots. wanted s < length slots) (sym pairs) (indexed.room once);
+      numbers = λ shorter. subst (IsNumbered q.pairs q.numbers.items) (sym keys) (numbered_same pairs (ap (λ v. v.items) numbers) (indexed.numbers shorter));
     }
 
-below_le : (z : ℤ) → int_lt z (pos 0) ≡ true → int_le z (pos 0) ≡ true
-below_le (pos n) is = absurd (omega (arith, ltb-true n 0 is))
-below_le (negsuc n) is = refl
+-- the table has room for one pair more
+pub room_is : {s : RandomSpec} {a : Builder} {k : Course} {p : Progress} {w : Generator} → IsIndexed s a k p w → length k.insertions < wanted s → int_le s.multi (pos 0) ≡ true → HasRoom p.pairs
+room_is indexed less once = omega (arith, less, indexed.taken once, indexed.room once)
 
--- as many numbers of pairs as there are places
-pub places_are : {s : RandomSpec} {a : Builder} {k : Course} {p : Progress} {w : Generator} → IsIndexed s a k p w → int_lt s.multi (pos 0) ≡ true → length p.pairs.keys ≡ length p.edges.items
-places_are {s} {a} {k} {p} {w} indexed shorter =
-    ap length (indexed.keys (below_le s.multi shorter))
-    ∙ (length-map k.insertions (key_of_insertion s.directed)
-    ∙ (sym (ap length (indexed.kept.listed shorter).1) ∙ length-map p.edges.items insertion_of))
+-- beside each number of a pair stands a place of the list
+pub places_are : {s : RandomSpec} {a : Builder} {k : Course} {p : Progress} {w : Generator} → IsIndexed s a k p w → length k.insertions ≤ 1000000 → int_lt s.multi (pos 0) ≡ true → IsListed p.pairs p.numbers.items (length p.edges.items)
+places_are {s} {a} {k} {p} {w} indexed few shorter =
+    subst (IsListed p.pairs p.numbers.items) (sym (listed_count indexed shorter))
+    (listed_by p.pairs p.numbers.items (keys_of s k) (indexed.keys (below_le s.multi shorter)) (indexed.numbers shorter)
+    (omega (arith, few, length-map k.insertions (key_of_insertion s.directed))))
 
 -- ---- results
 pub on_ok_both : {T E P Q R : Type 0} (r : Result T E) → OnOk r P → OnOk r Q → (P → Q → R) → OnOk r R

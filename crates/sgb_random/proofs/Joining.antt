@@ -93,6 +93,12 @@ keys-with_len_at d [] place len = refl
 keys-with_len_at d (e ∷ es) zero len = refl
 keys-with_len_at d (e ∷ es) (suc place) len = ap (λ ks. key_of_insertion d e ∷ ks) (keys-with_len_at d es place len)
 
+pub same_count : (es : List Insertion) (place : ℕ) (len : ℤ) → length (with_len_at es place len) ≡ length es
+unfolding with_len_at
+same_count [] place len = refl
+same_count (e ∷ es) zero len = refl
+same_count (e ∷ es) (suc place) len = ap (λ k. suc k) (same_count es place len)
+
 All-cons : {X : Type 0} (P : X → Type 0) (x : X) (xs : List X) → P x → All P xs → All P (x ∷ xs)
 All-cons P x xs head tail zero d below = head
 All-cons P x xs head tail (suc i) d below = tail i d (omega arith)

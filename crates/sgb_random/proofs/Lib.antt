@@ -5,5 +5,6 @@ mod Following
 mod Joining
 mod Judging
 mod Once
+mod Placing
 mod Running
 mod Within

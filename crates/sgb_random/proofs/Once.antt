@@ -1,5 +1,5 @@
 -- Lemmas on pairs that are joined once only.
-use Rattle.std.proofs.Common.{◌≡◌, ◌<◌, ◌+◌, ◌==◌, ◌&&◌, ℕ, zero, suc, ℤ, pos, List, [], ◌∷◌, ◌++◌, length, get_or, Bool, true, false, not, nat_lt, int_le, int_lt, inl, inr, refl, sym, ap, subst, ◌∙◌, arith}
+use Rattle.std.proofs.Common.{◌≡◌, ◌<◌, ◌+◌, ◌==◌, ◌&&◌, ℕ, zero, suc, ℤ, pos, List, [], ◌∷◌, ◌++◌, length, get_or, Bool, true, false, not, nat_lt, int_le, int_lt, inl, inr, refl, sym, subst, ◌∙◌, arith}
 use Rattle.std.specs.List.{list_any, position_or_len}
 use Rattle.std.proofs.lemmas.Bool.{cases_Bool}
 use Rattle.std.proofs.lemmas.List.Folds.{list_any_at}
@@ -11,7 +11,7 @@ use Rattle.sgb_random.specs.declared.spec.RandomSpec.{RandomSpec}
 use Rattle.sgb_random.specs.Random.{Course, JoinsOnce, attempted, attempts, course, joins, lowered, tried, with_length, size_of, wanted}
 use Rattle.sgb_random.specs.Private.Progress.{with_len_at}
 use Rattle.sgb_random.proofs.Coursing.{insertions-with_length, tried_barred, tried_new, tried_shorter, tried_skipped}
-use Rattle.sgb_random.proofs.Joining.{lowered_at}
+use Rattle.sgb_random.proofs.Joining.{lowered_at, same_count}
 
 -- ---- a new pair
 absent_at : {X : Type 0} (p : X → Bool) (xs : List X) (i : ℕ) (d : X) → i < length xs → list_any p xs ≡ false → p (get_or xs i d) ≡ false
@@ -42,12 +42,6 @@ same_tos (e ∷ es) zero len zero x = refl
 same_tos (e ∷ es) zero len (suc i) x = refl
 same_tos (e ∷ es) (suc place) len zero x = refl
 same_tos (e ∷ es) (suc place) len (suc i) x = same_tos es place len i x
-
-pub same_count : (es : List Insertion) (place : ℕ) (len : ℤ) → length (with_len_at es place len) ≡ length es
-unfolding with_len_at
-same_count [] place len = refl
-same_count (e ∷ es) zero len = refl
-same_count (e ∷ es) (suc place) len = ap (λ k. suc k) (same_count es place len)
 
 joins_same : (d : Bool) (e f a b : Insertion) → e.from ≡ a.from → e.to ≡ a.to → f.from ≡ b.from → f.to ≡ b.to → joins d f.from f.to e ≡ joins d b.from b.to a
 joins_same d e f a b ef et ff ft = rw (ef, et, ff, ft) refl

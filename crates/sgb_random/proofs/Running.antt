@@ -1,5 +1,5 @@
 -- Lemmas on a run of attempts.
-use Rattle.std.proofs.Common.{◌≡◌, ◌<◌, ◌≤◌, ◌+◌, ◌*◌, ◌==◌, ℕ, zero, suc, pos, [], length, map, true, false, nat_lt, int_lt, None, Some, Ok, Err, ◌⊎◌, inl, inr, refl, sym, ap, subst, ◌∙◌, arith}
+use Rattle.std.proofs.Common.{◌≡◌, ◌<◌, ◌≤◌, ◌+◌, ◌*◌, ◌==◌, ℕ, zero, suc, pos, [], length, map, true, false, nat_lt, int_le, int_lt, None, Some, Ok, Err, ◌⊎◌, inl, inr, refl, sym, ap, subst, ◌∙◌, arith}
 use Rattle.std.proofs.lemmas.Bool.{cases_Bool, lt-ltb, le-ltb}
 use Rattle.std.proofs.lemmas.Bool.Decides.{Decides-eqb, not_from_Decides}
 use Rattle.std.proofs.lemmas.List.Elements.{All-nil}
@@ -16,7 +16,10 @@ use Rattle.sgb_random.specs.declared.progress.Progress.{Progress}
 use Rattle.sgb_random.specs.declared.spec.RandomSpec.{RandomSpec}
 use Rattle.sgb_random.specs.Random.{Course, begun, attempted, attempts, course, plan_of_course, plan_of_random, random_plan, unless_refused, refusal_of_random, wanted, size_of}
 use Rattle.sgb_random.specs.Private.Progress.{insertion_of, insertions_of, Follows, IsBare, IsFresh, IsIndexed, IsReady, IsWithin}
+use Rattle.sgb_random.specs.Private.Table.{HasRoom, IsListed}
+use Rattle.sgb_random.proofs.Coursing.{places_are, room_is}
 use Rattle.sgb_random.proofs.Following.{follows_none, follows_then}
+use Rattle.sgb_random.proofs.Placing.{free_holds, free_numbered, taken_free}
 use Rattle.sgb_random.proofs.Within.{few_attempts, ready}
 
 -- ---- the attempts one by one
@@ -82,7 +85,10 @@ run_start s p g fresh =
           inserted = λ longer. sym (grown-nil p.builder);
         };
         ends = All-nil (IsWithin (size_of s));
-        keys = λ once. fresh.no_pairs;
+        keys = λ once key. free_holds key p.pairs fresh.no_pairs;
+        taken = λ once. taken_free p.pairs fresh.no_pairs;
+        room = λ once. fresh.room once;
+        numbers = λ shorter. free_numbered p.pairs p.numbers.items [] fresh.no_pairs (fresh.numbers shorter);
       };
       follows = subst (λ k. Follows g 0 g k) (sym fresh.no_draws) (follows_none g 0);
       few_draws = omega (arith, fresh.no_draws);
@@ -99,6 +105,16 @@ run_next {s} {a} {g} {w} {x} {p} {q} {i} run less indexed follows few generator 
   few_draws = omega (arith, few, run.few_draws);
   generator = generator;
 }
+
+-- beside each number of a pair stands a place of the list
+pub run_places : {s : RandomSpec} {a : Builder} {g w : Generator} {p : Progress} {i : ℕ} → IsRun s a g p w i → p.made < 1000000 → int_lt s.multi (pos 0) ≡ true → IsListed p.pairs p.numbers.items (length p.edges.items)
+run_places {s} {a} {g} {w} {p} {i} run few shorter =
+    places_are run.indexed (omega (arith, few, (few_attempts s g i).inserted, run_made run)) shorter
+
+-- the table has room for one pair more
+pub run_room : {s : RandomSpec} {a : Builder} {g w : Generator} {p : Progress} {i : ℕ} → IsRun s a g p w i → p.made < wanted s → int_le s.multi (pos 0) ≡ true → HasRoom p.pairs
+run_room {s} {a} {g} {w} {p} {i} run less once =
+    room_is run.indexed (omega (arith, less, (few_attempts s g i).inserted, run_made run)) once
 
 -- one insertion more is within the limits
 pub run_ready : {s : RandomSpec} {a : Builder} {g w : Generator} {p : Progress} {i : ℕ} → IsRun s a g p w i → refusal_of_random s ≡ None → IsBare s a → p.made < wanted s → IsReady s p.builder p.made

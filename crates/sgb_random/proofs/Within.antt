@@ -20,9 +20,8 @@ use Rattle.sgb_random.specs.declared.spec.RandomSpec.{RandomSpec}
 use Rattle.sgb_random.specs.Random.{Course, attempted, attempts, course, joins, lowered, numbered, numbers_each, random_plan, refusal_of_random, tried, with_length, size_of, wanted}
 use Rattle.sgb_random.specs.Private.Progress.{IsBare, IsReady}
 use Rattle.sgb_random.proofs.Coursing.{insertions-with_length, tried_barred, tried_again, tried_new, tried_shorter, tried_skipped}
-use Rattle.sgb_random.proofs.Joining.{lowered_at}
+use Rattle.sgb_random.proofs.Joining.{lowered_at, same_count}
 use Rattle.sgb_random.proofs.Judging.{judged, wanted_few}
-use Rattle.sgb_random.proofs.Once.{same_count}
 
 -- ---- each insertion counts as made
 pub record IsFew (m : ℕ) (c : Course) : Type 0 where

@@ -1,2 +1,3 @@
 -- What serves private functions only.
 pub mod Progress
+pub mod Table

@@ -1,5 +1,5 @@
 //! One attempt: two vertices are drawn, and what comes of them.
-ghost use Rattle.std.specs.Prelude.{◌≡◌, ◌≤◌, ◌<◌, ◌+◌, ◌^◌, ◌∷◌, [], ◌++◌, ◌==◌, ◌&&◌, not, length, int_lt, pos, true, IfErr, OnOk};
+ghost use Rattle.std.specs.Prelude.{◌≡◌, ◌≤◌, ◌<◌, ◌+◌, ◌^◌, ◌∷◌, [], ◌++◌, ◌==◌, ◌&&◌, not, length, set, int_le, int_lt, pos, true, IfErr, OnOk};
 ghost use Rattle.std.specs.Int.{int_min};
 ghost use Rattle.sgb_flip.specs.Generator.{IsGenerator};
 ghost use Rattle.sgb_graph.specs.declared.builder.Builder.{Builder as Base};
@@ -17,6 +17,7 @@ ghost use Rattle.sgb_random.specs.Private.Progress.{
   key_of,
   with_len_at,
 };
+ghost use Rattle.sgb_random.specs.Private.Table.{HasRoom, IsListed};
 
 use crate::RandomSpec;
 use crate::ends::Ends;
@@ -38,7 +39,8 @@ pub(crate) fn attempt(
     requires range { IsLengths spec.now range.now }
     requires ready { IsReady spec.now progress.old.builder progress.old.made }
     requires places { int_lt spec.now.multi (pos 0) ≡ true →
-        length progress.old.pairs.keys ≡ length progress.old.edges.items }
+        IsListed progress.old.pairs progress.old.numbers.items (length progress.old.edges.items) }
+    requires room { int_le spec.now.multi (pos 0) ≡ true → HasRoom progress.old.pairs }
     requires draws { progress.old.draws < 2 ^ 40 }
     ensures ok { (a : Base) (c : Course) → IsIndexed spec.now a c progress.old flip.old →
         OnOk result (IsIndexed spec.now a (attempted spec.now c) progress.new flip.new) }
@@ -68,7 +70,8 @@ fn try_pair(
     requires range { IsLengths spec.now range.now }
     requires ready { IsReady spec.now progress.old.builder progress.old.made }
     requires places { int_lt spec.now.multi (pos 0) ≡ true →
-        length progress.old.pairs.keys ≡ length progress.old.edges.items }
+        IsListed progress.old.pairs progress.old.numbers.items (length progress.old.edges.items) }
+    requires room { int_le spec.now.multi (pos 0) ≡ true → HasRoom progress.old.pairs }
     requires draws { progress.old.draws < 2 ^ 41 }
     ensures ok { (a : Base) (c : Course) → IsIndexed spec.now a c progress.old flip.old →
         OnOk result (IsIndexed spec.now a (tried spec.now from to c) progress.new flip.new) }
@@ -86,14 +89,34 @@ fn try_pair(
         return insert(flip, spec, range, progress, from, to);
     }
     let key = key_of(spec.directed, from, to);
-    let (place, is_new) = progress.pairs.insert_full(key)?;
+    let (place, is_new) = progress.pairs.insert(key);
     if is_new {
+        number(spec, progress, place);
         return insert(flip, spec, range, progress, from, to);
     }
     if shortens(*spec) {
-        lower(flip, range, progress, place);
+        let listed = progress.numbers[place] as usize;
+        lower(flip, range, progress, listed);
     }
     Ok(())
+}
+
+// Where lengths may be shortened, tells beside the place of a pair where its arc or edge is to be listed.
+#[inline]
+fn number(spec: &RandomSpec, progress: &mut Progress, place: usize)
+    requires place { int_lt spec.now.multi (pos 0) ≡ true → place < length progress.old.numbers.items }
+    requires few { int_lt spec.now.multi (pos 0) ≡ true → length progress.old.edges.items ≤ 1000000 }
+    ensures numbers { int_lt spec.now.multi (pos 0) ≡ true →
+        progress.new.numbers.items ≡ set progress.old.numbers.items place (length progress.old.edges.items) }
+    ensures builder { progress.new.builder ≡ progress.old.builder }
+    ensures edges { progress.new.edges ≡ progress.old.edges }
+    ensures pairs { progress.new.pairs ≡ progress.old.pairs }
+    ensures made { progress.new.made ≡ progress.old.made }
+    ensures draws { progress.new.draws ≡ progress.old.draws }
+{
+    if shortens(*spec) {
+        progress.numbers[place] = progress.edges.len() as u32;
+    }
 }
 
 // A vertex would be joined to itself and may not be.
@@ -136,6 +159,7 @@ fn insert(
         (with_length range.now.min range.now.max c (λ len. c.insertions ++ insertion from to len ∷ []))
         progress.new flip.new) }
     ensures pairs { OnOk result (progress.new.pairs ≡ progress.old.pairs) }
+    ensures numbers { OnOk result (progress.new.numbers ≡ progress.old.numbers) }
     ensures err { IfErr result (λ e. e ≡ Refusal.NoRoom) }
     ensures follows { Follows flip.old progress.old.draws flip.new progress.new.draws }
     ensures few_draws { progress.new.draws ≤ progress.old.draws + 1814 }
@@ -160,6 +184,7 @@ fn lower(flip: &mut Flip, range: &LengthRange, progress: &mut Progress, place: u
         (with_length range.now.min range.now.max c (λ len. with_len_at c.insertions place len))
         progress.new flip.new }
     ensures pairs { progress.new.pairs ≡ progress.old.pairs }
+    ensures numbers { progress.new.numbers ≡ progress.old.numbers }
     ensures follows { Follows flip.old progress.old.draws flip.new progress.new.draws }
     ensures few_draws { progress.new.draws ≤ progress.old.draws + 1814 }
     ensures generator { IsGenerator flip.new }
@@ -191,6 +216,7 @@ fn draw_length(flip: &mut Flip, range: &LengthRange, progress: &mut Progress) ->
     ensures builder { progress.new.builder ≡ progress.old.builder }
     ensures edges { progress.new.edges ≡ progress.old.edges }
     ensures pairs { progress.new.pairs ≡ progress.old.pairs }
+    ensures numbers { progress.new.numbers ≡ progress.old.numbers }
     ensures follows { Follows flip.old progress.old.draws flip.new progress.new.draws }
     ensures few_draws { progress.new.draws ≤ progress.old.draws + 1814 }
     ensures generator { IsGenerator flip.new }

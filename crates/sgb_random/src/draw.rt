@@ -1,11 +1,12 @@
 //! Random graphs from a generator, and from a seed.
-ghost use Rattle.std.specs.Prelude.{◌≡◌, ◌≤◌, ◌<◌, ◌⊎◌, [], None, Ok, Err, IfOk, IfErr, OnOk, OnErr};
+ghost use Rattle.std.specs.Prelude.{◌≡◌, ◌≤◌, ◌<◌, ◌⊎◌, [], None, Ok, Err, IfOk, IfErr, OnOk, OnErr, int_le, int_lt, pos, true, length};
 ghost use Rattle.std.specs.Result.{IsErrOf};
 ghost use Rattle.sgb_flip.specs.Generator.{IsGenerator, after, seeded};
 ghost use Rattle.sgb_graph.specs.Builder.{grown};
 ghost use Rattle.sgb_plan.specs.Plan.{IsMade};
 ghost use Rattle.sgb_random.specs.Random.{course, plan_of_random, refusal_of_random, wanted};
 ghost use Rattle.sgb_random.specs.Private.Progress.{IsFresh, IsIndexed, IsLengths, bare_builder};
+ghost use Rattle.sgb_random.specs.Private.Table.{IsFree};
 
 use crate::RandomSpec;
 use crate::attempt::attempt;
@@ -80,16 +81,35 @@ fn start(alloc: Global, spec: &RandomSpec, seed: Seed) -> Result<Progress, Refus
     requires judged { refusal_of_random spec.now ≡ None }
     ensures builder { IfOk result (λ p. p.builder ≡ bare_builder spec.now seed) }
     ensures edges { IfOk result (λ p. p.edges.items ≡ []) }
-    ensures pairs { IfOk result (λ p. p.pairs.keys ≡ []) }
+    ensures pairs { IfOk result (λ p. IsFree p.pairs) }
+    ensures room { IfOk result (λ p. int_le spec.now.multi (pos 0) ≡ true → wanted spec.now < length p.pairs) }
+    ensures numbers { IfOk result (λ p. int_lt spec.now.multi (pos 0) ≡ true →
+        length p.numbers.items ≡ length p.pairs) }
     ensures made { IfOk result (λ p. p.made ≡ 0) }
     ensures draws { IfOk result (λ p. p.draws ≡ 0) }
     ensures err { IfErr result (λ e. e ≡ Refusal.NoRoom) }
 {
     let builder = begin(alloc, spec, seed)?;
-    let m = wanted(*spec) as usize;
+    let m = wanted(*spec);
     let edges = if shortens(*spec) { m } else { 0 };
-    let pairs = if repeats(*spec) { 0 } else { m };
-    Progress::new(alloc, builder, edges, pairs)
+    let places = places(spec, m);
+    let numbers = numbers(spec, places);
+    Progress::new(alloc, builder, edges, places, numbers)
+}
+
+// How many places the table of the pairs has: a third of them stays free.
+fn places(spec: &RandomSpec, m: u32) -> u32
+    requires { m ≤ 1000000 }
+    ensures { int_le spec.now.multi (pos 0) ≡ true → m < result }
+{
+    if repeats(*spec) { 0 } else { m + m / 2 + 1 }
+}
+
+// How many of them tell where an arc or edge is listed.
+fn numbers(spec: &RandomSpec, places: u32) -> u32
+    ensures { int_lt spec.now.multi (pos 0) ≡ true → result ≡ places }
+{
+    if shortens(*spec) { places } else { 0 }
 }
 
 // Draws the arcs or edges, until all are inserted. The draws are counted also where that is refused.

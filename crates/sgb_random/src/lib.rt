@@ -6,6 +6,7 @@ mod build;
 mod draw;
 mod ends;
 mod laws;
+mod pairs;
 mod progress;
 mod spec;
 

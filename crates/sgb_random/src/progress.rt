@@ -1,7 +1,8 @@
 //! The course of the attempts, as far as it has come.
-ghost use Rattle.std.specs.Prelude.{◌≡◌, [], IfOk, IfErr};
+ghost use Rattle.std.specs.Prelude.{◌≡◌, [], length, IfOk, IfErr};
+ghost use Rattle.sgb_random.specs.Private.Table.{IsFree};
 
-use indexmap::IndexSet;
+use crate::pairs::Pairs;
 use sgb_graph::{Builder, Refusal};
 use std::alloc::Global;
 
@@ -14,38 +15,45 @@ pub(crate) struct Edge {
 }
 
 // What the attempts have come to. Each arc or edge is inserted as it is drawn, unless its length may yet be shortened:
-// then it is listed, and inserted at the end. Where a pair may be joined once only, the numbers of the pairs stand at the
-// places of their arcs or edges, so that one look-up tells whether a pair is joined and where.
+// then it is listed, and inserted at the end. Where a pair may be joined once only, a table tells whether it is joined; and
+// where there is the list, what stands beside it at the same place tells where its arc or edge is listed.
 #[derive(Drop)]
 pub(crate) struct Progress {
     pub(crate) builder: Builder,
     pub(crate) edges: Vec<Edge>,
-    pub(crate) pairs: IndexSet<u32>,
+    pub(crate) pairs: Pairs,
+    pub(crate) numbers: Vec<u32>,
     pub(crate) made: u32,
     pub(crate) draws: u64,
 }
 
 impl Progress {
-    // Nothing is tried yet, and there is room to list so many arcs or edges and so many numbers of pairs.
+    // Nothing is tried yet, and there is room to list so many arcs or edges, a table of so many places, and so many of
+    // them beside it.
     pub(crate) fn new(
         alloc: Global,
         builder: Builder,
-        edges: usize,
-        pairs: usize,
+        edges: u32,
+        places: u32,
+        numbers: u32,
     ) -> Result<Progress, Refusal>
         ensures builder { IfOk result (λ p. p.builder ≡ builder) }
         ensures edges { IfOk result (λ p. p.edges.items ≡ []) }
-        ensures pairs { IfOk result (λ p. p.pairs.keys ≡ []) }
+        ensures pairs { IfOk result (λ p. IsFree p.pairs) }
+        ensures places { IfOk result (λ p. length p.pairs ≡ places) }
+        ensures numbers { IfOk result (λ p. length p.numbers.items ≡ numbers) }
         ensures made { IfOk result (λ p. p.made ≡ 0) }
         ensures draws { IfOk result (λ p. p.draws ≡ 0) }
         ensures err { IfErr result (λ e. e ≡ Refusal.NoRoom) }
     {
-        let edges = Vec::with_capacity(alloc, edges)?;
-        let pairs = IndexSet::with_capacity(alloc, pairs)?;
+        let edges = Vec::with_capacity(alloc, edges as usize)?;
+        let pairs = Pairs::new(alloc, places)?;
+        let numbers = vec![in alloc; 0u32; numbers as usize]?;
         Ok(Progress {
             builder,
             edges,
             pairs,
+            numbers,
             made: 0,
             draws: 0,
         })

@@ -22,6 +22,10 @@ use std::alloc::{AllocError, Global};
 use std::marker::Model;
 use std::mem;
 
+// A graph with room for so many arcs has room for the fields of all that it can have, and these take more than 32 MiB.
+const MANY: usize = 131_072;
+const MAPPED: usize = 1_048_600;
+
 /// A live arc as it is kept.
 #[derive(Drop)]
 pub(crate) struct Slot {
@@ -585,11 +589,25 @@ fn grow_room<T, F: Drop>(
     ensures capacity { vec_capacity fields.old ≤ vec_capacity fields.new }
 {
     cells.reserve(count)?;
+    let room = room_for_fields(cells.capacity());
     if fields.is_empty() && fields.capacity() < cells.capacity() {
         // Where no field was ever set there is nothing to move, and the room stays untouched.
-        *fields = Vec::with_capacity(*fields.allocator(), cells.capacity())?;
+        *fields = Vec::with_capacity(*fields.allocator(), room)?;
     }
     fields.reserve(cells.capacity() - fields.len())
+}
+
+// For how many slots or vertices there is to be room for fields where there is room for so many slots or vertices. A
+// graph with many arcs gets room for all that it can have: a block above 32 MiB is mapped by itself, so none of it is
+// touched where it is taken or given back, and the C library keeps what the arcs of one graph took for the next.
+fn room_for_fields(cells: usize) -> usize
+    ensures { cells ≤ result }
+{
+    if cells < MANY {
+        cells
+    } else {
+        cells.max(MAPPED)
+    }
 }
 
 fn two_zeros() -> [Util; 2]

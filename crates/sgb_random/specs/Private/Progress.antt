@@ -1,7 +1,7 @@
 -- The course of the attempts, as it is kept while they run.
-use Rattle.std.specs.Prelude.{◌≡◌, ◌+◌, ◌*◌, ◌<◌, ◌≤◌, ℕ, ℤ, zero, suc, pos, List, [], ◌∷◌, map, min, max, All, Bool, true, false, int_le, int_lt, if◌then◌else◌}
+use Rattle.std.specs.Prelude.{◌≡◌, ◌+◌, ◌*◌, ◌<◌, ◌≤◌, ◌==◌, ℕ, ℤ, zero, suc, pos, List, [], ◌∷◌, length, map, min, max, All, Bool, true, false, int_le, int_lt, if◌then◌else◌}
 use Rattle.std.specs.Int.{int_min}
-use Rattle.std.specs.List.{range_with_len}
+use Rattle.std.specs.List.{list_any, range_with_len}
 use Rattle.sgb_flip.specs.Generator.{Generator, IsGenerator, after}
 use Rattle.sgb_graph.specs.declared.builder.Builder.{Builder}
 use Rattle.sgb_graph.specs.Builder.{Insertion, insertion, grown}
@@ -13,7 +13,8 @@ use Rattle.sgb_plan.specs.Plan.{no_letters, with_named}
 use Rattle.sgb_random.specs.declared.progress.Edge.{Edge}
 use Rattle.sgb_random.specs.declared.progress.Progress.{Progress}
 use Rattle.sgb_random.specs.declared.spec.RandomSpec.{RandomSpec}
-use Rattle.sgb_random.specs.Random.{Course, numbered, numbers_each, random_id, size_of}
+use Rattle.sgb_random.specs.Random.{Course, numbered, numbers_each, random_id, size_of, wanted}
+use Rattle.sgb_random.specs.Private.Table.{holds, taken, IsFree, IsNumbered}
 
 abbrev pub insertion_of : Edge → Insertion
 insertion_of e = insertion e.from e.to e.len
@@ -45,11 +46,19 @@ pub record IsKept (s : RandomSpec) (a : Builder) (c : Course) (p : Progress) (w 
   pub listed : int_lt s.multi (pos 0) ≡ true → (p.builder ≡ a) × (insertions_of p ≡ c.insertions)
   pub inserted : int_lt s.multi (pos 0) ≡ false → p.builder ≡ grown a c.insertions
 
--- And where a pair is joined once only, the numbers of the pairs stand at the places of their insertions.
+-- the numbers of the pairs that are joined
+abbrev pub keys_of : RandomSpec → Course → List ℕ
+keys_of s c = map (key_of_insertion s.directed) c.insertions
+
+-- And where a pair is joined once only, the numbers of the pairs stand in the table; and beside them the places of their
+-- insertions, where lengths may be shortened.
 pub record IsIndexed (s : RandomSpec) (a : Builder) (c : Course) (p : Progress) (w : Generator) : Type 0 where
   pub kept : IsKept s a c p w
   pub ends : All (IsWithin (size_of s)) c.insertions
-  pub keys : int_le s.multi (pos 0) ≡ true → p.pairs.keys ≡ map (key_of_insertion s.directed) c.insertions
+  pub keys : int_le s.multi (pos 0) ≡ true → (key : ℕ) → holds key p.pairs ≡ list_any (λ k. key == k) (keys_of s c)
+  pub taken : int_le s.multi (pos 0) ≡ true → taken p.pairs ≡ length c.insertions
+  pub room : int_le s.multi (pos 0) ≡ true → wanted s < length p.pairs
+  pub numbers : int_lt s.multi (pos 0) ≡ true → IsNumbered p.pairs p.numbers.items (keys_of s c)
 
 -- a builder with the vertices and nothing else
 pub record IsBare (s : RandomSpec) (a : Builder) : Type 0 where
@@ -61,7 +70,9 @@ pub record IsBare (s : RandomSpec) (a : Builder) : Type 0 where
 pub record IsFresh (s : RandomSpec) (p : Progress) (w : Generator) : Type 0 where
   pub bare : IsBare s p.builder
   pub no_edges : p.edges.items ≡ []
-  pub no_pairs : p.pairs.keys ≡ []
+  pub no_pairs : IsFree p.pairs
+  pub room : int_le s.multi (pos 0) ≡ true → wanted s < length p.pairs
+  pub numbers : int_lt s.multi (pos 0) ≡ true → length p.numbers.items ≡ length p.pairs
   pub none_made : p.made ≡ 0
   pub no_draws : p.draws ≡ 0
   pub generator : IsGenerator w

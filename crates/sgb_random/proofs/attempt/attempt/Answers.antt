@@ -19,7 +19,7 @@ returns-clause-ok c = λ a k indexed.
     (attempted_is s k c.args.ends.now.n from.result.value to.result.value draws c.args.flip.now from.new.flip to.new.flip
     indexed.kept.rest c.requires.size from.ensures.value from.ensures.rest to.ensures.value to.ensures.rest (ap₂ (λ i j. i + j) from.ensures.draws to.ensures.draws))
     is)
-    (c.try_pair.ensures.ok a drawn (indexed_drawn draws to.new.flip indexed refl refl refl refl refl))
+    (c.try_pair.ensures.ok a drawn (indexed_drawn draws to.new.flip indexed refl refl refl refl refl refl))
 
 pub returns-clause-follows : goal.returns-clause-follows
 returns-clause-follows c =

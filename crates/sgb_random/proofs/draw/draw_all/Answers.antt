@@ -1,8 +1,7 @@
 use Rattle.std.proofs.Common.{inr, refl, arith}
 use Rattle.sgb_random.specs.Random.{attempts}
-use Rattle.sgb_random.proofs.Coursing.{places_are}
 use Rattle.sgb_random.proofs.Following.{follows_start, follows_then}
-use Rattle.sgb_random.proofs.Running.{run_start, run_next, run_ready, run_course, run_all, run_stuck}
+use Rattle.sgb_random.proofs.Running.{run_start, run_next, run_places, run_ready, run_room, run_course, run_all, run_stuck}
 use Rattle.sgb_random.proofs.draw.draw_all.Goals as goal
 
 pub loop-attempt-init : goal.loop-attempt-init
@@ -23,7 +22,12 @@ attempt-requires-clause-ready c =
     run_ready c.loop-attempt.invariant c.requires.judged c.requires.fresh.bare (omega (arith, c.wanted-m.ensures.value))
 
 pub attempt-requires-clause-places : goal.attempt-requires-clause-places
-attempt-requires-clause-places c = places_are c.loop-attempt.invariant.indexed
+attempt-requires-clause-places c =
+    run_places c.loop-attempt.invariant (omega (arith, c.wanted-m.ensures.value, c.wanted-m.ensures.few))
+
+pub attempt-requires-clause-room : goal.attempt-requires-clause-room
+attempt-requires-clause-room c =
+    run_room c.loop-attempt.invariant (omega (arith, c.wanted-m.ensures.value))
 
 pub returns-in_err-attempt-clause-rest : goal.returns-in_err-attempt-clause-rest
 returns-in_err-attempt-clause-rest c =
