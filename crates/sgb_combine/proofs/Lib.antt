@@ -1,5 +1,6 @@
 pub mod Apart
 pub mod Beginning
+pub mod Fewer
 pub mod Joined
 pub mod Joint
 pub mod Least

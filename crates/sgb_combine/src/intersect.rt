@@ -1,5 +1,5 @@
 //! Intersections.
-ghost use Rattle.std.specs.Prelude.{◌≡◌, ◌<◌, length, All, OnOk};
+ghost use Rattle.std.specs.Prelude.{◌≡◌, ◌<◌, length, All};
 ghost use Rattle.std.specs.List.{flat_map, range_with_len};
 ghost use Rattle.sgb_graph.specs.Graph.{n_of};
 ghost use Rattle.sgb_graph.specs.Builder.{Inserts};
@@ -13,7 +13,7 @@ use crate::run::insert_spoke;
 use sgb_graph::{Builder, Graph, Refusal, VertexNo};
 use sgb_operand::{Spoke, check_operand};
 use sgb_plan::{Part, id_of_two};
-use std::alloc::{AllocError, Global};
+use std::alloc::Global;
 
 /// The intersection of two graphs: the vertices of the first, and from each one arc or edge to each that it is joined
 /// to in both graphs, in the order of its list in the first. Its length is the larger of the least length in the first
@@ -55,8 +55,8 @@ fn insert_intersections(
     let mut mine = Lowest::new(alloc, first.n())?;
     let mut theirs = Lowest::new(alloc, second.n())?;
     for v in 0..first.n() {
-        read_firsts(&mut mine, first, VertexNo(v), directed)?;
-        read_firsts(&mut theirs, second, VertexNo(v), directed)?;
+        read_firsts(&mut mine, first, VertexNo(v), directed);
+        read_firsts(&mut theirs, second, VertexNo(v), directed);
         insert_joints(builder, VertexNo(v), mine.spokes(), &theirs)?;
     }
     Ok(())
@@ -64,21 +64,16 @@ fn insert_intersections(
 
 // The first arcs of a vertex, which the graph may lack, to each other, where edges are not looked at from their larger
 // end.
-fn read_firsts(
-    met: &mut Lowest,
-    graph: &Graph,
-    vertex: VertexNo,
-    directed: bool,
-) -> Result<(), AllocError>
+fn read_firsts(met: &mut Lowest, graph: &Graph, vertex: VertexNo, directed: bool)
     requires { length met.old.places.items ≡ n_of graph.now }
-    ensures ok { OnOk result (met.new.spokes.items ≡ firsts directed graph.now vertex.0) }
+    ensures spokes { met.new.spokes.items ≡ firsts directed graph.now vertex.0 }
     ensures width { length met.new.places.items ≡ length met.old.places.items }
 {
     met.forget();
     if vertex.0 >= graph.n() {
-        return Ok(());
+        return;
     }
-    met.meet(graph, vertex, true, directed, graph.n())
+    met.meet(graph, vertex, true, directed, graph.n());
 }
 
 fn insert_joints(

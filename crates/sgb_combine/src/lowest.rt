@@ -1,5 +1,5 @@
 //! Spokes to distinct vertices, each with the least length that was met.
-ghost use Rattle.std.specs.Prelude.{◌≡◌, int_lt};
+ghost use Rattle.std.specs.Prelude.{◌≡◌, ◌≤◌, ◌<◌, ◌^◌, length, vec_capacity, int_lt};
 ghost use Rattle.sgb_combine.specs.Lowest.{lowered};
 ghost use Rattle.sgb_combine.specs.Private.Targets.{IsMarked};
 
@@ -9,16 +9,19 @@ use sgb_operand::{Spoke, spoke_at};
 use std::alloc::{AllocError, Global};
 
 // The spokes that were met, and where the one to a vertex stands among them. A place is of no meaning where no spoke
-// to the vertex stands there, so that nothing is cleared between one vertex and the next.
+// to the vertex stands there, so that nothing is cleared between one vertex and the next. There is room for a spoke to
+// each vertex, so that none that is met wants memory.
 #[derive(Drop)]
 pub(crate) struct Lowest {
     spokes: Vec<Spoke>,
-    places: Vec<usize>,
+    places: Vec<u32>,
     ghost marked: { IsMarked places.items spokes.items },
+    ghost room: { length places.items ≤ vec_capacity spokes },
+    ghost few: { length places.items < 2 ^ 32 },
 }
 
 impl Lowest {
-    ghost use Rattle.std.specs.Prelude.{◌≡◌, ◌≤◌, ◌<◌, ◌∷◌, ◌++◌, [], length, fold, All, OnOk, IfOk};
+    ghost use Rattle.std.specs.Prelude.{◌≡◌, ◌≤◌, ◌<◌, ◌∷◌, ◌++◌, [], length, fold, All, IfOk};
     ghost use Rattle.std.specs.List.{filter};
     ghost use Rattle.sgb_graph.specs.Graph.{n_of};
     ghost use Rattle.sgb_operand.specs.Operand.{IsWithin, spokes};
@@ -34,8 +37,8 @@ impl Lowest {
         ensures width { IfOk result (λ l. length l.places.items ≡ n) }
     {
         Ok(Lowest {
-            spokes: Vec::new(alloc),
-            places: vec![in alloc; 0usize; n as usize]?,
+            spokes: Vec::with_capacity(alloc, n as usize)?,
+            places: vec![in alloc; 0u32; n as usize]?,
         })
     }
 
@@ -48,16 +51,15 @@ impl Lowest {
     }
 
     // Forgets all that was met, and takes these spokes.
-    pub(crate) fn keep(&mut self, spokes: &[Spoke]) -> Result<(), AllocError>
+    pub(crate) fn keep(&mut self, spokes: &[Spoke])
         requires { All (IsWithin (length self.old.places.items)) spokes.now }
-        ensures ok { OnOk result (self.new.spokes.items ≡ lowest spokes.now) }
+        ensures spokes { self.new.spokes.items ≡ lowest spokes.now }
         ensures width { length self.new.places.items ≡ length self.old.places.items }
     {
         self.spokes.clear();
         for spoke in spokes {
-            self.add(*spoke)?;
+            self.add(*spoke);
         }
-        Ok(())
     }
 
     // Forgets all that was met.
@@ -70,6 +72,7 @@ impl Lowest {
 
     // Takes the spokes of a vertex that are candidates besides, straight from its arcs, with the second halves of loops
     // where `halves` is true.
+    #[inline(always)]
     pub(crate) fn meet(
         &mut self,
         graph: &Graph,
@@ -77,11 +80,11 @@ impl Lowest {
         halves: bool,
         directed: bool,
         n: u32,
-    ) -> Result<(), AllocError>
+    )
         requires vertex { vertex.0 < n_of graph.now }
         requires width { n ≤ length self.old.places.items }
-        ensures ok { OnOk result (self.new.spokes.items ≡ fold add_or_lower self.old.spokes.items
-            (filter (is_candidate directed n vertex.0) (spokes halves graph.now vertex.0))) }
+        ensures spokes { self.new.spokes.items ≡ fold add_or_lower self.old.spokes.items
+            (filter (is_candidate directed n vertex.0) (spokes halves graph.now vertex.0)) }
         ensures width { length self.new.places.items ≡ length self.old.places.items }
     {
         for number in graph.walk(vertex, halves) {
@@ -89,9 +92,8 @@ impl Lowest {
             if !is_candidate(directed, n, vertex, spoke) {
                 continue;
             }
-            self.add(spoke)?;
+            self.add(spoke);
         }
-        Ok(())
     }
 
     // The place of the spoke to this vertex.
@@ -99,7 +101,19 @@ impl Lowest {
     pub(crate) fn place_of(&self, to: u32) -> Option<usize>
         ensures { StandsAt self.now.spokes.items to result }
     {
-        let place = *self.places.get(to as usize)?;
+        if to as usize >= self.places.len() {
+            return None;
+        }
+        self.place_within(to)
+    }
+
+    // The place of the spoke to this vertex, of which a place is kept.
+    #[inline]
+    fn place_within(&self, to: u32) -> Option<usize>
+        requires { to < length self.now.places.items }
+        ensures { StandsAt self.now.spokes.items to result }
+    {
+        let place = self.places[to as usize] as usize;
         let spoke = self.spokes.get(place)?;
         if spoke.to == to { Some(place) } else { None }
     }
@@ -125,16 +139,13 @@ impl Lowest {
 
     // A spoke more, or a shorter length of the one to the same vertex.
     #[inline]
-    fn add(&mut self, spoke: Spoke) -> Result<(), AllocError>
+    fn add(&mut self, spoke: Spoke)
         requires { spoke.to < length self.old.places.items }
-        ensures ok { OnOk result (self.new.spokes.items ≡ add_or_lower self.old.spokes.items spoke) }
+        ensures spokes { self.new.spokes.items ≡ add_or_lower self.old.spokes.items spoke }
         ensures width { length self.new.places.items ≡ length self.old.places.items }
     {
-        match self.place_of(spoke.to) {
-            Some(place) => {
-                self.lower(place, spoke);
-                Ok(())
-            }
+        match self.place_within(spoke.to) {
+            Some(place) => self.lower(place, spoke),
             None => self.add_new(spoke),
         }
     }
@@ -153,16 +164,16 @@ impl Lowest {
     }
 
     // A spoke to a vertex to which none led.
-    fn add_new(&mut self, spoke: Spoke) -> Result<(), AllocError>
+    #[inline]
+    fn add_new(&mut self, spoke: Spoke)
         requires to { spoke.to < length self.old.places.items }
         requires other { StandsAt self.old.spokes.items spoke.to None }
-        ensures ok { OnOk result (self.new.spokes.items ≡ self.old.spokes.items ++ spoke ∷ []) }
+        ensures spokes { self.new.spokes.items ≡ self.old.spokes.items ++ spoke ∷ [] }
         ensures width { length self.new.places.items ≡ length self.old.places.items }
     {
-        let place = self.spokes.len();
-        self.spokes.push(spoke)?;
+        let place = self.spokes.len() as u32;
+        self.spokes.push_reserved(spoke);
         self.places[spoke.to as usize] = place;
-        Ok(())
     }
 }
 

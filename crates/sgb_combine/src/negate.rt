@@ -94,7 +94,7 @@ fn insert_wanted(
     if spec.copy {
         return insert_joined(builder, tips, vertex, spokes, spec);
     }
-    lowest.keep(spokes)?;
+    lowest.keep(spokes);
     insert_missing(builder, lowest, vertex, spec)
 }
 

@@ -27,7 +27,7 @@ pub(crate) fn insert_spokes(
 }
 
 // Inserts an arc or an edge from the vertex along the spoke.
-#[inline]
+#[inline(always)]
 pub(crate) fn insert_spoke(
     builder: &mut Builder,
     from: VertexNo,
@@ -52,5 +52,6 @@ pub(crate) fn keep_upward(spokes: &mut Vec<Spoke>, directed: bool, vertex: Verte
 pub(crate) fn is_candidate(directed: bool, n: u32, vertex: VertexNo, spoke: Spoke) -> bool
     ensures { result ≡ is_candidate directed n vertex.0 spoke }
 {
-    spoke.to < n && (directed || vertex.0 <= spoke.to)
+    let low = if directed { 0 } else { vertex.0 };
+    low <= spoke.to && spoke.to < n
 }

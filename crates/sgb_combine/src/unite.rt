@@ -1,5 +1,5 @@
 //! Unions.
-ghost use Rattle.std.specs.Prelude.{◌≡◌, ◌<◌, ◌≤◌, length, map, OnOk};
+ghost use Rattle.std.specs.Prelude.{◌≡◌, ◌<◌, ◌≤◌, length, map};
 ghost use Rattle.std.specs.List.{flat_map, filter, range_with_len};
 ghost use Rattle.sgb_graph.specs.Graph.{n_of};
 ghost use Rattle.sgb_graph.specs.Builder.{Inserts};
@@ -16,7 +16,7 @@ use crate::run::{insert_spoke, insert_spokes, is_candidate};
 use sgb_graph::{Builder, Graph, Refusal, VertexNo};
 use sgb_operand::{check_operand, spoke_at};
 use sgb_plan::{Part, id_of_two};
-use std::alloc::{AllocError, Global};
+use std::alloc::Global;
 
 /// The union of two graphs: the vertices of the first, and from each what its list in the first graph and then that in
 /// the second, where that has the vertex, lead to among them, with its lengths. Where edges are made, what leads to a
@@ -90,7 +90,7 @@ fn insert_union(
     if spec.multi {
         return insert_all(builder, first, second, vertex, spec.directed);
     }
-    meet_candidates(met, first, second, vertex, spec.directed)?;
+    meet_candidates(met, first, second, vertex, spec.directed);
     insert_spokes(builder, vertex, met.spokes())
 }
 
@@ -145,17 +145,17 @@ fn meet_candidates(
     second: &Graph,
     vertex: VertexNo,
     directed: bool,
-) -> Result<(), AllocError>
+)
     requires vertex { vertex.0 < n_of first.now }
     requires width { length met.old.places.items ≡ n_of first.now }
-    ensures ok { OnOk result (met.new.spokes.items ≡ lowest (candidates directed first.now second.now vertex.0)) }
+    ensures spokes { met.new.spokes.items ≡ lowest (candidates directed first.now second.now vertex.0) }
     ensures width { length met.new.places.items ≡ length met.old.places.items }
 {
     let n = first.n();
     met.forget();
-    met.meet(first, vertex, directed, directed, n)?;
+    met.meet(first, vertex, directed, directed, n);
     if vertex.0 >= second.n() {
-        return Ok(());
+        return;
     }
-    met.meet(second, vertex, directed, directed, n)
+    met.meet(second, vertex, directed, directed, n);
 }

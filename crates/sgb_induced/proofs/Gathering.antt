@@ -1,17 +1,19 @@
 -- Lemmas on the runs that the arcs of a graph ask for.
-use Rattle.std.proofs.Common.{◌≡◌, ◌==◌, ◌+◌, ℕ, List, [], ◌∷◌, ◌++◌, map, Bool, true, false, cond, All, IsSome, refl, sym, ap, subst, ◌∙◌, append_assoc}
+use Rattle.std.proofs.Common.{◌≡◌, ◌==◌, ◌<◌, ◌≤◌, ◌+◌, ℕ, max, length, List, [], ◌∷◌, ◌++◌, map, Bool, true, false, cond, All, IsSome, get_or, inl, inr, refl, sym, ap, subst, ◌∙◌, append_assoc, arith}
 use Rattle.std.specs.List.{filter, flat_map, range_with_len}
-use Rattle.std.proofs.lemmas.Bool.{eq-eqb, ne_eqb}
-use Rattle.std.proofs.lemmas.List.{append-nil}
-use Rattle.std.proofs.lemmas.List.Elements.{All-tail}
+use Rattle.std.proofs.lemmas.Bool.{cases_Bool, cases_lt, eq-eqb, ne_eqb}
+use Rattle.std.proofs.lemmas.List.{append-nil, get_or_default, get_or_past}
+use Rattle.std.proofs.lemmas.List.Elements.{All-map, All-tail}
 use Rattle.sgb_graph.specs.Edit.{entry_at}
-use Rattle.sgb_graph.specs.Graph.{GraphOf, arc_at}
+use Rattle.sgb_graph.specs.Graph.{GraphOf, arc_at, n_of}
 use Rattle.sgb_graph.specs.Paired.{walk}
 use Rattle.sgb_operand.specs.declared.spoke.Spoke.{Spoke}
 use Rattle.sgb_operand.specs.Operand.{spoke_of, spokes}
 use Rattle.sgb_induced.specs.declared.image.Image.{Image}
 use Rattle.sgb_induced.specs.declared.run.Run.{Run}
-use Rattle.sgb_induced.specs.Private.Run.{image_at, is_run, run_at, runs_at}
+use Rattle.sgb_induced.specs.Private.Run.{IsAbove, all_runs, image_at, no_image, is_run, run_at, runs_at}
+use Rattle.sgb_induced.specs.Private.Twin.{IsBelow}
+use Rattle.sgb_plan.proofs.Distincts.{All-flat_map}
 use Rattle.sgb_induced.proofs.Ranges.{flat_map_range_more}
 
 -- a vertex without images asks for nothing
@@ -79,3 +81,41 @@ pub gathered_end : {directed : Bool} {g : GraphOf} {is : List Image} {v : ℕ} {
     → into ≡ start ++ map (run_at is v) (filter (is_run directed is v) (spokes directed g v))
 gathered_end {directed} {g} {is} {v} {start} {into} {rest} none x =
     sym (append-nil into) ∙ (ap (λ ks. into ++ runs_along directed g is v ks) (sym none) ∙ x.same)
+
+-- ---- all ends are below a number
+at_below : (directed : Bool) (g : GraphOf) (is : List Image) (n v : ℕ) → IsAbove n is → All (IsBelow n) (runs_at directed g is v)
+unfolding runs_at
+at_below directed g is n v above =
+    elim (cases_Bool ((image_at is v).count == 0)) [
+      | inl none ↦ rw none (λ i d low. absurd (omega arith))
+      | inr some ↦ rw some (All-map (IsBelow n) (run_at is v) (filter (is_run directed is v) (spokes directed g v)) (λ i d low. omega (arith, above v, above (get_or (filter (is_run directed is v) (spokes directed g v)) i d).to)))
+    ]
+
+pub runs_below : (directed : Bool) (g : GraphOf) (is : List Image) (n : ℕ) → IsAbove n is → All (IsBelow n) (all_runs directed g is)
+runs_below directed g is n above =
+    All-flat_map (IsBelow n) (runs_at directed g is) (range_with_len 0 (n_of g)) (λ i d low. at_below directed g is n (get_or (range_with_len 0 (n_of g)) i d) above)
+
+-- ---- a number above all leaders
+pub record IsAboveFirst (is : List Image) (i n : ℕ) : Type 0 where
+  pub some : 1 ≤ n
+  pub below : (v : ℕ) → v < i → (image_at is v).leader < n
+
+pub above_more : {is : List Image} {i n m : ℕ} (d : Image) → i < length is → m ≡ max n ((get_or is i d).leader + 1) → IsAboveFirst is i n → IsAboveFirst is (i + 1) m
+above_more {is} {i} {n} {m} d inside most above = record {
+  some = omega (arith, most, above.some);
+  below = λ v low.
+      elim (cases_lt v i) [
+        | inl before ↦ omega (arith, most, above.below v before)
+        | inr from ↦
+            let here : v ≡ i = omega (arith, low, from) in
+            let same : (image_at is v).leader ≡ (get_or is i d).leader = ap (λ k. (image_at is k).leader) here ∙ ap (λ (x : Image). x.leader) (get_or_default is i no_image d inside) in
+            omega (arith, most, same)
+      ];
+}
+
+pub above_end : {is : List Image} {i n : ℕ} → length is ≤ i → IsAboveFirst is i n → IsAbove n is
+above_end {is} {i} {n} past above v =
+    elim (cases_lt v i) [
+      | inl before ↦ above.below v before
+      | inr from ↦ omega (arith, ap (λ (x : Image). x.leader) (get_or_past is v no_image (omega (arith, past, from))), above.some)
+    ]

@@ -4,7 +4,7 @@ ghost use Rattle.std.specs.List.{filter};
 ghost use Rattle.sgb_graph.specs.Graph.{n_of};
 ghost use Rattle.sgb_operand.specs.Operand.{spokes};
 ghost use Rattle.sgb_induced.specs.Induced.{is_met};
-ghost use Rattle.sgb_induced.specs.Private.Run.{all_runs, is_run, run_at, runs_of};
+ghost use Rattle.sgb_induced.specs.Private.Run.{IsAbove, all_runs, is_run, run_at, runs_of};
 
 use crate::image::{Image, image_at};
 use crate::run::Run;
@@ -27,8 +27,19 @@ pub(crate) fn gather_runs(
     if multi {
         Ok(runs)
     } else {
-        merge_runs(alloc, &runs, directed)
+        merge_runs(alloc, &runs, width_of(images), directed)
     }
+}
+
+// A number above the vertices in whose place images stand.
+fn width_of(images: &[Image]) -> usize
+    ensures { IsAbove result images.now }
+{
+    let mut width = 1usize;
+    for image in images {
+        width = width.max(image.leader as usize + 1);
+    }
+    width
 }
 
 // The runs of all vertices.

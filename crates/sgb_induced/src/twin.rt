@@ -6,16 +6,18 @@ ghost use Rattle.sgb_induced.specs.Private.Twin.{AreLinked, AreTwins, IsBelow, M
 use crate::run::{Run, key_of, lowered_run};
 use std::alloc::{AllocError, Global};
 
-// The runs of which each pair of ends has only the first, with the least length.
+// The runs, whose ends are all below the width, of which each pair of ends has only the first, with the least length.
 pub(crate) fn merge_runs(
     alloc: Global,
     runs: &[Run],
+    width: usize,
     directed: bool,
 ) -> Result<Vec<Run>, AllocError>
     requires few { length runs.now ≤ 1000000 }
+    requires ends { All (IsBelow width) runs.now }
     ensures { IfOk result (λ rs. rs.items ≡ merged directed runs.now) }
 {
-    let twins = find_twins(alloc, runs, directed)?;
+    let twins = find_twins(alloc, runs, width, directed)?;
     let mut kept = Vec::with_capacity(alloc, runs.len())?;
     let mut places = Vec::with_capacity(alloc, runs.len())?;
     for i in 0..runs.len() {
@@ -50,11 +52,16 @@ fn keep_run(
 }
 
 // For each run the place of an earlier one with its ends, or its own where there is none.
-fn find_twins(alloc: Global, runs: &[Run], directed: bool) -> Result<Vec<u32>, AllocError>
+fn find_twins(
+    alloc: Global,
+    runs: &[Run],
+    width: usize,
+    directed: bool,
+) -> Result<Vec<u32>, AllocError>
     requires few { length runs.now ≤ 1000000 }
+    requires ends { All (IsBelow width) runs.now }
     ensures { IfOk result (λ twins. AreTwins directed runs.now twins.items) }
 {
-    let width = width_of(runs);
     let mut heads = vec![in alloc; runs.len() as u32; width]?;
     let mut nexts = vec![in alloc; runs.len() as u32; runs.len()]?;
     order_runs(&mut heads, &mut nexts, runs, directed);
@@ -92,17 +99,6 @@ fn link_run(heads: &mut [u32], nexts: &mut [u32], runs: &[Run], place: usize, di
     let first = key_of(runs[place], directed).0 as usize;
     nexts[place] = heads[first];
     heads[first] = place as u32;
-}
-
-// A number above the ends of all the runs.
-fn width_of(runs: &[Run]) -> usize
-    ensures { All (IsBelow result) runs.now }
-{
-    let mut width = 0usize;
-    for run in runs {
-        width = width.max(run.from.max(run.to) as usize + 1);
-    }
-    width
 }
 
 // Writes the twin of each run. The runs of one first end come together, so a mark at the last end that was made at

@@ -54,3 +54,33 @@ exchanged_graph {was} {now} {given} {lens} {k} all x = x.graph ∙ ap (λ es. re
 pub exchanged_lengths : {was now : GraphOf} {given lens : List ℤ} {k : ℕ} → k ≡ made_of was → length given ≡ made_of was → Exchanged was given now lens k → lens ≡ lengths_of was
 unfolding lengths_of
 exchanged_lengths {was} {now} {given} {lens} {k} all same x = by_number_end (λ j. length_of (arc_at was j)) all same x.lengths
+
+-- ---- without keeping the old ones
+-- the arcs before number k have their new lengths
+pub record Given (was : GraphOf) (given : List ℤ) (now : GraphOf) (k : ℕ) : Type 0 where
+  pub sound : IsGraph now
+  pub graph : now ≡ record was { entries = now.entries }
+  pub entries : Front (map (lengthened_at was given) (range_with_len 0 k)) was.entries now.entries k
+  pub few : k ≤ made_of was
+
+pub given_start : (g : GraphOf) (given : List ℤ) → IsGraph g → Given g given g 0
+given_start g given sound = record {
+  sound = sound;
+  graph = refl;
+  entries = by_number_start (lengthened_at g given) g.entries;
+  few = omega arith;
+}
+
+pub given_more : {was now new : GraphOf} {given : List ℤ} {k : ℕ} (len : ℤ) → k < made_of was → Given was given now k
+    → len ≡ get_or given k (pos 0) → new ≡ with_entry now k (with_length (arc_at now k) len) → IsGraph new → Given was given new (k + 1)
+given_more {was} {now} {new} {given} {k} len inside x is edited sound =
+    record {
+      sound = sound;
+      graph = edited ∙ (ap (λ g. with_entry g k (with_length (arc_at now k) len)) x.graph ∙ ap (λ g. record was { entries = g.entries }) (sym edited));
+      entries = by_number (lengthened_at was given) _ None inside x.entries (ap (λ g. g.entries) edited) (ap₂ with_length (front_at None x.entries) is);
+      few = omega (arith, inside);
+    }
+
+pub given_graph : {was now : GraphOf} {given : List ℤ} {k : ℕ} → k ≡ made_of was → Given was given now k → now ≡ with_lengths was given
+unfolding with_lengths
+given_graph {was} {now} {given} {k} all x = x.graph ∙ ap (λ es. record was { entries = es }) (by_number_end (lengthened_at was given) all refl x.entries)

@@ -1,4 +1,4 @@
-//! The lengths of a graph, exchanged for those of a list.
+//! The lengths of a graph, exchanged for those of a list or replaced by them.
 ghost use Rattle.std.specs.Prelude.{◌≡◌, ◌<◌, length};
 ghost use Rattle.sgb_graph.specs.Edit.{with_entry};
 ghost use Rattle.sgb_graph.specs.Graph.{IsGraph, made_of, arc_at};
@@ -15,6 +15,17 @@ pub(crate) fn exchange_lengths(graph: &mut Graph, lengths: &mut [i64])
 {
     for k in 0..graph.made() {
         lengths[k as usize] = exchange_length(graph, ArcNo(k), lengths[k as usize]);
+    }
+}
+
+// Gives each arc the length at its number's place.
+pub(crate) fn give_lengths(graph: &mut Graph, lengths: &[i64])
+    requires { length lengths.now ≡ made_of graph.old }
+    ensures graph { graph.new ≡ with_lengths graph.old lengths.now }
+    ensures sound { IsGraph graph.new }
+{
+    for k in 0..graph.made() {
+        let _ = exchange_length(graph, ArcNo(k), lengths[k as usize]);
     }
 }
 

@@ -17,7 +17,7 @@ ghost use Rattle.sgb_lengths.specs.Lengths.{
 ghost use Rattle.sgb_lengths.specs.Private.Prepared.{IsPrepared};
 
 use crate::draw::draw_lengths;
-use crate::exchange::exchange_lengths;
+use crate::exchange::{exchange_lengths, give_lengths};
 use crate::id::lengths_id;
 use crate::prepared::Prepared;
 use crate::{LengthsDelta, LengthsSpec};
@@ -71,8 +71,8 @@ pub fn revert_lengths(graph: &mut Graph, delta: LengthsDelta)
     ensures sound { IsGraph graph.new }
 {
     let LengthsDelta { lengths, id } = delta;
-    let mut lengths = lengths.into_vec();
-    exchange_lengths(graph, &mut lengths);
+    let lengths = lengths.into_vec();
+    give_lengths(graph, &lengths);
     graph.swap_id(id);
 }
 

@@ -40,7 +40,7 @@ pub fn spoke_at(graph: &Graph, number: ArcNo) -> Spoke
             to: tip_number(arc.tip),
             len: arc.len,
         },
-        None => Spoke { to: 0, len: 0 },
+        None => unreachable!(),
     }
 }
 

@@ -12,23 +12,23 @@ insert_joints-requires-clause-from c = omega (arith, from_n c.loop-v.invariant.l
 pub insert_joints-requires-clause-to : goal.insert_joints-requires-clause-to
 insert_joints-requires-clause-to c =
     let mine = c.read_firsts.new.met in
-    let wide = c.in_ok-read_firsts.ensures.width ∙ c.loop-v.invariant.mine in
+    let wide = c.read_firsts.ensures.width ∙ c.loop-v.invariant.mine in
     within_as c.spokes.ensures (from_n c.loop-v.invariant.left ∙ (c.requires ∙ sym wide)) (λ i d low. mine.marked.within i d low)
 
 pub returns-in_err-insert_joints : goal.returns-in_err-insert_joints
 returns-in_err-insert_joints c =
     let p = err_from_is_err_and c.from_residual-in_err-insert_joints.result c.from_residual-in_err-insert_joints.ensures.1 in
-    let same = intersection_is c.args.directed c.args.first.now c.args.second.now c.loop-v.v c.spokes.result.now c.read_firsts-in-loop-v.new.met.spokes.items (c.spokes.ensures ∙ c.in_ok-read_firsts.ensures.ok) c.in_ok-read_firsts-2.ensures.ok in
+    let same = intersection_is c.args.directed c.args.first.now c.args.second.now c.loop-v.v c.spokes.result.now c.read_firsts-in-loop-v.new.met.spokes.items (c.spokes.ensures ∙ c.read_firsts.ensures.spokes) c.read_firsts-in-loop-v.ensures.spokes in
     rw (p.1, p.2) (from_refused (omega arith) c.loop-v.invariant.left
     (subst (λ es. RefusesInsertions c.loop-v.builder es c.in_err-insert_joints.field-0.0) same c.in_err-insert_joints.ensures))
 
 pub loop-v-preserved : goal.loop-v-preserved
 loop-v-preserved c =
-    let same = intersection_is c.args.directed c.args.first.now c.args.second.now c.loop-v.v c.spokes.result.now c.read_firsts-in-loop-v.new.met.spokes.items (c.spokes.ensures ∙ c.in_ok-read_firsts.ensures.ok) c.in_ok-read_firsts-2.ensures.ok in
+    let same = intersection_is c.args.directed c.args.first.now c.args.second.now c.loop-v.v c.spokes.result.now c.read_firsts-in-loop-v.new.met.spokes.items (c.spokes.ensures ∙ c.read_firsts.ensures.spokes) c.read_firsts-in-loop-v.ensures.spokes in
     record {
       left = from_some (omega arith) c.loop-v.invariant.left (c.in_ok-insert_joints.ensures ∙ ap (grown c.loop-v.builder) same);
-      mine = c.in_ok-read_firsts.ensures.width ∙ c.loop-v.invariant.mine;
-      theirs = c.in_ok-read_firsts-2.ensures.width ∙ c.loop-v.invariant.theirs;
+      mine = c.read_firsts.ensures.width ∙ c.loop-v.invariant.mine;
+      theirs = c.read_firsts-in-loop-v.ensures.width ∙ c.loop-v.invariant.theirs;
     }
 
 pub returns : goal.returns

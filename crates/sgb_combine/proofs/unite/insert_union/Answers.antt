@@ -12,5 +12,5 @@ returns-then-spec-clause-inserts c =
 pub returns-clause-inserts : goal.returns-clause-inserts
 returns-clause-inserts c =
     subst (λ es. Inserts c.args.builder.now c.insert_spokes.new.builder es c.insert_spokes.result)
-    (union_lowest c.args.spec c.args.first.now c.args.second.now c.args.vertex.0 c.spokes.result.now c.if-spec.false (c.spokes.ensures ∙ c.in_ok-meet_candidates.ensures.ok))
+    (union_lowest c.args.spec c.args.first.now c.args.second.now c.args.vertex.0 c.spokes.result.now c.if-spec.false (c.spokes.ensures ∙ c.meet_candidates.ensures.spokes))
     c.insert_spokes.ensures

@@ -12,6 +12,6 @@ loop-spoke-preserved c =
     let ss = c.args.spokes.now in
     let i = c.loop-spoke.spoke-index in
     record {
-      met = c.in_ok-add.ensures.ok ∙ (ap (λ rs. add_or_lower rs (spoke_in ss i)) c.loop-spoke.invariant.met ∙ sym (lowest_more ss i (spoke_in ss i) no_spoke (omega arith) refl));
-      width = c.in_ok-add.ensures.width ∙ c.loop-spoke.invariant.width;
+      met = c.add.ensures.spokes ∙ (ap (λ rs. add_or_lower rs (spoke_in ss i)) c.loop-spoke.invariant.met ∙ sym (lowest_more ss i (spoke_in ss i) no_spoke (omega arith) refl));
+      width = c.add.ensures.width ∙ c.loop-spoke.invariant.width;
     }

@@ -21,7 +21,7 @@ loop-number-preserved-then-not-is_candidate c = record {
 
 pub loop-number-preserved : goal.loop-number-preserved
 loop-number-preserved c = record {
-  meets = meets_one c.in-Some.ensures.steps c.spoke_at-spoke.ensures (sym c.is_candidate.ensures ∙ c.if-not-is_candidate.false) c.loop-number.invariant.meets c.in_ok-add.ensures.ok;
+  meets = meets_one c.in-Some.ensures.steps c.spoke_at-spoke.ensures (sym c.is_candidate.ensures ∙ c.if-not-is_candidate.false) c.loop-number.invariant.meets c.add.ensures.spokes;
   live = All-tail (λ k. IsSome (arc_at c.args.graph.now k)) _ _ (subst (All (λ k. IsSome (arc_at c.args.graph.now k))) c.in-Some.ensures.steps c.loop-number.invariant.live);
-  width = c.in_ok-add.ensures.width ∙ c.loop-number.invariant.width;
+  width = c.add.ensures.width ∙ c.loop-number.invariant.width;
 }
