@@ -24,6 +24,7 @@ use std::mem;
 
 // A graph with room for so many arcs has room for the fields of all that it can have, and these take more than 32 MiB.
 const MANY: usize = 131_072;
+
 const MAPPED: usize = 1_048_600;
 
 /// A live arc as it is kept.
