@@ -747,32 +747,29 @@ impl Trees {
 // The pairs that are joined, each as one number, by open addressing.
 struct Pairs {
     keys: Vec<u32>,
-    shift: u32,
 }
 
 impl Pairs {
     // Room for so many, of which a third stays free.
     fn new(count: usize) -> Pairs {
-        let places = (count + count / 2 + 1).next_power_of_two();
-        Pairs { keys: vec![NONE; places], shift: 64 - places.trailing_zeros() }
+        Pairs { keys: vec![NONE; count + count / 2 + 1] }
     }
 
     // The place of a pair, and whether it is new there.
     #[inline]
     fn insert(&mut self, key: u32) -> (usize, bool) {
-        let last = self.keys.len() - 1;
-        let mut at = (u64::from(key).wrapping_mul(FACTOR) >> self.shift) as usize & last;
-        loop {
-            let held = &mut self.keys[at];
-            if *held == NONE {
-                *held = key;
-                return (at, true);
-            }
-            if *held == key {
-                return (at, false);
-            }
-            at = (at + 1) & last;
-        }
+        let mixed = key.wrapping_mul(FACTOR as u32);
+        let first = (u64::from(mixed) * self.keys.len() as u64 >> 32) as usize;
+        let found = self.find(first, key).or_else(|| self.find(0, key));
+        let place = found.expect("a third stays free");
+        let is_new = self.keys[place] == NONE;
+        self.keys[place] = key;
+        (place, is_new)
+    }
+
+    #[inline]
+    fn find(&self, first: usize, key: u32) -> Option<usize> {
+        (first..self.keys.len()).find(|place| self.keys[*place] == NONE || self.keys[*place] == key)
     }
 }
 
@@ -785,6 +782,14 @@ struct Random {
     directed: bool,
     min: i64,
     max: i64,
+}
+
+impl Random {
+    // The number of a pair, the same either way round where edges are made.
+    #[inline]
+    fn key(self, from: u32, to: u32) -> u32 {
+        if self.directed { from << 16 | to } else { from.min(to) << 16 | from.max(to) }
+    }
 }
 
 // An arc or edge to be inserted, and by how much its length is above the least.
@@ -842,12 +847,17 @@ fn random_graph(spec: Random, seed: i64) -> Result<Graph, Refusal> {
     }
     let (ends, lengths) = (Below::new(n as u32), Below::new(max.abs_diff(min) as u32 + 1));
     let draws = Draws { ends, lengths };
-    if multi > 0 {
+    let flip = Flip::new(seed);
+    if multi >= 0 {
         graph.arena.reserve((m * numbers) as usize);
-        insert_drawn(&mut graph, spec, draws, Flip::new(seed))?;
+        if multi > 0 {
+            insert_drawn(&mut graph, spec, draws, flip)?;
+        } else {
+            insert_once(&mut graph, spec, draws, flip)?;
+        }
         return Ok(graph);
     }
-    let edges = drawn_edges(spec, draws, Flip::new(seed))?;
+    let edges = drawn_edges(spec, draws, flip)?;
     graph.arena.reserve(edges.len() * numbers as usize);
     for Edge { from, to, more } in edges {
         graph.insert(from.into(), to.into(), min + i64::from(more))?;
@@ -870,13 +880,30 @@ fn insert_drawn(graph: &mut Graph, spec: Random, draws: Draws, mut flip: Flip) -
     if left == 0 { Ok(()) } else { Err(Refusal::Stuck) }
 }
 
-// One edge of each pair that is drawn. A pair that repeats is drawn anew, or lowers the length of its edge.
+// A pair that repeats is drawn anew.
+fn insert_once(graph: &mut Graph, spec: Random, draws: Draws, mut flip: Flip) -> Result<(), Refusal> {
+    let mut left = spec.m as usize;
+    let mut pairs = Pairs::new(left);
+    for _ in 0..MOST_ATTEMPTS {
+        if left == 0 {
+            break;
+        }
+        let (from, to) = draws.pair(&mut flip);
+        if (from != to || spec.loops) && pairs.insert(spec.key(from, to)).1 {
+            graph.insert(from, to, spec.min + i64::from(draws.length(&mut flip)))?;
+            left -= 1;
+        }
+    }
+    if left == 0 { Ok(()) } else { Err(Refusal::Stuck) }
+}
+
+// One edge of each pair that is drawn. A pair that repeats lowers the length of its edge.
 fn drawn_edges(spec: Random, draws: Draws, mut flip: Flip) -> Result<Vec<Edge>, Refusal> {
     let mut left = spec.m as usize;
     let mut pairs = Pairs::new(left);
     let mut edges: Vec<Edge> = Vec::with_capacity(left);
-    // By the place of a pair, its edge, where lengths are lowered.
-    let mut numbers = vec![0u32; if spec.multi < 0 { pairs.keys.len() } else { 0 }];
+    // By the place of a pair, its edge.
+    let mut numbers = vec![0u32; pairs.keys.len()];
     for _ in 0..MOST_ATTEMPTS {
         if left == 0 {
             break;
@@ -885,19 +912,16 @@ fn drawn_edges(spec: Random, draws: Draws, mut flip: Flip) -> Result<Vec<Edge>, 
         if from == to && !spec.loops {
             continue;
         }
-        let key = if spec.directed { from << 16 | to } else { from.min(to) << 16 | from.max(to) };
-        let (place, is_new) = pairs.insert(key);
+        let (place, is_new) = pairs.insert(spec.key(from, to));
+        let more = draws.length(&mut flip);
         if is_new {
-            if let Some(number) = numbers.get_mut(place) {
-                *number = edges.len() as u32;
-            }
-            edges.push(Edge { from: from as u16, to: to as u16, more: draws.length(&mut flip) });
-            left -= 1;
-        } else if let Some(number) = numbers.get(place) {
-            let edge = &mut edges[*number as usize];
-            edge.more = edge.more.min(draws.length(&mut flip));
-            left -= 1;
+            numbers[place] = edges.len() as u32;
+            edges.push(Edge { from: from as u16, to: to as u16, more });
+        } else {
+            let edge = &mut edges[numbers[place] as usize];
+            edge.more = edge.more.min(more);
         }
+        left -= 1;
     }
     if left == 0 { Ok(edges) } else { Err(Refusal::Stuck) }
 }
