@@ -5,7 +5,7 @@ use Rattle.std.proofs.lemmas.Bool.{cases_Bool, cases_lt, eq-eqb, ne_eqb}
 use Rattle.std.proofs.lemmas.Bool.Decides.{eqb_tells}
 use Rattle.std.proofs.lemmas.List.{get_or-set_same, get_or-set_other, get_or_default, get_or_past, set-get_or, length-set}
 use Rattle.std.proofs.lemmas.List.Folds.{list_any-append, list_any_at, list_any_none, position_or_len_push}
-use Rattle.sgb_random.specs.Private.Table.{first_place, holds, taken, HasRoom, IsFree, IsFull, IsPassed, IsTable, IsFirstOf, IsListed, IsNumbered, IsPlaceOf}
+use Rattle.sgb_random.specs.Private.Table.{first_place, holds, taken, HasRoom, IsFree, IsFull, IsBehind, IsPassed, IsTable, IsFirstOf, IsListed, IsNumbered, IsPlaceOf}
 
 -- ---- what stands in a table
 pub held_at : (key : ℕ) (slots : List ℕ) (q : ℕ) → q < length slots → get_or slots q 0 ≡ key + 1 → holds key slots ≡ true
@@ -97,6 +97,39 @@ taken_put (x ∷ xs) (suc place) slot below free some = elim (cases_Bool (x == 0
 ]
 
 -- ---- a number that is put at its place
+-- it is found there, and the others where they are
+module _ (slots : List ℕ) (key place : ℕ) (below : place < length slots) where
+  full_put : (from end : ℕ) → IsFull slots from end → IsFull (set slots place (key + 1)) from end
+  full_put from end full i low high free = elim (eqb_tells i place) [
+    | inl here ↦
+        let wrong : key + 1 ≡ 0 = sym (get_or-set_same slots place (key + 1) 0 below) ∙ (ap (λ j. get_or (set slots place (key + 1)) j 0) (sym here.1) ∙ free) in
+        omega arith
+    | inr other ↦ full i low high (sym (get_or-set_other slots place i (key + 1) 0 other.1) ∙ free)
+  ]
+
+  behind_put : (first q : ℕ) → IsBehind slots first q → IsBehind (set slots place (key + 1)) first q
+  behind_put first q (inl ahead) = inl (ahead.0, full_put first q ahead.1)
+  behind_put first q (inr around) =
+      inr (subst (IsFull (set slots place (key + 1)) first) (sym (length-set slots place (key + 1))) (full_put first (length slots) around.0), full_put 0 q around.1)
+
+pub table_put : (slots : List ℕ) (key place : ℕ) → IsTable slots → IsPlaceOf slots key place → IsTable (set slots place (key + 1))
+table_put slots key place table is =
+    let count : length (set slots place (key + 1)) ≡ length slots = length-set slots place (key + 1) in
+    record {
+      few = omega (arith, count, table.few);
+      reached = λ k q below held.
+          subst (λ n. IsBehind (set slots place (key + 1)) (first_place k n) q) (sym count)
+          (behind_put slots key place is.below (first_place k (length slots)) q
+          (elim (eqb_tells q place) [
+            | inl here ↦
+                let same : k + 1 ≡ key + 1 = sym held ∙ (ap (λ j. get_or (set slots place (key + 1)) j 0) here.1 ∙ get_or-set_same slots place (key + 1) 0 is.below) in
+                let one : k ≡ key = omega arith in
+                subst (λ n. IsBehind slots (first_place n (length slots)) q) (sym one)
+                (subst (IsBehind slots (first_place key (length slots))) (sym here.1) is.behind)
+            | inr other ↦ table.reached k q (omega (arith, below, count)) (sym (get_or-set_other slots place q (key + 1) 0 other.1) ∙ held)
+          ]));
+    }
+
 or_turned : (a b : Bool) → (a || b) ≡ (b || a)
 or_turned true true = refl
 or_turned true false = refl
