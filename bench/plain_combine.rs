@@ -219,6 +219,9 @@ fn intersection(g: &Graph, h: &Graph, directed: bool) -> Result<Graph, Refusal> 
             break;
         }
         for (_, arc) in h.walk(v, true) {
+            if arc.tip < low {
+                continue;
+            }
             let mark = &mut theirs[arc.tip as usize];
             *mark = (v, if mark.0 == v { mark.1.min(arc.len) } else { arc.len });
         }

@@ -47,11 +47,12 @@ pub(crate) fn keep_upward(spokes: &mut Vec<Spoke>, directed: bool, vertex: Verte
     spokes.retain(|spoke| directed || vertex.0 <= spoke.to);
 }
 
-// It leads to one of n vertices, and not below the vertex where edges are made.
+// It leads to one of n vertices, and not below the vertex where edges are made. One comparison tells both, since what
+// lies below wraps to a number beyond them all.
 #[inline]
 pub(crate) fn is_candidate(directed: bool, n: u32, vertex: VertexNo, spoke: Spoke) -> bool
     ensures { result ≡ is_candidate directed n vertex.0 spoke }
 {
     let low = if directed { 0 } else { vertex.0 };
-    low <= spoke.to && spoke.to < n
+    spoke.to.wrapping_sub(low) < n.saturating_sub(low)
 }

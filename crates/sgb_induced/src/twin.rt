@@ -1,5 +1,5 @@
 //! Runs of which each pair of ends has one.
-ghost use Rattle.std.specs.Prelude.{◌≡◌, ◌<◌, ◌≤◌, ◌+◌, ◌∷◌, ◌++◌, [], length, replicate, All, slice_index_or, slice_set, IfOk, OnOk};
+ghost use Rattle.std.specs.Prelude.{◌≡◌, ◌<◌, ◌≤◌, ◌+◌, ◌∷◌, ◌++◌, [], length, replicate, vec_len, vec_capacity, All, slice_index_or, slice_set, IfOk};
 ghost use Rattle.sgb_induced.specs.Private.Run.{merged, same_run};
 ghost use Rattle.sgb_induced.specs.Private.Twin.{AreLinked, AreTwins, IsBelow, Marked, key_at, kept_with, place_by, twin_of};
 
@@ -21,34 +21,32 @@ pub(crate) fn merge_runs(
     let mut kept = Vec::with_capacity(alloc, runs.len())?;
     let mut places = Vec::with_capacity(alloc, runs.len())?;
     for i in 0..runs.len() {
-        keep_run(&mut kept, &mut places, runs[i], twins[i] as usize)?;
+        keep_run(&mut kept, &mut places, runs[i], twins[i] as usize);
     }
     Ok(kept)
 }
 
 // Lowers the run where an earlier one with the same ends was merged, or keeps this one behind the others; and notes
 // where that was.
-fn keep_run(
-    kept: &mut Vec<Run>,
-    places: &mut Vec<u32>,
-    run: Run,
-    twin: usize,
-) -> Result<(), AllocError>
+#[inline]
+fn keep_run(kept: &mut Vec<Run>, places: &mut Vec<u32>, run: Run, twin: usize)
     requires few { length kept.old.items ≤ 1000000 }
+    requires kept_room { vec_len kept.old < vec_capacity kept.old }
+    requires places_room { vec_len places.old < vec_capacity places.old }
     requires place { twin < length places.old.items → slice_index_or places.old.items twin 0 < length kept.old.items }
-    ensures runs { OnOk result (kept.new.items ≡ kept_with kept.old.items places.old.items run twin) }
-    ensures places { OnOk result (places.new.items
-        ≡ places.old.items ++ place_by places.old.items twin (length kept.old.items) ∷ []) }
+    ensures runs { kept.new.items ≡ kept_with kept.old.items places.old.items run twin }
+    ensures places { places.new.items ≡ places.old.items ++ place_by places.old.items twin (length kept.old.items) ∷ [] }
+    ensures kept_capacity { vec_capacity kept.new ≡ vec_capacity kept.old }
+    ensures places_capacity { vec_capacity places.new ≡ vec_capacity places.old }
 {
     if twin >= places.len() {
-        places.push(kept.len() as u32)?;
-        kept.push(run)?;
-        return Ok(());
+        places.push_reserved(kept.len() as u32);
+        kept.push_reserved(run);
+        return;
     }
     let place = places[twin];
     kept[place as usize] = lowered_run(kept[place as usize], run);
-    places.push(place)?;
-    Ok(())
+    places.push_reserved(place);
 }
 
 // For each run the place of an earlier one with its ends, or its own where there is none.
