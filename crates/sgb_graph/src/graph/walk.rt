@@ -86,12 +86,12 @@ fn past(slots: &Arena, directed: bool, number: ArcNo, next: Link) -> Link
     }
 }
 
-// Both are loops, and the second is numbered next.
+// Both are loops, and the second is numbered next, which is asked first, since it is seldom so.
 #[inline]
 fn is_pair(slots: &Arena, first: ArcNo, second: ArcNo) -> bool
     requires first { first.0 < length slots.now }
     requires second { second.0 < length slots.now }
     ensures { result ≡ is_pair_in slots.now first.0 second.0 }
 {
-    slots.is_loop(first) && slots.is_loop(second) && follows(first, second)
+    follows(first, second) && slots.is_loop(first) && slots.is_loop(second)
 }
