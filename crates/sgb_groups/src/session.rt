@@ -70,6 +70,7 @@ impl Reversible for GroupedSession {
 
     /// Performs a command, or a group of them: all of it, or nothing where a member is refused. A group takes memory for
     /// its members' deltas and replies before the first of them is performed, and one without members takes none.
+    #[inline(always)]
     fn apply(
         &mut self,
         command: &GroupedCommand,

@@ -1,7 +1,8 @@
 -- What the journal's calls do to the lists of a script's course.
-use Rattle.std.proofs.Common.{◌≡◌, ℕ, ◌↔◌, ◌⊎◌, Bool, true, false, cond, IsTrue, ◌==◌, List, [], ◌∷◌, ◌++◌, length, Option, None, Some, Result, Ok, Err, refl, sym, ap, ◌∙◌, subst, inl, inr}
-use Rattle.std.specs.Prelude.{unwrap_or, IfOk, OnErr, IsErrOf, ◌&&◌, ◌||◌}
+use Rattle.std.proofs.Common.{◌≡◌, ℕ, ◌↔◌, ◌⊎◌, Bool, true, false, cond, IsTrue, ◌==◌, List, [], ◌∷◌, ◌++◌, length, codes, Option, None, Some, Result, Ok, Err, refl, sym, ap, ◌∙◌, subst, inl, inr}
+use Rattle.std.specs.Prelude.{unwrap_or, bytes_eq, IfOk, OnErr, IsErrOf, ◌&&◌, ◌||◌}
 use Rattle.std.proofs.lemmas.Bool.{ne_eqb, eq-eqb, or_left}
+use Rattle.std.proofs.lemmas.Slice.Eq.{bytes_eq-Decides}
 use Rattle.sgb_undo.specs.History.{IsJournal, Applies, Undoes, Redoes, FirstMayWant, grows_at}
 use Rattle.sgb_undo.specs.Outcome.{Refused}
 use Rattle.sgb_undo.specs.Replay.{fold}
@@ -14,10 +15,13 @@ use Rattle.sgb_groups.specs.declared.grouped.GroupedCommand.TheVariants.{One}
 use Rattle.sgb_groups.specs.declared.grouped.GroupedReply.{GroupedReply}
 use Rattle.sgb_groups.specs.Grouped.{step, before, may_want}
 use Rattle.sgb_script.specs.declared.command.Command.{Command}
+use Rattle.sgb_script.specs.declared.command.Command.TheVariants as commands
 use Rattle.sgb_script.specs.declared.command.Line.{Line}
 use Rattle.sgb_script.specs.declared.command.Line.TheVariants.{Nothing, Change, Undo, Redo, Ask, Load, Group, End}
 use Rattle.sgb_script.specs.declared.command.Query.{Query}
+use Rattle.sgb_script.specs.declared.command.Query.TheVariants as queries
 use Rattle.sgb_script.specs.Line.{line_of, takes_memory}
+use Rattle.sgb_script.specs.Words.{words_of}
 use Rattle.sgb_script.specs.declared.refusal.ShellRefusal.{ShellRefusal}
 use Rattle.sgb_script.specs.declared.refusal.ShellRefusal.TheVariants.{NoRoom, CheckWrong, Syntax, BadSpecs, LengthRange, TooLarge, NoGraph, BadOperand, ScriptSyntax, TableFull, NameTaken, NothingToUndo, NothingToRedo, JournalFull, Stuck}
 use Rattle.sgb_shell.specs.Lines.{all_but_last}
@@ -209,6 +213,39 @@ other_does j o l e (inr same) b = record {
   told = ap (λ p. line_told false (lists_of j) p) (e ∙ ap Some same);
   begun = b;
 }
+
+-- ---- lines of one word
+
+line_next : line_of (codes "next") ≡ Some (Change commands.Next)
+unfolding line_of words_of
+line_next = refl
+
+line_undo : line_of (codes "undo") ≡ Some Undo
+unfolding line_of words_of
+line_undo = refl
+
+line_redo : line_of (codes "redo") ≡ Some Redo
+unfolding line_of words_of
+line_redo = refl
+
+line_gen : line_of (codes "gen") ≡ Some (Ask queries.Gen)
+unfolding line_of words_of
+line_gen = refl
+
+of_word : (old new : Kept) (line word : List ℕ) (l : Line) (answer : Answer) → bytes_eq line word ≡ true → line_of word ≡ Some l → Does (by_line (Some l)) old new answer → Does (by_line (line_of line)) old new answer
+of_word old new line word l answer same is d = subst (λ o. Does (by_line o) old new answer) (sym (ap line_of ((bytes_eq-Decides line word).0 same) ∙ is)) d
+
+pub next_does : (old new : Kept) (line : List ℕ) (answer : Answer) → bytes_eq line (codes "next") ≡ true → Does (by_command (One commands.Next)) old new answer → Does (by_line (line_of line)) old new answer
+next_does old new line answer same d = of_word old new line _ _ answer same line_next (changed_does old new commands.Next answer d)
+
+pub undo_does : (old new : Kept) (line : List ℕ) (answer : Answer) → bytes_eq line (codes "undo") ≡ true → Does (by_line (Some Undo)) old new answer → Does (by_line (line_of line)) old new answer
+undo_does old new line answer same d = of_word old new line _ _ answer same line_undo d
+
+pub redo_does : (old new : Kept) (line : List ℕ) (answer : Answer) → bytes_eq line (codes "redo") ≡ true → Does (by_line (Some Redo)) old new answer → Does (by_line (line_of line)) old new answer
+redo_does old new line answer same d = of_word old new line _ _ answer same line_redo d
+
+pub gen_does : (j : Kept) (line : List ℕ) → bytes_eq line (codes "gen") ≡ true → IsBegun j → Does (by_line (line_of line)) j j answers.Generator
+gen_does j line same b = of_word j j line _ _ answers.Generator same line_gen (asked_does j queries.Gen answers.Generator b (false, refl))
 
 -- a text that found no room
 wanted : (j : Kept) (o : Option Line) → IsBegun j → takes_memory o ≡ true → Does (by_line o) j j (answers.Refused NoRoom)

@@ -1,5 +1,6 @@
 //! Does what a line says to the session's journal.
 ghost use Rattle.std.specs.Prelude.{◌≡◌, Some};
+ghost use Rattle.std.specs.Str.{bytes_eq};
 ghost use Rattle.sgb_script.specs.Line.{line_of};
 ghost use Rattle.sgb_shell.specs.Private.Performing.{IsBegun, Does, Answers, Saves, by_command, by_line, answer_from, refusal_from};
 ghost use Rattle.sgb_script.specs.declared.command.Line.TheVariants.{Undo, Redo};
@@ -7,14 +8,40 @@ ghost use Rattle.sgb_script.specs.declared.command.Line.TheVariants.{Undo, Redo}
 use crate::answer::Answer;
 use sgb_graph::Graph;
 use sgb_groups::{GroupedCommand, GroupedReply, GroupedSession};
-use sgb_script::{Line, Query, ShellRefusal, parse};
+use sgb_script::{Command, Line, Query, ShellRefusal, parse};
 use sgb_session::Session;
 use sgb_text::save;
 use sgb_undo::{Journal, JournalRefusal};
 use std::alloc::Global;
 
-/// Reads a line without a text, and does what it says.
+/// Reads a line without a text, and does what it says. The lines of one word that take nothing are met first, without
+/// a look for words.
+#[inline(always)]
 pub(crate) fn perform(alloc: Global, journal: &mut Journal<GroupedSession>, line: &[u8]) -> Answer
+    ensures { IsBegun journal.old → Does (by_line (line_of line.now)) journal.old journal.new result }
+{
+    if is(line, "undo") {
+        undo(journal)
+    } else if is(line, "redo") {
+        redo(journal)
+    } else if is(line, "next") {
+        change(journal, GroupedCommand::One(Command::Next))
+    } else if is(line, "gen") {
+        Answer::Generator
+    } else {
+        perform_words(alloc, journal, line)
+    }
+}
+
+fn is(line: &[u8], word: &str) -> bool
+    ensures { result ≡ bytes_eq line.now word.now }
+{
+    line == word.as_bytes()
+}
+
+// Reads a line by its words, and does what it says.
+#[inline(never)]
+fn perform_words(alloc: Global, journal: &mut Journal<GroupedSession>, line: &[u8]) -> Answer
     ensures { IsBegun journal.old → Does (by_line (line_of line.now)) journal.old journal.new result }
 {
     match parse(alloc, line) {
@@ -31,6 +58,7 @@ pub(crate) fn perform(alloc: Global, journal: &mut Journal<GroupedSession>, line
 }
 
 /// Performs a command, or a group.
+#[inline(always)]
 pub(crate) fn change(journal: &mut Journal<GroupedSession>, command: GroupedCommand) -> Answer
     ensures { IsBegun journal.old → Does (by_command command) journal.old journal.new result }
 {

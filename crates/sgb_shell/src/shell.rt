@@ -99,6 +99,7 @@ impl Shell {
     }
 
     // The line that the bytes begin with, where it is whole and a unit of its own.
+    #[inline(always)]
     fn unit_ahead<'a>(&self, bytes: &'a [u8]) -> Option<&'a [u8]>
         ensures { IfSome result (λ line. IsUnitAhead self.now.pending self.now.line line.now bytes.now) }
     {
@@ -241,6 +242,7 @@ fn first_line(bytes: &[u8]) -> Option<&[u8]>
 }
 
 // The line that the bytes begin with, where a newline ends it and no others belong to its unit.
+#[inline(always)]
 fn plain_line(bytes: &[u8]) -> Option<&[u8]>
     ensures { IfSome result (λ line. (takes_text line.now ≡ false) × (takes_members line.now ≡ false) × IsFirstLine line.now bytes.now) }
 {

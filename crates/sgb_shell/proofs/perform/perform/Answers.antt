@@ -1,24 +1,15 @@
-use Rattle.std.proofs.Common.{◌∙◌, subst, inl, inr}
-use Rattle.sgb_shell.specs.Private.Performing.{Answers}
-use Rattle.sgb_shell.proofs.Performing.{read_does, changed_does, refused_does, asked_does, load_does, other_does}
+use Rattle.std.proofs.Common.{sym, ◌∙◌}
+use Rattle.sgb_shell.proofs.Performing.{undo_does, redo_does, next_does, gen_does}
 use Rattle.sgb_shell.proofs.perform.perform.Goals as goal
 
-pub returns-in-Ok-Change : goal.returns-in-Ok-Change
-returns-in-Ok-Change c b = read_does _ _ _ _ _ _ c.in-Ok-Change.ensures.ok c.in-Ok-Change.field-0-is (changed_does _ _ _ _ (c.change.ensures b))
+pub returns-then-is : goal.returns-then-is
+returns-then-is c b = undo_does _ _ _ _ (sym c.is.ensures ∙ c.if-is.true) (c.undo.ensures b)
 
-pub returns-in-Ok-Ask : goal.returns-in-Ok-Ask
-returns-in-Ok-Ask c b =
-    read_does _ _ _ _ _ _ c.in-Ok-Ask.ensures.ok c.in-Ok-Ask.field-0-is
-    (asked_does _ c.in-Ok-Ask.query _ b (subst (λ s. Answers s c.in-Ok-Ask.query c.ask.result) (c.session.ensures.value ∙ c.machine.ensures.value) c.ask.ensures))
+pub returns-then-is-2 : goal.returns-then-is-2
+returns-then-is-2 c b = redo_does _ _ _ _ (sym c.is-else-is.ensures ∙ c.if-is-2.true) (c.redo.ensures b)
 
-pub returns-in-Ok-Load : goal.returns-in-Ok-Load
-returns-in-Ok-Load c b = load_does _ _ _ _ _ c.in-Ok-Load.ensures.ok c.in-Ok-Load.field-0-is b
+pub returns-then-is-3 : goal.returns-then-is-3
+returns-then-is-3 c b = next_does _ _ _ _ (sym c.is-else-is-2.ensures ∙ c.if-is-3.true) (c.change.ensures b)
 
-pub returns-in-Ok-Group : goal.returns-in-Ok-Group
-returns-in-Ok-Group c b = other_does _ _ _ c.in-Ok-Group.ensures.ok (inl c.in-Ok-Group.field-0-is) b
-
-pub returns-in-Ok-End : goal.returns-in-Ok-End
-returns-in-Ok-End c b = other_does _ _ _ c.in-Ok-End.ensures.ok (inr c.in-Ok-End.field-0-is) b
-
-pub returns-in-Err : goal.returns-in-Err
-returns-in-Err c b = refused_does _ _ _ b c.in-Err.ensures.err
+pub returns-then-is-4 : goal.returns-then-is-4
+returns-then-is-4 c b = gen_does _ _ (sym c.is-else-is-3.ensures ∙ c.if-is-4.true) b
