@@ -18,6 +18,7 @@ import importlib.machinery
 import importlib.util
 import os
 import re
+import resource
 import shutil
 import subprocess
 import sys
@@ -268,8 +269,39 @@ def await_memory():
 
 
 def rattle(crate, folder, flags):
+    """What a check says, but for its offers of files to write a proof in: they take a fifth of it, and say nothing of what is refused."""
     await_memory()
-    return call([*GUARD, rtlib.RATTLE, 'check', *crate.words(['--jobs', '1'], keeps=False), *flags], folder)
+    stages = '%s/stages' % folder
+    words = ['check', *crate.words(['--jobs', '1'], keeps=False), '--stage-times', stages, *flags]
+    with tempfile.TemporaryFile('w+', errors='replace') as said:
+        ran = subprocess.Popen([*GUARD, rtlib.RATTLE, *words], cwd=folder, stdin=subprocess.DEVNULL, stdout=said, stderr=subprocess.STDOUT)
+        while not has_verdicts(stages) and not has_ended(ran):
+            pass
+        opens_no_more(ran.pid)
+        ran.wait()
+        said.seek(0)
+        return said.read()
+
+
+def has_ended(ran):
+    """Whether a command ends within a short time."""
+    try:
+        return ran.wait(0.1) is not None
+    except subprocess.TimeoutExpired:
+        return False
+
+
+def has_verdicts(stages):
+    """Whether a check that writes this file of its stages has put together all that it says of the functions."""
+    return os.path.isfile(stages) and re.search(r'(?m)^stage lines ', rtlib.text_of(stages))
+
+
+def opens_no_more(process):
+    """Lets a process open no file more, without which a check makes no offers."""
+    try:
+        resource.prlimit(process, resource.RLIMIT_NOFILE, (3, 3))
+    except OSError:
+        pass
 
 
 def only(crate, edits):
@@ -288,7 +320,7 @@ def check(crate, edits, flags=(), is_first=False):
         if not is_first:
             # Each begins with the work of the proved crate, in links that a check replaces, so no edit meets what another one left.
             shutil.copytree(kept(crate), over, copy_function=link)
-        said = Said(rattle(crate, room, ['--incremental', over, '--allow-holes', *flags])[1], changed)
+        said = Said(rattle(crate, room, ['--incremental', over, '--allow-holes', *flags]), changed)
         if is_first:
             TOLD[crate.name] = [path for path, _ in said.told]
         return said, left

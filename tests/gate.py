@@ -221,26 +221,27 @@ class Gate:
 
     def run(self):
         """Runs all parts. The edits are tried beside the others, in a copy, by the processors that the others leave."""
-        with tempfile.TemporaryDirectory(prefix='sgb-beside-') as room, ThreadPoolExecutor(1) as pool:
+        with tempfile.TemporaryDirectory(prefix='sgb-beside-') as room, ThreadPoolExecutor(2) as pool:
             self.copy = '%s/repository' % room
             shutil.copytree('.', self.copy, symlinks=True, ignore=shutil.ignore_patterns('.git', 'out', 'bin'))
             proved, told = os.pipe()
             with os.fdopen(told, 'w', buffering=1) as self.names:
-                beside = pool.submit(self.try_edits, proved)
+                beside = [pool.submit(self.beside, 'edits', ['tests/edits.py', '--as-proved'], proved),
+                          pool.submit(self.beside, 'the tests of tests/edits.py', ['tests/test_edits.py'])]
                 # One job a check: several on one check take half as much processor again, and the edits use what is idle.
                 lanes = max(1, min(rt.processors(), rt.free() // MEMORY))
                 os.environ.setdefault('RT_JOBS', str(lanes))
                 self.part('rt ci', ['rt', 'ci'], self.tell)
             self.run_program()
-            beside.result()
+            for it in beside:
+                it.result()
         used, start = seconds(resource.getrusage(resource.RUSAGE_CHILDREN)), self.log.start
         print('%.1f minutes of processor time, %.1f minutes by the clock' % (used / 60, (time.time() - start) / 60))
         print('%d passed, %d failed' % (self.passed, self.failed))
         return 1 if self.failed else 0
 
-    def try_edits(self, proved):
-        self.part('the tests of tests/edits.py', [*GENTLY, sys.executable, 'tests/test_edits.py'], folder=self.copy)
-        self.part('edits', [*GENTLY, sys.executable, 'tests/edits.py', '--as-proved'], folder=self.copy, given=proved)
+    def beside(self, name, words, given=subprocess.DEVNULL):
+        self.part(name, [*GENTLY, sys.executable, *words], folder=self.copy, given=given)
 
     def run_program(self):
         program = next(it for it in crates() if it.is_program)
