@@ -1,5 +1,5 @@
 -- Lemmas on spokes that are read as the arcs of vertices are walked.
-use Rattle.std.proofs.Common.{◌≡◌, ◌<◌, ◌≤◌, ◌&&◌, ℕ, List, [], ◌∷◌, ◌++◌, map, cond, Bool, true, false, nat_lt, All, inl, inr, refl, sym, ap, ap₂, ◌∙◌}
+use Rattle.std.proofs.Common.{◌≡◌, ◌≤◌, ◌&&◌, ℕ, List, [], ◌∷◌, ◌++◌, map, cond, Bool, true, false, nat_lt, All, inl, inr, refl, sym, ap, ap₂, ◌∙◌}
 use Rattle.std.specs.List.{filter}
 use Rattle.std.proofs.lemmas.Bool.{cases_Bool, lt-ltb, and_parts, ltb-true, ltb-false}
 use Rattle.std.proofs.lemmas.List.{append_assoc, append-nil}

@@ -1,5 +1,5 @@
 -- Lemmas on unions.
-use Rattle.std.proofs.Common.{◌≡◌, ℕ, List, map, ap, ◌∙◌}
+use Rattle.std.proofs.Common.{◌≡◌, ℕ, List, map, ap}
 use Rattle.sgb_graph.specs.Graph.{GraphOf}
 use Rattle.sgb_operand.specs.declared.spoke.Spoke.{Spoke}
 use Rattle.sgb_combine.specs.declared.spec.GunionSpec.{GunionSpec}

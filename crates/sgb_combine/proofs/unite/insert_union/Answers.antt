@@ -1,4 +1,4 @@
-use Rattle.std.proofs.Common.{◌++◌, map, ap, subst, ◌∙◌, sym}
+use Rattle.std.proofs.Common.{map, subst, ◌∙◌, sym}
 use Rattle.sgb_graph.specs.Builder.{Inserts}
 use Rattle.sgb_combine.specs.Combined.{along}
 use Rattle.sgb_combine.specs.Gunion.{run_of}
