@@ -94,6 +94,13 @@ words_more rows i word words after less is known added put =
           (sym fresh ∙ list_any_at (λ j. word == j) words k d low (eq-eqb word (get_or words k d) (sym same)))));
     }
 
+-- what stands at the place of a row is its word
+pub word_own : (rows : List (List ℕ)) (words : List ℕ) (row : List ℕ) (v word : ℕ) → IsWordsOf rows words → v < length rows → row ≡ get_or rows v [] → word ≡ get_or words v 0 → word ≡ word_of row
+word_own rows words row v word known less same is =
+    is
+    ∙ (ap (λ ws. get_or ws v 0) known.are
+    ∙ (get_or-map word_of rows v [] 0 less ∙ ap word_of (sym same)))
+
 -- of words of which no two are the same each is found where it stands
 pub word_here : (words : List ℕ) (word p : ℕ) → Distinct words → p < length words → get_or words p 0 ≡ word → word_place words word ≡ p
 word_here words word p apart less here =

@@ -6,7 +6,7 @@ ghost use Rattle.sgb_perms.specs.Arrangement.{is_descent, exchanged};
 ghost use Rattle.sgb_perms.specs.Perms.{exchanges, exchanges_of, place_of, row_at};
 ghost use Rattle.sgb_perms.specs.Private.Places.{shown_by, IsWordsOf, IsIndexOf, IsClosed, LeadsWithin};
 
-use crate::places::{Places, place_near, place_of, word_of};
+use crate::places::{Places, place_near, place_of, word_at};
 use crate::rows::Rows;
 use indexmap::IndexSet;
 use sgb_graph::{Builder, Refusal, VertexNo};
@@ -64,7 +64,7 @@ fn insert_to_word(
     ensures { Inserts builder.old builder.new (exchanges_of rows.now.rows to.0 (row_at rows.now.rows to.0)) result }
 {
     let row = rows.row(to.0 as usize);
-    let word = word_of(row);
+    let word = word_at(words, to.0 as usize);
     let mut worth: u64 = 30;
     for place in 0..row.len().saturating_sub(1) {
         let (left, right) = (row[place], row[place + 1]);

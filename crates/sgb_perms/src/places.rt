@@ -109,3 +109,14 @@ fn stands_at(words: &IndexSet<u64>, word: u64, place: usize) -> bool
         None => false,
     }
 }
+
+// The word at this place.
+#[inline]
+pub(crate) fn word_at(words: &IndexSet<u64>, place: usize) -> u64
+    ensures { result ≡ get_or words.now.keys place 0 }
+{
+    match words.get_index(place) {
+        Some(word) => *word,
+        None => 0,
+    }
+}
