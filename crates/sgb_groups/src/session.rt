@@ -100,6 +100,7 @@ impl Reversible for GroupedSession {
     }
 
     /// Takes back a command, or each member of a group, the last first. It takes no memory.
+    #[inline(always)]
     fn revert(&mut self, delta: GroupedDelta) {
         match delta {
             GroupedDelta::One(one) => self.session.revert(one),

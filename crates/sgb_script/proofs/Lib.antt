@@ -1,3 +1,4 @@
+mod Blocks
 mod Digits
 mod Names
 mod Numbered

@@ -11,6 +11,7 @@ use sgb_graph::{ArcField, ArcNo, GraphField, Place, Types, Util, VertexField, Ve
 use sgb_make::Seed;
 use sgb_text::CheckRule;
 
+#[inline(always)]
 pub(crate) fn the_number(word: Word<'_>) -> Option<i64>
     ensures { result ≡ the_number (seen word.entry) }
 {
@@ -59,6 +60,7 @@ pub(crate) fn the_rule(word: Word<'_>) -> Option<CheckRule>
     }
 }
 
+#[inline(always)]
 pub(crate) fn the_vertex(word: Word<'_>) -> Option<VertexNo>
     ensures { result ≡ the_vertex (seen word.entry) }
 {
@@ -66,6 +68,7 @@ pub(crate) fn the_vertex(word: Word<'_>) -> Option<VertexNo>
     Some(VertexNo(in_32_bits(number)))
 }
 
+#[inline(always)]
 pub(crate) fn the_arc(word: Word<'_>) -> Option<ArcNo>
     ensures { result ≡ the_arc (seen word.entry) }
 {
@@ -73,6 +76,7 @@ pub(crate) fn the_arc(word: Word<'_>) -> Option<ArcNo>
     Some(ArcNo(in_32_bits(number)))
 }
 
+#[inline(always)]
 pub(crate) fn the_name(word: Word<'_>) -> Option<Name>
     ensures { result ≡ the_name (seen word.entry) }
 {
@@ -103,6 +107,7 @@ pub(crate) fn the_letters(word: Word<'_>) -> Option<Types>
 }
 
 /// A place, and one of its fields.
+#[inline]
 pub(crate) fn the_place(place: Word<'_>, field: Word<'_>) -> Option<Place>
     ensures { result ≡ the_place (seen place.entry) (seen field.entry) }
 {
@@ -112,6 +117,7 @@ pub(crate) fn the_place(place: Word<'_>, field: Word<'_>) -> Option<Place>
     }
 }
 
+#[inline]
 fn place_in(place: &[u8], field: &[u8]) -> Option<Place>
     ensures { result ≡ place_in place.now field.now }
 {
@@ -130,6 +136,7 @@ fn place_in(place: &[u8], field: &[u8]) -> Option<Place>
 }
 
 /// A value that is no text: `Vk`, `Ak` or a number.
+#[inline]
 pub(crate) fn value_in(word: &[u8]) -> Option<Util>
     ensures { result ≡ value_in word.now }
 {

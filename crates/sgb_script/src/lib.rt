@@ -7,6 +7,7 @@ mod line;
 mod makers;
 mod name;
 mod numbers;
+mod printable;
 mod refusal;
 mod text;
 mod words;

@@ -1,11 +1,10 @@
 //! Reads one line of a script.
 ghost use Rattle.std.specs.Prelude.{◌≡◌, ◌⊎◌, MatchOption, IfOk, IfErr, IsTrue, length, ◌==◌, ◌∷◌, [], slice_index, Some, None};
-ghost use Rattle.std.specs.List.{list_all};
 ghost use Rattle.std.specs.Option.{option_and_then};
 ghost use Rattle.std.specs.Str.{bytes_eq};
 ghost use Rattle.sgb_script.specs.Words.{words_of};
 ghost use Rattle.sgb_script.specs.Arguments.{the_value};
-ghost use Rattle.sgb_script.specs.Line.{line_of, asked_of, line_after, keyword_of, step_of, whole_of, takes_memory, is_printable_byte};
+ghost use Rattle.sgb_script.specs.Line.{line_of, asked_of, line_after, keyword_of, step_of, whole_of, takes_memory};
 ghost use Rattle.sgb_script.specs.Private.Words.{seen, AreTexts, HasTexts};
 ghost use Rattle.sgb_script.specs.Private.Reading.{is_text, Begins, Reads};
 ghost use Rattle.sgb_script.specs.declared.refusal.ShellRefusal.TheVariants.{NoRoom, ScriptSyntax};
@@ -16,6 +15,7 @@ use crate::arguments::{
 };
 use crate::command::{Command, Edit, Line, Query};
 use crate::makers::{Kind, drawn, make};
+use crate::printable::is_printable;
 use crate::refusal::ShellRefusal;
 use crate::text::text;
 use crate::words::{Word, four_words, is_blank, one_word, split_word, three_words, two_words};
@@ -466,21 +466,4 @@ fn is_comment(line: &[u8]) -> bool
     ensures { result ≡ (slice_index line.now 0 == 35) }
 {
     line.first() == Some(&b'#')
-}
-
-// Looks at all bytes, whatever it meets: so many are looked at together.
-fn is_printable(line: &[u8]) -> bool
-    ensures { result ≡ list_all is_printable_byte line.now }
-{
-    let mut all = true;
-    'bytes: for byte in line {
-        all = all & is_printable_byte(*byte);
-    }
-    all
-}
-
-fn is_printable_byte(byte: u8) -> bool
-    ensures { result ≡ is_printable_byte byte }
-{
-    byte >= b' ' && byte <= b'~'
 }

@@ -62,6 +62,7 @@ impl Eq for Name {
 
 impl Name {
     /// The name of these bytes, where they are one.
+    #[inline]
     pub fn new(bytes: &[u8]) -> Option<Name>
         ensures some { IfSome result (λ n. n ≡ bytes.now) }
         ensures when { IfSome result (λ _. IsTrue (is_name bytes.now)) }
@@ -88,6 +89,7 @@ impl Name {
     }
 }
 
+#[inline]
 fn is_name(bytes: &[u8]) -> bool
     ensures { result ≡ is_name bytes.now }
 {
@@ -97,6 +99,7 @@ fn is_name(bytes: &[u8]) -> bool
     begins_with_letter(bytes) && are_name_bytes(bytes)
 }
 
+#[inline]
 fn begins_with_letter(bytes: &[u8]) -> bool
     ensures { result ≡ is_letter (slice_index bytes.now 0) }
 {
@@ -106,18 +109,21 @@ fn begins_with_letter(bytes: &[u8]) -> bool
     }
 }
 
+#[inline]
 fn are_name_bytes(bytes: &[u8]) -> bool
     ensures { result ≡ list_all is_name_byte bytes.now }
 {
     bytes.iter().all(|byte| is_name_byte(*byte))
 }
 
+#[inline]
 fn is_letter(byte: u8) -> bool
     ensures { result ≡ is_letter byte }
 {
     matches!(byte, b'A'..=b'Z' | b'a'..=b'z')
 }
 
+#[inline]
 fn is_name_byte(byte: u8) -> bool
     ensures { result ≡ is_name_byte byte }
 {

@@ -8,6 +8,7 @@ use std::str::from_utf8;
 const SHORT: usize = 17;
 
 /// A whole number: digits, and a minus before them.
+#[inline(always)]
 pub(crate) fn number(word: &[u8]) -> Option<i64>
     ensures { result ≡ number_of word.now }
 {
@@ -18,6 +19,7 @@ pub(crate) fn number(word: &[u8]) -> Option<i64>
 }
 
 // The number that a few digits spell; none tells nothing of the word.
+#[inline(always)]
 fn short_natural(digits: &[u8]) -> Option<u64>
     ensures value { IfSome result (λ n. natural_of digits.now ≡ Some n) }
     ensures small { IfSome result (λ n. n < 10 ^ 17) }
@@ -79,6 +81,7 @@ pub(crate) fn is_yes(flag: i64) -> bool
 }
 
 /// The number as one of 32 bits. What is none of them becomes the greatest.
+#[inline(always)]
 pub(crate) fn in_32_bits(number: i64) -> u32
     ensures { result ≡ in_32_bits number }
 {

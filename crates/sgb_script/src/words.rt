@@ -27,6 +27,7 @@ pub(crate) enum Word<'a> {
 }
 
 /// Whether no word is left.
+#[inline(always)]
 pub(crate) fn is_blank(line: &[u8]) -> bool
     ensures { result ≡ is_nothing (words_of line.now) }
 {
@@ -34,6 +35,7 @@ pub(crate) fn is_blank(line: &[u8]) -> bool
 }
 
 /// The word, where there is one and no more.
+#[inline(always)]
 pub(crate) fn one_word(line: &[u8]) -> Option<Word<'_>>
     ensures { option_map seen result ≡ one_of (words_of line.now) }
 {
@@ -42,6 +44,7 @@ pub(crate) fn one_word(line: &[u8]) -> Option<Word<'_>>
 }
 
 /// The words, where there are two.
+#[inline(always)]
 pub(crate) fn two_words(line: &[u8]) -> Option<(Word<'_>, Word<'_>)>
     ensures { option_map (λ p. (seen p.0, seen p.1)) result ≡ two_of (words_of line.now) }
 {
@@ -55,6 +58,7 @@ pub(crate) fn two_words(line: &[u8]) -> Option<(Word<'_>, Word<'_>)>
 }
 
 /// The words, where there are three.
+#[inline(always)]
 pub(crate) fn three_words(line: &[u8]) -> Option<(Word<'_>, Word<'_>, Word<'_>)>
     ensures { option_map (λ p. (seen p.0, seen p.1, seen p.2)) result ≡ three_of (words_of line.now) }
 {
@@ -69,6 +73,7 @@ pub(crate) fn three_words(line: &[u8]) -> Option<(Word<'_>, Word<'_>, Word<'_>)>
 }
 
 /// The words, where there are four.
+#[inline(always)]
 pub(crate) fn four_words(line: &[u8]) -> Option<(Word<'_>, Word<'_>, Word<'_>, Word<'_>)>
     ensures { option_map (λ p. (seen p.0, seen p.1, seen p.2, seen p.3)) result ≡ four_of (words_of line.now) }
 {
@@ -84,6 +89,7 @@ pub(crate) fn four_words(line: &[u8]) -> Option<(Word<'_>, Word<'_>, Word<'_>, W
 }
 
 /// The first word and what follows it, where the line begins with one.
+#[inline(always)]
 pub(crate) fn split_word(line: &[u8]) -> Option<(Word<'_>, &[u8])>
     ensures { Splits (words_of line.now) result }
 {
@@ -135,6 +141,7 @@ fn split_quoted(inside: &[u8]) -> Option<(Word<'_>, &[u8])>
 }
 
 // The first word and what follows it, where the text begins with a byte of a plain word.
+#[inline(always)]
 fn split_plain(text: &[u8]) -> Option<(Word<'_>, &[u8])>
     requires { 0 < prefix_len (λ b. not (b == 32 || b == 34)) text.now }
     ensures { Splits (words_of text.now) result }
@@ -147,6 +154,7 @@ fn split_plain(text: &[u8]) -> Option<(Word<'_>, &[u8])>
 }
 
 // Whether a word can end before these bytes.
+#[inline(always)]
 fn ends_word(rest: &[u8]) -> bool
     ensures { result ≡ (slice_index rest.now 0 == 32 || length rest.now == 0) }
 {
@@ -165,6 +173,7 @@ fn has_backslash(text: &[u8]) -> bool
     text.iter().any(|b| *b == BACKSLASH)
 }
 
+#[inline(always)]
 fn count_spaces(line: &[u8]) -> usize
     ensures count { result ≡ prefix_len (λ b. b == 32) line.now }
     ensures within { result ≤ length line.now }
@@ -172,6 +181,7 @@ fn count_spaces(line: &[u8]) -> usize
     line.iter().take_while(|b| **b == SPACE).count()
 }
 
+#[inline(always)]
 fn count_letters(text: &[u8]) -> usize
     ensures count { result ≡ prefix_len (λ b. not (b == 32 || b == 34)) text.now }
     ensures within { result ≤ length text.now }

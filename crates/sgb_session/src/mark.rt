@@ -80,6 +80,7 @@ impl Mark {
     }
 
     /// Draws a uniform number below `m`.
+    #[inline]
     pub fn uniform(&mut self, m: u32) -> Drawn
         requires positive { 1 ≤ m }
         requires small { m ≤ 2 ^ 31 }
@@ -96,11 +97,16 @@ impl Mark {
     }
 
     /// Takes back the last draws.
+    #[inline]
     pub fn back_by(&mut self, draws: u64)
         requires { draws ≤ self.old.draws }
         ensures { self.new ≡ drawn_back self.old draws }
     {
         self.draws -= draws;
+        if draws == 1 {
+            self.flip.back();
+            return;
+        }
         self.flip.back_by(draws);
     }
 

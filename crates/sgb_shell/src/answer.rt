@@ -37,6 +37,7 @@ pub(crate) enum Answer {
 }
 
 /// Prints the answer to the unit of a number, at the session after it.
+#[inline]
 pub(crate) fn print_answer<W: Write>(
     writer: &mut MeteredWriter<W>,
     number: u64,
@@ -59,6 +60,7 @@ pub(crate) fn print_answer<W: Write>(
     }
 }
 
+#[inline]
 fn print_reply<W: Write>(writer: &mut MeteredWriter<W>, reply: &Reply) -> Result<(), Failed>
     ensures { Prints (W.contents writer.old.inner) (W.contents writer.new.inner) writer.old.failed writer.new.failed
         result (reply_text reply.now) }
@@ -72,6 +74,7 @@ fn print_reply<W: Write>(writer: &mut MeteredWriter<W>, reply: &Reply) -> Result
     }
 }
 
+#[inline]
 fn print_number<W: Write>(writer: &mut MeteredWriter<W>, number: u32) -> Result<(), Failed>
     ensures { Prints (W.contents writer.old.inner) (W.contents writer.new.inner) writer.old.failed writer.new.failed
         result (decimal number ++ codes "\n") }
@@ -82,6 +85,7 @@ fn print_number<W: Write>(writer: &mut MeteredWriter<W>, number: u32) -> Result<
     page.print(writer)
 }
 
+#[inline]
 fn print_arc<W: Write>(writer: &mut MeteredWriter<W>, number: ArcNo) -> Result<(), Failed>
     ensures { Prints (W.contents writer.old.inner) (W.contents writer.new.inner) writer.old.failed writer.new.failed
         result (codes "A" ++ decimal number.0 ++ codes "\n") }
@@ -93,6 +97,7 @@ fn print_arc<W: Write>(writer: &mut MeteredWriter<W>, number: ArcNo) -> Result<(
     page.print(writer)
 }
 
+#[inline]
 fn print_edge<W: Write>(
     writer: &mut MeteredWriter<W>,
     first: ArcNo,

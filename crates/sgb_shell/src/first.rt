@@ -1,9 +1,9 @@
 //! How a line begins.
-ghost use Rattle.std.specs.Prelude.{◌≡◌, ◌++◌, ◌∷◌, ◌==◌, ◌&&◌, ◌||◌, [], true, false, List, ℕ, codes, length, take, drop};
+ghost use Rattle.std.specs.Prelude.{◌≡◌, ◌++◌, ◌∷◌, ◌==◌, ◌&&◌, ◌||◌, [], true, false, List, ℕ, codes, length, take, drop, slice_index};
 ghost use Rattle.std.specs.List.{list_all};
 ghost use Rattle.std.specs.Str.{bytes_eq};
 ghost use Rattle.sgb_shell.specs.Unit.{takes_text, takes_members, is_end};
-ghost use Rattle.sgb_shell.specs.Private.Holding.{front_of};
+ghost use Rattle.sgb_shell.specs.Private.Holding.{front_of, opens};
 
 use arrayvec::ArrayVec;
 use std::marker::Model;
@@ -83,8 +83,36 @@ impl FirstBytes {
     }
 }
 
-/// Whether a line has no spaces in front, takes no text and begins no group.
+/// Whether a line has no spaces in front, takes no text and begins no group. The first byte tells it of most.
+#[inline]
 pub(crate) fn is_plain(line: &[u8]) -> bool
+    ensures { result ≡ true → (takes_text line.now ≡ false) × (takes_members line.now ≡ false) }
+{
+    if !may_open(line) {
+        return true;
+    }
+    is_closed(line)
+}
+
+// Whether the first byte is one that `load`, `group` or spaces in front begin with.
+fn may_open(line: &[u8]) -> bool
+    ensures { result ≡ opens (slice_index line.now 0) }
+{
+    match line.first() {
+        Some(first) => opens(*first),
+        None => false,
+    }
+}
+
+fn opens(byte: u8) -> bool
+    ensures { result ≡ opens byte }
+{
+    byte == b' ' || byte == b'g' || byte == b'l'
+}
+
+// The same of any line.
+#[inline(never)]
+fn is_closed(line: &[u8]) -> bool
     ensures { result ≡ true → (takes_text line.now ≡ false) × (takes_members line.now ≡ false) }
 {
     let word = beginning(line);

@@ -66,6 +66,7 @@ pub(crate) fn change(journal: &mut Journal<GroupedSession>, command: GroupedComm
     answer_to(outcome)
 }
 
+#[inline]
 fn undo(journal: &mut Journal<GroupedSession>) -> Answer
     ensures { IsBegun journal.old → Does (by_line (Some Undo)) journal.old journal.new result }
 {
@@ -75,6 +76,7 @@ fn undo(journal: &mut Journal<GroupedSession>) -> Answer
     }
 }
 
+#[inline]
 fn redo(journal: &mut Journal<GroupedSession>) -> Answer
     ensures { IsBegun journal.old → Does (by_line (Some Redo)) journal.old journal.new result }
 {
@@ -82,6 +84,7 @@ fn redo(journal: &mut Journal<GroupedSession>) -> Answer
     answer_to(outcome)
 }
 
+#[inline]
 fn answer_to(outcome: Result<GroupedReply, JournalRefusal<ShellRefusal>>) -> Answer
     ensures { result ≡ answer_from outcome }
 {
@@ -91,6 +94,7 @@ fn answer_to(outcome: Result<GroupedReply, JournalRefusal<ShellRefusal>>) -> Ans
     }
 }
 
+#[inline]
 fn refusal_of(refusal: JournalRefusal<ShellRefusal>) -> ShellRefusal
     ensures { result ≡ refusal_from refusal }
 {

@@ -59,6 +59,7 @@ impl<M: Reversible> Journal<M> {
     /// The journal takes memory only where nothing is undone and a multiple of [`GROWTH`] stand,
     /// before the machine is asked. A command that is refused is dropped, and everything stays as it
     /// was, the undone commands too.
+    #[inline(always)]
     pub fn apply(&mut self, command: M::Command) -> Result<M::Reply, JournalRefusal<M::Refusal>>
         ensures ok { IfOk result (λ reply. Applies M.step M.before self.old command reply self.new) }
 
@@ -91,6 +92,7 @@ impl<M: Reversible> Journal<M> {
     }
 
     /// Takes back the last standing command, which becomes the one to redo next. It takes no memory.
+    #[inline(always)]
     pub fn undo(&mut self) -> Result<(), NothingToUndo>
         ensures ok { OnOk result (Undoes M.step M.before self.old self.new) }
         ensures nothing { IsErr result ↔ (self.old.standing ≡ []) }
@@ -111,6 +113,7 @@ impl<M: Reversible> Journal<M> {
     ///
     /// The journal itself takes no memory for it, so the machine's want of memory is the only
     /// refusal where something is undone.
+    #[inline(always)]
     pub fn redo(&mut self) -> Result<M::Reply, JournalRefusal<M::Refusal>>
         ensures ok { IfOk result (λ reply. Redoes M.step M.before self.old reply self.new) }
 
@@ -178,6 +181,7 @@ impl<M: Reversible> Journal<M> {
 /// Makes a place for one more command and its delta, and for what the machine keeps of it. It takes
 /// memory only where each command has its delta, so that nothing is undone, and a multiple of
 /// [`GROWTH`] stand.
+#[inline]
 fn make_place<M: Reversible>(
     machine: &mut M,
     commands: &mut Vec<M::Command>,

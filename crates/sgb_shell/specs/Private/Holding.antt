@@ -1,5 +1,5 @@
 -- What is kept of a line while its bytes come.
-use Rattle.std.specs.Prelude.{◌≡◌, ℕ, ◌<◌, ◌==◌, Bool, false, nat_lt, slice_index, List, length, take, drop}
+use Rattle.std.specs.Prelude.{◌≡◌, ℕ, ◌<◌, ◌==◌, ◌||◌, Bool, false, nat_lt, slice_index, List, length, take, drop}
 use Rattle.std.specs.List.{list_all}
 use Rattle.sgb_shell.specs.Unit.{unindented}
 
@@ -16,6 +16,10 @@ pub record HeldLine : Type 0 where
 
 abbrev pub front_of : List ℕ → LineFront
 front_of line = record { bytes = take 6 (unindented line); ends = list_all (λ b. b == 32) (drop 6 (unindented line)) }
+
+-- the byte that spaces in front, `group` or `load` begin with
+abbrev pub opens : ℕ → Bool
+opens b = (b == 32 || b == 103) || b == 108
 
 abbrev pub is_above : List ℕ → Bool
 is_above line = nat_lt 8192 (length line)

@@ -1,11 +1,6 @@
-use Rattle.std.proofs.Common.{◌∙◌, ap, sym}
-use Rattle.std.specs.Prelude.{◌||◌, codes}
-use Rattle.std.specs.Str.{bytes_eq}
-use Rattle.sgb_shell.proofs.Holding.{plain_line, not_true}
+use Rattle.std.proofs.Common.{◌∙◌, sym}
+use Rattle.sgb_shell.proofs.Holding.{closed_first}
 use Rattle.sgb_shell.proofs.first.is_plain.Goals as goal
 
-pub returns : goal.returns
-returns c plain =
-    plain_line c.args.line.now _ c.beginning-word.ensures (sym c.is_indented.ensures ∙ c.if-is_indented.false)
-    (ap (λ k. bytes_eq k (codes "load") || bytes_eq k (codes "load ")) (sym c.front.ensures) ∙ sym c.is_load.ensures ∙ c.if-is_load.false)
-    (sym c.is_group.ensures ∙ not_true _ plain)
+pub returns-then-not-may_open : goal.returns-then-not-may_open
+returns-then-not-may_open c plain = closed_first c.args.line.now (sym c.may_open.ensures ∙ c.if-not-may_open.true)
