@@ -37,6 +37,7 @@ impl Both {
     }
 
     // Reads what is sought in two graphs, of which the second may lack the vertex, in place of what was read before.
+    #[inline(always)]
     pub(crate) fn read(
         &mut self,
         first: &Graph,
@@ -70,6 +71,7 @@ impl Both {
 
 // Adds what is sought in each graph. The lists are walked side by side: where each arc names the next, and they lie apart
 // in memory, an arc of one list is waited for together with one of the other.
+#[inline(always)]
 fn hold_both(
     mine: &mut Vec<Spoke>,
     theirs: &mut Vec<Spoke>,
