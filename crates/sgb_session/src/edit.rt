@@ -12,7 +12,6 @@ use sgb_script::Edit;
 use std::alloc::Global;
 
 /// Makes an edit. A text is copied first, since the command keeps its own.
-#[inline(always)]
 pub(crate) fn make_edit(
     alloc: Global,
     graph: &mut Graph,
@@ -32,7 +31,6 @@ pub(crate) fn make_edit(
     }
 }
 
-#[inline(always)]
 fn make_arc(
     graph: &mut Graph,
     from: VertexNo,
@@ -45,7 +43,6 @@ fn make_arc(
     Ok((delta, Reply::Arc(number)))
 }
 
-#[inline(always)]
 fn make_edge(
     graph: &mut Graph,
     from: VertexNo,
@@ -58,7 +55,6 @@ fn make_edge(
     Ok((delta, Reply::Edge(number, ArcNo(number.0 + 1))))
 }
 
-#[inline(always)]
 fn set_value(
     alloc: Global,
     graph: &mut Graph,
@@ -91,7 +87,6 @@ fn set_id(alloc: Global, graph: &mut Graph, text: &Text) -> Result<(GraphDelta, 
 }
 
 // An edit that answers no number.
-#[inline(always)]
 fn done(outcome: Result<GraphDelta, Refusal>) -> Result<(GraphDelta, Reply), Refusal>
     ensures { result ≡ with_done outcome }
 {

@@ -102,7 +102,6 @@ impl Session {
     }
 
     // Draws one number.
-    #[inline(always)]
     fn draw(&mut self) -> Result<(Delta, Reply), ShellRefusal>
         ensures { Performs self.old self.new commands.Next result }
     {
@@ -114,7 +113,7 @@ impl Session {
     }
 
     // Draws a uniform number.
-    #[inline(always)]
+    #[inline(never)]
     fn draw_below(&mut self, bound: i64) -> Result<(Delta, Reply), ShellRefusal>
         ensures { Performs self.old self.new (commands.Unif bound) result }
     {
@@ -174,7 +173,7 @@ impl Session {
     }
 
     // Edits the graph of this name.
-    #[inline(always)]
+    #[inline(never)]
     fn edit(&mut self, name: &Name, edit: &Edit) -> Result<(Delta, Reply), ShellRefusal>
         ensures { Performs self.old self.new (commands.Edit name.now edit.now) result }
     {
@@ -275,7 +274,6 @@ impl Reversible for Session {
     /// Performs a command. Only a new graph, a new arc or edge, new lengths and a text take memory: a text before
     /// anything is judged, a new arc or edge and a graph without arcs only where the command is accepted, and other new
     /// graphs and lengths once their names and the generator are good.
-    #[inline(always)]
     fn apply(&mut self, command: &Command) -> Result<(Delta, Reply), ShellRefusal>
         ensures accepted { IfOk result (λ a. step self.old command.now ≡ Accepted self.new a.0 a.1) }
         ensures can_revert { IfOk result (λ a. can_revert self.new a.0) }

@@ -91,7 +91,6 @@ impl Table {
     }
 
     /// Where the graph of this name stands.
-    #[inline(always)]
     pub(crate) fn find(&self, name: &Name) -> Option<usize>
         ensures { result ≡ find self.now name.now }
     {
@@ -138,7 +137,6 @@ impl Table {
     }
 
     /// Makes an edit of the graph at a place.
-    #[inline(always)]
     pub(crate) fn edit(
         &mut self,
         alloc: Global,
@@ -152,7 +150,6 @@ impl Table {
     }
 
     /// Takes an edit of the graph at a place back.
-    #[inline(always)]
     pub(crate) fn revert(&mut self, place: usize, delta: GraphDelta)
         requires place { place < length self.old }
         requires left { (g : GraphOf) × LeftBy g delta (graph_in self.old place) }
@@ -194,14 +191,12 @@ impl Table {
     }
 }
 
-#[inline(always)]
 fn find_slot(slots: &[Option<Entry>], name: &[u8]) -> Option<usize>
     ensures { result ≡ position (λ o. bytes_eq (held o).name name.now) slots.now }
 {
     slots.iter().position(|slot| has_name(slot, name))
 }
 
-#[inline(always)]
 fn has_name(slot: &Option<Entry>, name: &[u8]) -> bool
     ensures { result ≡ bytes_eq (held slot.now).name name.now }
 {
@@ -211,7 +206,6 @@ fn has_name(slot: &Option<Entry>, name: &[u8]) -> bool
     }
 }
 
-#[inline(always)]
 fn edit_slot(
     slots: &mut [Option<Entry>],
     alloc: Global,
@@ -228,7 +222,6 @@ fn edit_slot(
     }
 }
 
-#[inline(always)]
 fn revert_slot(slots: &mut [Option<Entry>], place: usize, delta: GraphDelta)
     requires place { place < length slots.old }
     requires some { IsSome (slot_in slots.old place) }

@@ -66,7 +66,6 @@ pub(crate) fn change(journal: &mut Journal<GroupedSession>, command: GroupedComm
     answer_to(outcome)
 }
 
-#[inline]
 fn undo(journal: &mut Journal<GroupedSession>) -> Answer
     ensures { IsBegun journal.old → Does (by_line (Some Undo)) journal.old journal.new result }
 {
@@ -76,7 +75,6 @@ fn undo(journal: &mut Journal<GroupedSession>) -> Answer
     }
 }
 
-#[inline]
 fn redo(journal: &mut Journal<GroupedSession>) -> Answer
     ensures { IsBegun journal.old → Does (by_line (Some Redo)) journal.old journal.new result }
 {

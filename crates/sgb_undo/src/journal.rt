@@ -59,7 +59,6 @@ impl<M: Reversible> Journal<M> {
     /// The journal takes memory only where nothing is undone and a multiple of [`GROWTH`] stand,
     /// before the machine is asked. A command that is refused is dropped, and everything stays as it
     /// was, the undone commands too.
-    #[inline(always)]
     pub fn apply(&mut self, command: M::Command) -> Result<M::Reply, JournalRefusal<M::Refusal>>
         ensures ok { IfOk result (λ reply. Applies M.step M.before self.old command reply self.new) }
 
@@ -113,7 +112,6 @@ impl<M: Reversible> Journal<M> {
     ///
     /// The journal itself takes no memory for it, so the machine's want of memory is the only
     /// refusal where something is undone.
-    #[inline(always)]
     pub fn redo(&mut self) -> Result<M::Reply, JournalRefusal<M::Refusal>>
         ensures ok { IfOk result (λ reply. Redoes M.step M.before self.old reply self.new) }
 
@@ -181,7 +179,6 @@ impl<M: Reversible> Journal<M> {
 /// Makes a place for one more command and its delta, and for what the machine keeps of it. It takes
 /// memory only where each command has its delta, so that nothing is undone, and a multiple of
 /// [`GROWTH`] stand.
-#[inline]
 fn make_place<M: Reversible>(
     machine: &mut M,
     commands: &mut Vec<M::Command>,
