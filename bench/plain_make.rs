@@ -12,6 +12,8 @@ use flip::{Below, Flip};
 
 const MOST_ATTEMPTS: u32 = 10_000_000;
 const COUNT: u32 = 200_000_000;
+// Each call several times in a row: from the second on it finds the memory that the one before it gave back.
+const ROUNDS: u32 = 5;
 
 #[derive(Debug)]
 enum Refusal {
@@ -34,13 +36,42 @@ enum Util {
 
 const ZEROS: [Util; 6] = [Util::Zero, Util::Zero, Util::Zero, Util::Zero, Util::Zero, Util::Zero];
 
+// A name, in its own place where it is short.
+enum Name {
+    Short(u8, [u8; 14]),
+    Long(Box<Vec<u8>>),
+}
+
+const _: () = assert!(size_of::<Name>() == 16);
+
+impl Name {
+    #[inline]
+    fn new(bytes: &[u8]) -> Name {
+        let mut short = [0; 14];
+        match short.get_mut(..bytes.len()) {
+            Some(start) => {
+                start.copy_from_slice(bytes);
+                Name::Short(bytes.len() as u8, short)
+            }
+            None => Name::Long(Box::new(bytes.to_vec())),
+        }
+    }
+
+    fn bytes(&self) -> &[u8] {
+        match self {
+            Name::Short(length, bytes) => &bytes[..usize::from(*length)],
+            Name::Long(bytes) => bytes,
+        }
+    }
+}
+
 #[allow(dead_code)]
 struct Graph {
     id: String,
     types: [u8; 14],
     fields: [Util; 6],
     // The names of the vertices, and their fields as far as one was ever set.
-    names: Vec<Box<[u8]>>,
+    names: Vec<Name>,
     vertex_fields: Vec<[Util; 6]>,
     arena: Arena,
     directed: bool,
@@ -69,7 +100,7 @@ impl Graph {
             self.vertex_fields.resize_with(self.names.len(), || ZEROS);
             self.vertex_fields.push(coordinates(parts));
         }
-        self.names.push(name.into());
+        self.names.push(Name::new(name));
         self.arena.firsts.push(NONE);
         Ok(())
     }
@@ -83,7 +114,7 @@ impl Graph {
     fn check(&self) -> u64 {
         let mut check = with_bytes(0, self.id.as_bytes());
         for (v, name) in self.names.iter().enumerate() {
-            check = with_bytes(check, name);
+            check = with_bytes(check, name.bytes());
             for field in self.vertex_fields.get(v).unwrap_or(&ZEROS) {
                 let number = if let Util::Int(number) = field { number.unsigned_abs() } else { 0 };
                 check = with_number(check, number);
@@ -547,6 +578,14 @@ impl Index {
         }
     }
 
+    // The same, where a guess of the place is looked at first. An exchange of an element of a kind mostly leads as far as
+    // the last one did: always so where each kind has one element and there is no limit.
+    #[inline]
+    fn find_near(&self, row: &[u64], guess: usize) -> Option<u32> {
+        let near = self.rows.get(guess.saturating_mul(self.width)..).and_then(|rows| rows.get(..self.width));
+        if near == Some(row) { Some(guess as u32) } else { self.find(row) }
+    }
+
     #[inline]
     fn start(&self, row: &[u64]) -> usize {
         let hash = row.iter().fold(0u64, |hash, eight| (hash.rotate_left(5) ^ eight).wrapping_mul(FACTOR));
@@ -599,15 +638,18 @@ fn perms(numbers: [i64; 5], max_inv: i64, directed: bool) -> Result<Graph, Refus
         rows.chunks_exact(width).map(|row| row.windows(2).filter(|pair| pair[1] < pair[0]).count()).sum::<usize>();
     graph.arena.reserve(if directed { count } else { 2 * count });
     let mut moved = vec![0; index.width];
+    let mut distances = [0; 16];
     for (v, row) in rows.chunks_exact(width).enumerate() {
         moved.copy_from_slice(index.row(v));
         for (place, pair) in row.windows(2).enumerate() {
             if pair[1] < pair[0] {
+                let distance = &mut distances[usize::from(pair[0])];
                 let change = u64::from(pair[0] ^ pair[1]);
                 exchange(&mut moved, place, change);
-                let found = index.find(&moved);
+                let found = index.find_near(&moved, v.wrapping_sub(*distance));
                 exchange(&mut moved, place, change);
                 if let Some(to) = found {
+                    *distance = v.wrapping_sub(to as usize);
                     graph.insert(v as u32, to, 1)?;
                 }
             }
@@ -931,10 +973,12 @@ fn tell(name: &str, time: Duration, made: Result<Graph, Refusal>) {
     println!("{name} {} {}", time.as_nanos() * 1000, made.map_or(0, |graph| graph.check()));
 }
 
-fn time<S>(name: &str, spec: S, make: impl Fn(S) -> Result<Graph, Refusal>) {
-    let start = Instant::now();
-    let made = make(black_box(spec));
-    tell(name, start.elapsed(), made);
+fn time<S: Copy>(name: &str, spec: S, make: impl Fn(S) -> Result<Graph, Refusal>) {
+    for _ in 0..ROUNDS {
+        let start = Instant::now();
+        let made = make(black_box(spec));
+        tell(name, start.elapsed(), made);
+    }
 }
 
 fn time_next() {
@@ -950,20 +994,74 @@ fn time_next() {
     println!("next {} {check}", start.elapsed().as_nanos() * 1000 / u128::from(COUNT));
 }
 
-fn main() {
-    let random = |multi, directed| Random { n: 10_000, m: 300_000, multi, loops: false, directed, min: 1, max: 1 };
-    for _ in 0..5 {
-        time_next();
-        time("board_250", [250, 250, 0, 0], |numbers| board(numbers, 5, 0, false));
-        time("board_79", [79, 79, 0, 0], |numbers| board(numbers, -1, 0, false));
-        time("board_20", [2, 1, -20, 0], |numbers| board(numbers, 4, 0, false));
-        time("simplex", [-2, 0, 0, 0, 0], |numbers| simplex(300, numbers, false));
-        time("subsets", [1, -15, 0, 0, 0], |numbers| subsets(8, numbers, black_box(1), false));
-        time("perms", [1, -7, 0, 0, 0], |numbers| perms(numbers, 0, false));
-        time("binary", 11, |n| binary(n, 0, false));
-        time("random_multi", random(1, false), |spec| random_graph(spec, 1));
-        time("random_single", random(0, false), |spec| random_graph(spec, 1));
-        time("random_arcs", random(1, true), |spec| random_graph(spec, 1));
-        time("arcs_single", random(0, true), |spec| random_graph(spec, 1));
+// The parts of which no random graph can do without, each alone: the least that its draws, its arcs and its look-ups take here.
+fn time_floors() {
+    let ends = Below::new(black_box(10_000));
+    let draws = Draws { ends, lengths: Below::new(1) };
+    let mut flip = Flip::new(1);
+    let pairs: Vec<(u32, u32)> = (0..300_000).map(|_| draws.pair(&mut flip)).collect();
+    for _ in 0..4 * ROUNDS {
+        time_floor("drawn", || {
+            let mut flip = Flip::new(black_box(1));
+            (0..pairs.len()).fold(0, |sum, _| {
+                let (from, to) = draws.pair(&mut flip);
+                sum ^ from ^ to
+            })
+        });
+        time_floor("edges", || written(&pairs, 2, |arena, from, to| arena.new_edge(from, to, 1)).live());
+        time_floor("arcs", || written(&pairs, 1, |arena, from, to| arena.new_arc(from, to, 1)).live());
+        time_floor("looked_up", || {
+            let mut table = Pairs::new(pairs.len());
+            pairs.iter().filter(|(from, to)| table.insert(from << 16 | to).1).count() as u32
+        });
     }
+    // None gives its memory back, so that each but the first takes it anew.
+    let mut kept = vec![written(&pairs, 2, |arena, from, to| arena.new_edge(from, to, 1))];
+    for _ in 0..ROUNDS {
+        time_floor("edges_in_fresh_memory", || {
+            kept.push(written(&pairs, 2, |arena, from, to| arena.new_edge(from, to, 1)));
+            kept.len() as u32
+        });
+    }
+}
+
+fn written(
+    pairs: &[(u32, u32)],
+    numbers: usize,
+    insert: impl Fn(&mut Arena, u32, u32) -> Result<u32, arena::TooLarge>,
+) -> Arena {
+    let mut arena = Arena::new(10_000);
+    arena.reserve(numbers * pairs.len());
+    for (from, to) in pairs {
+        let _ = insert(&mut arena, *from, *to);
+    }
+    arena
+}
+
+fn time_floor(name: &str, part: impl FnOnce() -> u32) {
+    let start = Instant::now();
+    let check = black_box(part());
+    println!("{name} {} {check}", start.elapsed().as_nanos() * 1000);
+}
+
+// With any argument not the calls, but what parts of a random graph take by themselves.
+fn main() {
+    if std::env::args().len() > 1 {
+        return time_floors();
+    }
+    let random = |multi, directed| Random { n: 10_000, m: 300_000, multi, loops: false, directed, min: 1, max: 1 };
+    for _ in 0..ROUNDS {
+        time_next();
+    }
+    time("board_250", [250, 250, 0, 0], |numbers| board(numbers, 5, 0, false));
+    time("board_79", [79, 79, 0, 0], |numbers| board(numbers, -1, 0, false));
+    time("board_20", [2, 1, -20, 0], |numbers| board(numbers, 4, 0, false));
+    time("simplex", [-2, 0, 0, 0, 0], |numbers| simplex(300, numbers, false));
+    time("subsets", [1, -15, 0, 0, 0], |numbers| subsets(8, numbers, black_box(1), false));
+    time("perms", [1, -7, 0, 0, 0], |numbers| perms(numbers, 0, false));
+    time("binary", 11, |n| binary(n, 0, false));
+    time("random_multi", random(1, false), |spec| random_graph(spec, 1));
+    time("random_single", random(0, false), |spec| random_graph(spec, 1));
+    time("random_arcs", random(1, true), |spec| random_graph(spec, 1));
+    time("arcs_single", random(0, true), |spec| random_graph(spec, 1));
 }

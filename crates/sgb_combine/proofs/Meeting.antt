@@ -1,9 +1,9 @@
--- Lemmas on spokes that are met as a vertex's arcs are walked.
-use Rattle.std.proofs.Common.{◌≡◌, ◌<◌, ◌≤◌, ◌&&◌, ℕ, List, [], ◌∷◌, ◌++◌, map, fold, cond, Bool, true, false, All, refl, sym, ap, ap₂, ◌∙◌}
+-- Lemmas on spokes that are read as the arcs of vertices are walked.
+use Rattle.std.proofs.Common.{◌≡◌, ◌≤◌, ◌&&◌, ℕ, List, [], ◌∷◌, ◌++◌, map, cond, Bool, true, false, nat_lt, All, inl, inr, refl, sym, ap, ap₂, ◌∙◌}
 use Rattle.std.specs.List.{filter}
-use Rattle.std.proofs.lemmas.Bool.{lt-ltb}
-use Rattle.std.proofs.lemmas.List.Elements.{All-head, All-tail, filter-append}
-use Rattle.std.proofs.lemmas.List.Sums.{fold-append}
+use Rattle.std.proofs.lemmas.Bool.{cases_Bool, lt-ltb, and_parts, ltb-true, ltb-false}
+use Rattle.std.proofs.lemmas.List.{append_assoc, append-nil}
+use Rattle.std.proofs.lemmas.List.Elements.{All-head, All-tail, filter-append, filter_passes}
 use Rattle.sgb_graph.specs.Graph.{GraphOf, IsGraph, n_of}
 use Rattle.sgb_graph.specs.Edit.{entry_at}
 use Rattle.sgb_graph.specs.Paired.{walk}
@@ -13,62 +13,70 @@ use Rattle.sgb_operand.proofs.Spokes.{spokes_within}
 use Rattle.sgb_combine.specs.Combined.{is_upward}
 use Rattle.sgb_combine.specs.Gunion.{candidates, is_candidate}
 use Rattle.sgb_combine.specs.Intersection.{firsts}
-use Rattle.sgb_combine.specs.Lowest.{add_or_lower, lowest}
+use Rattle.sgb_combine.specs.Lowest.{lowest}
+use Rattle.sgb_combine.specs.Private.Both.{passing}
 use Rattle.sgb_combine.proofs.Reached.{spokes_past}
 
--- those of all that pass are met, but for those of the numbers that are left
-pub record Meets (g : GraphOf) (p : Spoke → Bool) (start all now : List Spoke) (rest : List ℕ) : Type 0 where
-  pub same : fold add_or_lower now (filter p (map (λ k. spoke_of (entry_at g k)) rest)) ≡ fold add_or_lower start (filter p all)
+-- ---- the spoke of one arc
+pub held_none : (g : GraphOf) (p : Spoke → Bool) (xs : List Spoke) (k : ℕ) (s : Spoke) → s ≡ spoke_of (entry_at g k) → p s ≡ false → xs ≡ xs ++ passing g p (k ∷ [])
+held_none g p xs k s is fails =
+    sym (append-nil xs)
+    ∙ ap (λ ts. xs ++ ts) (sym (ap (λ r. cond (p r) (r ∷ []) []) (sym is) ∙ ap (λ b. cond b (s ∷ []) []) fails))
 
-pub meets_start : (directed : Bool) (g : GraphOf) (v : ℕ) (p : Spoke → Bool) (start : List Spoke) (rest : List ℕ) → rest ≡ walk directed g v → Meets g p start (spokes directed g v) start rest
+pub held_one : (g : GraphOf) (p : Spoke → Bool) (xs : List Spoke) (k : ℕ) (s : Spoke) → s ≡ spoke_of (entry_at g k) → p s ≡ true → xs ++ s ∷ [] ≡ xs ++ passing g p (k ∷ [])
+held_one g p xs k s is passes =
+    ap (λ ts. xs ++ ts) (sym (ap (λ r. cond (p r) (r ∷ []) []) (sym is) ∙ ap (λ b. cond b (s ∷ []) []) passes))
+
+-- ---- those of a list
+-- the spokes that were held, and those of the numbers that are left, are all
+pub record Holds (g : GraphOf) (p : Spoke → Bool) (all now : List Spoke) (rest : List ℕ) : Type 0 where
+  pub same : now ++ passing g p rest ≡ all
+
+pub passing_walk : (halves : Bool) (g : GraphOf) (v : ℕ) (p : Spoke → Bool) (ks : List ℕ) → ks ≡ walk halves g v → passing g p ks ≡ filter p (spokes halves g v)
 unfolding spokes
-meets_start directed g v p start rest is =
-    record { same = ap (λ ks. fold add_or_lower start (filter p (map (λ k. spoke_of (entry_at g k)) ks))) is }
+passing_walk halves g v p ks is = ap (passing g p) is
 
-pub passed : (g : GraphOf) (p : Spoke → Bool) (rest after : List ℕ) (k : ℕ) (s : Spoke) → rest ≡ k ∷ after → s ≡ spoke_of (entry_at g k)
-    → filter p (map (λ j. spoke_of (entry_at g j)) rest) ≡ cond (p s) (s ∷ filter p (map (λ j. spoke_of (entry_at g j)) after)) (filter p (map (λ j. spoke_of (entry_at g j)) after))
-passed g p rest after k s steps is =
-    let ts = filter p (map (λ j. spoke_of (entry_at g j)) after) in
-    ap (λ ks. filter p (map (λ j. spoke_of (entry_at g j)) ks)) steps ∙ ap (λ r. cond (p r) (r ∷ ts) ts) (sym is)
+pub holds_walk : (halves : Bool) (g : GraphOf) (v : ℕ) (p : Spoke → Bool) (start : List Spoke) (rest : List ℕ) → rest ≡ walk halves g v → Holds g p (start ++ filter p (spokes halves g v)) start rest
+holds_walk halves g v p start rest is = record { same = ap (λ ts. start ++ ts) (passing_walk halves g v p rest is) }
 
-pub meets_one : {g : GraphOf} {p : Spoke → Bool} {start all now new : List Spoke} {rest after : List ℕ} {k : ℕ} {s : Spoke} → rest ≡ k ∷ after → s ≡ spoke_of (entry_at g k) → p s ≡ true → Meets g p start all now rest → new ≡ add_or_lower now s → Meets g p start all new after
-meets_one {g} {p} {start} {all} {now} {new} {rest} {after} {k} {s} steps is passes meets more =
-    let ts = filter p (map (λ j. spoke_of (entry_at g j)) after) in
-    record {
-      same =
-          ap (λ rs. fold add_or_lower rs ts) more
-          ∙ (ap (fold add_or_lower now) (sym (passed g p rest after k s steps is ∙ ap (λ b. cond b (s ∷ ts) ts) passes)) ∙ meets.same);
-    }
+pub holds_start : (g : GraphOf) (p : Spoke → Bool) (start : List Spoke) (ks rest : List ℕ) → rest ≡ ks → Holds g p (start ++ passing g p ks) start rest
+holds_start g p start ks rest is = record { same = ap (λ js. start ++ passing g p js) is }
 
-pub meets_none : {g : GraphOf} {p : Spoke → Bool} {start all now : List Spoke} {rest after : List ℕ} {k : ℕ} {s : Spoke} → rest ≡ k ∷ after → s ≡ spoke_of (entry_at g k) → p s ≡ false → Meets g p start all now rest → Meets g p start all now after
-meets_none {g} {p} {start} {all} {now} {rest} {after} {k} {s} steps is fails meets =
-    let ts = filter p (map (λ j. spoke_of (entry_at g j)) after) in
-    record { same = ap (fold add_or_lower now) (sym (passed g p rest after k s steps is ∙ ap (λ b. cond b (s ∷ ts) ts) fails)) ∙ meets.same }
+pub next_passing : (g : GraphOf) (p : Spoke → Bool) (now new : List Spoke) (rest after : List ℕ) (k : ℕ) → rest ≡ k ∷ after → new ≡ now ++ passing g p (k ∷ []) → new ++ passing g p after ≡ now ++ passing g p rest
+next_passing g p now new rest after k steps more =
+    let ts = map (λ j. spoke_of (entry_at g j)) after in
+    ap (λ xs. xs ++ passing g p after) more
+    ∙ (append_assoc now (passing g p (k ∷ [])) (passing g p after)
+    ∙ ap (λ xs. now ++ xs) (sym (filter-append p (spoke_of (entry_at g k) ∷ []) ts) ∙ ap (passing g p) (sym steps)))
 
-pub meets_end : {g : GraphOf} {p : Spoke → Bool} {start all now : List Spoke} {rest : List ℕ} → rest ≡ [] → Meets g p start all now rest → now ≡ fold add_or_lower start (filter p all)
-meets_end {g} {p} {start} {all} {now} {rest} none meets =
-    ap (λ ks. fold add_or_lower now (filter p (map (λ k. spoke_of (entry_at g k)) ks))) (sym none) ∙ meets.same
+pub holds_one : {g : GraphOf} {p : Spoke → Bool} {all now new : List Spoke} {rest after : List ℕ} {k : ℕ} → rest ≡ k ∷ after → new ≡ now ++ passing g p (k ∷ []) → Holds g p all now rest → Holds g p all new after
+holds_one {g} {p} {all} {now} {new} {rest} {after} {k} steps more holds =
+    record { same = next_passing g p now new rest after k steps more ∙ holds.same }
 
--- both graphs, one after the other
-pub met_both : (directed : Bool) (g h : GraphOf) (v n : ℕ) (zs rs ss : List Spoke) → zs ≡ [] → n ≡ n_of g → rs ≡ fold add_or_lower zs (filter (is_candidate directed n v) (spokes directed g v))
-    → ss ≡ fold add_or_lower rs (filter (is_candidate directed n v) (spokes directed h v)) → ss ≡ lowest (candidates directed g h v)
-unfolding candidates lowest
-met_both directed g h v n zs rs ss none is first second =
-    let p = is_candidate directed n v in
+pub holds_next : {g : GraphOf} {p : Spoke → Bool} {all now new : List Spoke} {rest after : List ℕ} → new ++ passing g p after ≡ now ++ passing g p rest → Holds g p all now rest → Holds g p all new after
+holds_next same holds = record { same = same ∙ holds.same }
+
+pub holds_end : {g : GraphOf} {p : Spoke → Bool} {all now : List Spoke} {rest : List ℕ} → rest ≡ [] → Holds g p all now rest → now ≡ all
+holds_end {g} {p} {all} {now} {rest} none holds =
+    sym (append-nil now) ∙ (ap (λ ks. now ++ passing g p ks) (sym none) ∙ holds.same)
+
+pub from_nothing : {xs ys ts us : List Spoke} → xs ≡ ys ++ ts → ys ≡ [] → ts ≡ us → xs ≡ us
+from_nothing is none same = is ∙ ap₂ (λ (fs ss : List Spoke). fs ++ ss) none same
+
+-- a vertex that the graph lacks
+pub passing_past : (halves : Bool) (g : GraphOf) (v : ℕ) (p : Spoke → Bool) → n_of g ≤ v → [] ≡ filter p (spokes halves g v)
+passing_past halves g v p past = ap (filter p) (sym (spokes_past halves g v past))
+
+-- ---- those of both graphs
+pub both_candidates : (directed : Bool) (g h : GraphOf) (v n : ℕ) (rs ss ts : List Spoke) → n ≡ n_of g → rs ≡ filter (is_candidate directed n v) (spokes directed g v) → ss ≡ filter (is_candidate directed n v) (spokes directed h v) → ts ≡ rs ++ ss → ts ≡ candidates directed g h v
+unfolding candidates
+both_candidates directed g h v n rs ss ts is mine theirs joined =
     let gs = spokes directed g v in
     let hs = spokes directed h v in
-    second
-    ∙ (ap (λ ts. fold add_or_lower ts (filter p hs)) (first ∙ ap (λ ts. fold add_or_lower ts (filter p gs)) none)
-    ∙ (sym (fold-append add_or_lower [] (filter p gs) (filter p hs))
-    ∙ (ap (fold add_or_lower []) (sym (filter-append p gs hs))
-    ∙ ap (λ m. fold add_or_lower [] (filter (is_candidate directed m v) (gs ++ hs))) is)))
-
--- the first alone, where the second lacks the vertex
-pub met_first : (directed : Bool) (g h : GraphOf) (v n : ℕ) (zs rs : List Spoke) → zs ≡ [] → n ≡ n_of g → n_of h ≤ v → rs ≡ fold add_or_lower zs (filter (is_candidate directed n v) (spokes directed g v))
-    → rs ≡ lowest (candidates directed g h v)
-met_first directed g h v n zs rs none is past first =
-    met_both directed g h v n zs rs rs none is first
-    (ap (λ ts. fold add_or_lower rs (filter (is_candidate directed n v) ts)) (sym (spokes_past directed h v past)))
+    joined
+    ∙ (ap₂ (λ (xs ys : List Spoke). xs ++ ys) mine theirs
+    ∙ (sym (filter-append (is_candidate directed n v) gs hs)
+    ∙ ap (λ m. filter (is_candidate directed m v) (gs ++ hs)) is))
 
 -- ---- one graph, whose spokes all lead to one of n vertices
 within_upward : (directed : Bool) (n v : ℕ) (ss : List Spoke) → All (IsWithin n) ss → filter (is_candidate directed n v) ss ≡ filter (is_upward directed v) ss
@@ -77,16 +85,22 @@ within_upward directed n v (s ∷ ss) all =
     let here : is_candidate directed n v s ≡ is_upward directed v s = ap (λ b. b && is_upward directed v s) (lt-ltb s.to n (All-head (IsWithin n) s ss all)) in
     ap₂ (λ b ts. cond b (s ∷ ts) ts) here (within_upward directed n v ss (All-tail (IsWithin n) s ss all))
 
-pub met_firsts : (directed : Bool) (g : GraphOf) (v n : ℕ) (zs rs : List Spoke) → IsGraph g → v < n_of g → zs ≡ [] → n ≡ n_of g → rs ≡ fold add_or_lower zs (filter (is_candidate directed n v) (spokes true g v)) → rs ≡ firsts directed g v
-unfolding firsts lowest
-met_firsts directed g v n zs rs sound low none is met =
+pub upward_candidates : (directed : Bool) (g : GraphOf) (v n : ℕ) → IsGraph g → n ≡ n_of g → filter (is_candidate directed n v) (spokes true g v) ≡ filter (is_upward directed v) (spokes true g v)
+upward_candidates directed g v n sound is =
     let ss = spokes true g v in
-    met
-    ∙ (ap (λ ts. fold add_or_lower ts (filter (is_candidate directed n v) ss)) none
-    ∙ (ap (λ m. fold add_or_lower [] (filter (is_candidate directed m v) ss)) is
-    ∙ ap (fold add_or_lower []) (within_upward directed (n_of g) v ss (spokes_within true g v sound low))))
+    elim (cases_Bool (nat_lt v (n_of g))) [
+      | inl low ↦
+          ap (λ m. filter (is_candidate directed m v) ss) is
+          ∙ within_upward directed (n_of g) v ss (spokes_within true g v sound (ltb-true v (n_of g) low))
+      | inr high ↦
+          let none : ss ≡ [] = spokes_past true g v (ltb-false v (n_of g) high) in
+          ap (filter (is_candidate directed n v)) none ∙ sym (ap (filter (is_upward directed v)) none)
+    ]
 
-pub met_past : (directed : Bool) (g : GraphOf) (v : ℕ) (zs : List Spoke) → n_of g ≤ v → zs ≡ [] → zs ≡ firsts directed g v
-unfolding firsts lowest
-met_past directed g v zs past none =
-    none ∙ ap (λ ss. fold add_or_lower [] (filter (is_upward directed v) ss)) (sym (spokes_past true g v past))
+pub firsts_are : (directed : Bool) (g : GraphOf) (v : ℕ) (rs ss ts : List Spoke) → rs ≡ filter (is_upward directed v) (spokes true g v) → ss ≡ rs → ts ≡ lowest ss → ts ≡ firsts directed g v
+unfolding firsts
+firsts_are directed g v rs ss ts is same least = least ∙ ap lowest (same ∙ is)
+
+pub within_candidates : (directed : Bool) (v m n : ℕ) (ss rs : List Spoke) → m ≡ n → rs ≡ filter (is_candidate directed m v) ss → All (IsWithin n) rs
+within_candidates directed v m n ss rs wide is =
+    rw (is, sym wide) (λ k d low. ltb-true _ m (and_parts _ _ (filter_passes (is_candidate directed m v) ss k d low)).0)

@@ -1,4 +1,5 @@
 pub mod Begin
+pub mod Both
 pub mod Missing
 pub mod Pairs
 pub mod Pruned

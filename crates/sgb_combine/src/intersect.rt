@@ -1,19 +1,21 @@
 //! Intersections.
-ghost use Rattle.std.specs.Prelude.{◌≡◌, ◌<◌, length, All};
-ghost use Rattle.std.specs.List.{flat_map, range_with_len};
+ghost use Rattle.std.specs.Prelude.{◌≡◌, ◌<◌, All, OnOk, true};
+ghost use Rattle.std.specs.List.{flat_map, filter, range_with_len};
 ghost use Rattle.sgb_graph.specs.Graph.{n_of};
 ghost use Rattle.sgb_graph.specs.Builder.{Inserts};
-ghost use Rattle.sgb_operand.specs.Operand.{IsWithin};
+ghost use Rattle.sgb_operand.specs.Operand.{IsWithin, spokes};
 ghost use Rattle.sgb_plan.specs.Plan.{IsMade};
-ghost use Rattle.sgb_combine.specs.Intersection.{firsts, longer, joints, intersection_at, plan_of_intersection};
+ghost use Rattle.sgb_combine.specs.Combined.{is_upward};
+ghost use Rattle.sgb_combine.specs.Intersection.{longer, joints, intersection_at, plan_of_intersection};
 
 use crate::begin::{begin_as, room_of};
+use crate::both::{Both, Sought};
 use crate::lowest::Lowest;
 use crate::run::insert_spoke;
 use sgb_graph::{Builder, Graph, Refusal, VertexNo};
 use sgb_operand::{Spoke, check_operand};
 use sgb_plan::{Part, id_of_two};
-use std::alloc::Global;
+use std::alloc::{AllocError, Global};
 
 /// The intersection of two graphs: the vertices of the first, and from each one arc or edge to each that it is joined
 /// to in both graphs, in the order of its list in the first. Its length is the larger of the least length in the first
@@ -54,26 +56,47 @@ fn insert_intersections(
 {
     let mut mine = Lowest::new(alloc, first.n())?;
     let mut theirs = Lowest::new(alloc, second.n())?;
+    let mut both = Both::new(alloc);
     for v in 0..first.n() {
-        read_firsts(&mut mine, first, VertexNo(v), directed);
-        read_firsts(&mut theirs, second, VertexNo(v), directed);
-        insert_joints(builder, VertexNo(v), mine.spokes(), &theirs)?;
+        let vertex = VertexNo(v);
+        read_upward(&mut both, first, second, vertex, directed)?;
+        mine.keep(&both.mine);
+        theirs.keep(&both.theirs);
+        insert_joints(builder, vertex, mine.spokes(), &theirs)?;
     }
     Ok(())
 }
 
-// The first arcs of a vertex, which the graph may lack, to each other, where edges are not looked at from their larger
-// end.
-fn read_firsts(met: &mut Lowest, graph: &Graph, vertex: VertexNo, directed: bool)
-    requires { length met.old.places.items ≡ n_of graph.now }
-    ensures spokes { met.new.spokes.items ≡ firsts directed graph.now vertex.0 }
-    ensures width { length met.new.places.items ≡ length met.old.places.items }
+// Reads the spokes of a vertex, which the second graph may lack, but where edges are made none that leads below it.
+fn read_upward(
+    both: &mut Both,
+    first: &Graph,
+    second: &Graph,
+    vertex: VertexNo,
+    directed: bool,
+) -> Result<(), AllocError>
+    requires { vertex.0 < n_of first.now }
+    ensures mine { OnOk result
+        (both.new.mine.items ≡ filter (is_upward directed vertex.0) (spokes true first.now vertex.0)) }
+    ensures mine_within { OnOk result (All (IsWithin (n_of first.now)) both.new.mine.items) }
+    ensures theirs { OnOk result
+        (both.new.theirs.items ≡ filter (is_upward directed vertex.0) (spokes true second.now vertex.0)) }
+    ensures theirs_within { OnOk result (All (IsWithin (n_of second.now)) both.new.theirs.items) }
 {
-    met.forget();
-    if vertex.0 >= graph.n() {
-        return;
-    }
-    met.meet(graph, vertex, true, directed, graph.n());
+    let sought = Sought {
+        vertex,
+        halves: true,
+        directed,
+        n: first.n(),
+    };
+    let other = Sought {
+        vertex,
+        halves: true,
+        directed,
+        n: second.n(),
+    };
+    both.read(first, second, sought, other)?;
+    Ok(())
 }
 
 fn insert_joints(

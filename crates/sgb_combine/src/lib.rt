@@ -3,6 +3,7 @@
 #![tactic(auto)]
 
 mod begin;
+mod both;
 mod facts;
 mod intersect;
 mod lowest;

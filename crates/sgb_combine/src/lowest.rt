@@ -3,9 +3,7 @@ ghost use Rattle.std.specs.Prelude.{◌≡◌, ◌≤◌, ◌<◌, ◌^◌, leng
 ghost use Rattle.sgb_combine.specs.Lowest.{lowered};
 ghost use Rattle.sgb_combine.specs.Private.Targets.{IsMarked};
 
-use crate::run::is_candidate;
-use sgb_graph::{Graph, VertexNo};
-use sgb_operand::{Spoke, spoke_at};
+use sgb_operand::Spoke;
 use std::alloc::{AllocError, Global};
 
 // The spokes that were met, and where the one to a vertex stands among them. A place is of no meaning where no spoke
@@ -21,11 +19,8 @@ pub(crate) struct Lowest {
 }
 
 impl Lowest {
-    ghost use Rattle.std.specs.Prelude.{◌≡◌, ◌≤◌, ◌<◌, ◌∷◌, ◌++◌, [], length, fold, All, IfOk};
-    ghost use Rattle.std.specs.List.{filter};
-    ghost use Rattle.sgb_graph.specs.Graph.{n_of};
-    ghost use Rattle.sgb_operand.specs.Operand.{IsWithin, spokes};
-    ghost use Rattle.sgb_combine.specs.Gunion.{is_candidate};
+    ghost use Rattle.std.specs.Prelude.{◌≡◌, ◌<◌, ◌∷◌, ◌++◌, [], length, All, IfOk};
+    ghost use Rattle.sgb_operand.specs.Operand.{IsWithin};
     ghost use Rattle.sgb_combine.specs.Lowest.{lowest, add_or_lower};
     ghost use Rattle.sgb_combine.specs.Private.Targets.{StandsAt, found};
     ghost use Rattle.sgb_combine.specs.Complement.{leads_to};
@@ -59,40 +54,6 @@ impl Lowest {
         self.spokes.clear();
         for spoke in spokes {
             self.add(*spoke);
-        }
-    }
-
-    // Forgets all that was met.
-    pub(crate) fn forget(&mut self)
-        ensures none { self.new.spokes.items ≡ [] }
-        ensures width { length self.new.places.items ≡ length self.old.places.items }
-    {
-        self.spokes.clear();
-    }
-
-    // Takes the spokes of a vertex that are candidates besides, straight from its arcs, with the second halves of loops
-    // where `halves` is true.
-    #[inline(always)]
-    pub(crate) fn meet(
-        &mut self,
-        graph: &Graph,
-        vertex: VertexNo,
-        halves: bool,
-        directed: bool,
-        n: u32,
-    )
-        requires vertex { vertex.0 < n_of graph.now }
-        requires width { n ≤ length self.old.places.items }
-        ensures spokes { self.new.spokes.items ≡ fold add_or_lower self.old.spokes.items
-            (filter (is_candidate directed n vertex.0) (spokes halves graph.now vertex.0)) }
-        ensures width { length self.new.places.items ≡ length self.old.places.items }
-    {
-        for number in graph.walk(vertex, halves) {
-            let spoke = spoke_at(graph, number);
-            if !is_candidate(directed, n, vertex, spoke) {
-                continue;
-            }
-            self.add(spoke);
         }
     }
 

@@ -1,22 +1,22 @@
 //! Unions.
-ghost use Rattle.std.specs.Prelude.{◌≡◌, ◌<◌, ◌≤◌, length, map};
-ghost use Rattle.std.specs.List.{flat_map, filter, range_with_len};
+ghost use Rattle.std.specs.Prelude.{◌≡◌, ◌<◌, length, map, All, OnOk};
+ghost use Rattle.std.specs.List.{flat_map, range_with_len};
 ghost use Rattle.sgb_graph.specs.Graph.{n_of};
 ghost use Rattle.sgb_graph.specs.Builder.{Inserts};
-ghost use Rattle.sgb_operand.specs.Operand.{spokes};
+ghost use Rattle.sgb_operand.specs.Operand.{IsWithin};
 ghost use Rattle.sgb_plan.specs.Plan.{IsMade};
 ghost use Rattle.sgb_combine.specs.Combined.{along};
-ghost use Rattle.sgb_combine.specs.Gunion.{candidates, is_candidate, union_at, plan_of_gunion};
-ghost use Rattle.sgb_combine.specs.Lowest.{lowest};
+ghost use Rattle.sgb_combine.specs.Gunion.{candidates, run_of, union_at, plan_of_gunion};
 
 use crate::GunionSpec;
 use crate::begin::{begin_as, room_of};
+use crate::both::{Both, Sought};
 use crate::lowest::Lowest;
-use crate::run::{insert_spoke, insert_spokes, is_candidate};
+use crate::run::insert_spokes;
 use sgb_graph::{Builder, Graph, Refusal, VertexNo};
-use sgb_operand::{check_operand, spoke_at};
+use sgb_operand::{Spoke, check_operand};
 use sgb_plan::{Part, id_of_two};
-use std::alloc::Global;
+use std::alloc::{AllocError, Global};
 
 /// The union of two graphs: the vertices of the first, and from each what its list in the first graph and then that in
 /// the second, where that has the vertex, lead to among them, with its lengths. Where edges are made, what leads to a
@@ -66,96 +66,53 @@ fn insert_unions(
         (flat_map (union_at spec first.now second.now) (range_with_len 0 (n_of first.now))) result }
 {
     let mut met = Lowest::new(alloc, first.n())?;
+    let mut both = Both::new(alloc);
     for v in 0..first.n() {
-        insert_union(builder, &mut met, first, second, VertexNo(v), spec)?;
+        read_candidates(&mut both, first, second, VertexNo(v), spec.directed)?;
+        insert_union(builder, &mut met, VertexNo(v), &both.mine, spec.multi)?;
     }
     Ok(())
 }
 
-// Inserts the candidates of a vertex, or the lowest of them.
+// Reads the candidates of a vertex: those of the first graph, and behind them those of the second.
+fn read_candidates(
+    both: &mut Both,
+    first: &Graph,
+    second: &Graph,
+    vertex: VertexNo,
+    directed: bool,
+) -> Result<(), AllocError>
+    requires { vertex.0 < n_of first.now }
+    ensures { OnOk result (both.new.mine.items ≡ candidates directed first.now second.now vertex.0) }
+{
+    let sought = Sought {
+        vertex,
+        halves: directed,
+        directed,
+        n: first.n(),
+    };
+    both.read(first, second, sought, sought)?;
+    both.mine.extend_from_slice(&both.theirs)?;
+    Ok(())
+}
+
+// Inserts along the candidates of a vertex, or along the lowest of them.
 fn insert_union(
     builder: &mut Builder,
     met: &mut Lowest,
-    first: &Graph,
-    second: &Graph,
     vertex: VertexNo,
-    spec: GunionSpec,
-) -> Result<(), Refusal>
-    requires vertex { vertex.0 < n_of first.now }
-    requires n { n_of builder.old.graph ≡ n_of first.now }
-    requires width { length met.old.places.items ≡ n_of first.now }
-    ensures inserts { Inserts builder.old builder.new (union_at spec first.now second.now vertex.0) result }
-    ensures width { length met.new.places.items ≡ length met.old.places.items }
-{
-    if spec.multi {
-        return insert_all(builder, first, second, vertex, spec.directed);
-    }
-    meet_candidates(met, first, second, vertex, spec.directed);
-    insert_spokes(builder, vertex, met.spokes())
-}
-
-// Inserts all candidates of a vertex.
-fn insert_all(
-    builder: &mut Builder,
-    first: &Graph,
-    second: &Graph,
-    vertex: VertexNo,
-    directed: bool,
-) -> Result<(), Refusal>
-    requires vertex { vertex.0 < n_of first.now }
-    requires n { n_of builder.old.graph ≡ n_of first.now }
-    ensures { Inserts builder.old builder.new
-        (map (along vertex.0) (candidates directed first.now second.now vertex.0)) result }
-{
-    let n = first.n();
-    insert_candidates(builder, first, vertex, directed, n)?;
-    insert_candidates(builder, second, vertex, directed, n)
-}
-
-// Inserts along the candidates of a vertex, which the graph may lack, straight from its arcs.
-fn insert_candidates(
-    builder: &mut Builder,
-    graph: &Graph,
-    vertex: VertexNo,
-    directed: bool,
-    n: u32,
+    candidates: &[Spoke],
+    multi: bool,
 ) -> Result<(), Refusal>
     requires from { vertex.0 < n_of builder.old.graph }
-    requires to { n ≤ n_of builder.old.graph }
-    ensures { Inserts builder.old builder.new
-        (map (along vertex.0) (filter (is_candidate directed n vertex.0) (spokes directed graph.now vertex.0))) result }
-{
-    if vertex.0 >= graph.n() {
-        return Ok(());
-    }
-    for number in graph.walk(vertex, directed) {
-        let spoke = spoke_at(graph, number);
-        if !is_candidate(directed, n, vertex, spoke) {
-            continue;
-        }
-        insert_spoke(builder, vertex, spoke)?;
-    }
-    Ok(())
-}
-
-// Takes the candidates of a vertex, in place of what was met.
-fn meet_candidates(
-    met: &mut Lowest,
-    first: &Graph,
-    second: &Graph,
-    vertex: VertexNo,
-    directed: bool,
-)
-    requires vertex { vertex.0 < n_of first.now }
-    requires width { length met.old.places.items ≡ n_of first.now }
-    ensures spokes { met.new.spokes.items ≡ lowest (candidates directed first.now second.now vertex.0) }
+    requires to { All (IsWithin (n_of builder.old.graph)) candidates.now }
+    requires width { length met.old.places.items ≡ n_of builder.old.graph }
+    ensures inserts { Inserts builder.old builder.new (map (along vertex.0) (run_of multi candidates.now)) result }
     ensures width { length met.new.places.items ≡ length met.old.places.items }
 {
-    let n = first.n();
-    met.forget();
-    met.meet(first, vertex, directed, directed, n);
-    if vertex.0 >= second.n() {
-        return;
+    if multi {
+        return insert_spokes(builder, vertex, candidates);
     }
-    met.meet(second, vertex, directed, directed, n);
+    met.keep(candidates);
+    insert_spokes(builder, vertex, met.spokes())
 }

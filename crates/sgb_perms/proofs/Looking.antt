@@ -94,15 +94,26 @@ words_more rows i word words after less is known added put =
           (sym fresh ∙ list_any_at (λ j. word == j) words k d low (eq-eqb word (get_or words k d) (sym same)))));
     }
 
+-- what stands at the place of a row is its word
+pub word_own : (rows : List (List ℕ)) (words : List ℕ) (row : List ℕ) (v word : ℕ) → IsWordsOf rows words → v < length rows → row ≡ get_or rows v [] → word ≡ get_or words v 0 → word ≡ word_of row
+word_own rows words row v word known less same is =
+    is
+    ∙ (ap (λ ws. get_or ws v 0) known.are
+    ∙ (get_or-map word_of rows v [] 0 less ∙ ap word_of (sym same)))
+
+-- of words of which no two are the same each is found where it stands
+pub word_here : (words : List ℕ) (word p : ℕ) → Distinct words → p < length words → get_or words p 0 ≡ word → word_place words word ≡ p
+word_here words word p apart less here =
+    position_or_len_is (λ k. word == k) words p 0 (omega (arith, less))
+    (λ k low. ne_eqb word (get_or words k 0) (λ same. apart k p 0 low less (sym same ∙ sym here)))
+    (λ within. eq-eqb word (get_or words p 0) (sym here))
+
 -- a row that is listed is found by its word
 pub word_found : (rows : List (List ℕ)) (words : List ℕ) (row : List ℕ) → IsWordsOf rows words → place_of rows row < length rows → word_place words (word_of row) ≡ place_of rows row
 word_found rows words row known within =
     let p = place_of rows row in
-    let word = word_of row in
     let long : length words ≡ length rows = ap length known.are ∙ length-map rows word_of in
     let here : row ≡ get_or rows p [] = same_from_test row (get_or rows p []) (passes_at_first (same_list row) rows [] within) in
-    let mine : word ≡ get_or words p 0 =
+    let mine : word_of row ≡ get_or words p 0 =
     ap word_of here ∙ (sym (get_or-map word_of rows p [] 0 within) ∙ ap (λ ws. get_or ws p 0) (sym known.are)) in
-    position_or_len_is (λ k. word == k) words p 0 (omega (arith, within, long))
-    (λ k low. ne_eqb word (get_or words k 0) (λ same. known.apart k p 0 low (omega (arith, within, long)) (sym same ∙ mine)))
-    (λ less. eq-eqb word (get_or words p 0) mine)
+    word_here words (word_of row) p known.apart (omega (arith, within, long)) (sym mine)

@@ -6,7 +6,7 @@ ghost use Rattle.sgb_perms.specs.Arrangement.{is_descent, exchanged};
 ghost use Rattle.sgb_perms.specs.Perms.{exchanges, exchanges_of, place_of, row_at};
 ghost use Rattle.sgb_perms.specs.Private.Places.{shown_by, IsWordsOf, IsIndexOf, IsClosed, LeadsWithin};
 
-use crate::places::{Places, place_of, place_of_word, word_of};
+use crate::places::{Places, place_near, place_of, word_at};
 use crate::rows::Rows;
 use indexmap::IndexSet;
 use sgb_graph::{Builder, Refusal, VertexNo};
@@ -39,19 +39,22 @@ fn insert_by_word(builder: &mut Builder, rows: &Rows, words: &IndexSet<u64>) -> 
     requires closed { IsClosed rows.now.rows }
     ensures { Inserts builder.old builder.new (exchanges rows.now.rows) result }
 {
+    let mut distances = [0usize; 16];
     for v in 0..rows.len() {
-        insert_to_word(builder, rows, VertexNo(v as u32), words)?;
+        insert_to_word(builder, rows, VertexNo(v as u32), words, &mut distances)?;
     }
     Ok(())
 }
 
 // Inserts the exchanges that lead to the vertex. Where the greater of two elements goes one place on, its digit is worth 31
-// times as much, and that of the smaller one a 31st.
+// times as much, and that of the smaller one a 31st. The arrangement that an exchange comes from mostly stands as far before
+// its vertex as it last did for an element of this kind: always so where each kind has one element and there is no limit.
 fn insert_to_word(
     builder: &mut Builder,
     rows: &Rows,
     to: VertexNo,
     words: &IndexSet<u64>,
+    distances: &mut [usize],
 ) -> Result<(), Refusal>
     requires vertex { to.0 < length rows.now.rows }
     requires vertices { n_of builder.old.graph ≡ length rows.now.rows }
@@ -61,18 +64,35 @@ fn insert_to_word(
     ensures { Inserts builder.old builder.new (exchanges_of rows.now.rows to.0 (row_at rows.now.rows to.0)) result }
 {
     let row = rows.row(to.0 as usize);
-    let word = word_of(row);
+    let word = word_at(words, to.0 as usize);
     let mut worth: u64 = 30;
     for place in 0..row.len().saturating_sub(1) {
         let (left, right) = (row[place], row[place + 1]);
         if right < left {
             let step = worth.wrapping_mul((left - right) as u64);
-            let source = place_of_word(words, word.wrapping_add(step));
+            let guess = source_near(distances, left, to);
+            let source = place_near(words, word.wrapping_add(step), guess);
+            keep_distance(distances, left, to, source);
             builder.insert(VertexNo(source as u32), to, 1)?;
         }
         worth = worth.wrapping_mul(31);
     }
     Ok(())
+}
+
+// A guess of the place from which an element of this kind was exchanged.
+#[inline]
+fn source_near(distances: &[usize], kind: u8, to: VertexNo) -> usize {
+    let distance = distances.get(kind as usize).copied().unwrap_or(0);
+    (to.0 as usize).wrapping_sub(distance)
+}
+
+// Keeps how far before the vertex that place was.
+#[inline]
+fn keep_distance(distances: &mut [usize], kind: u8, to: VertexNo, source: usize) {
+    if let Some(distance) = distances.get_mut(kind as usize) {
+        *distance = (to.0 as usize).wrapping_sub(source);
+    }
 }
 
 // The same by the bytes of the rows.

@@ -1,5 +1,5 @@
 //! Finds the vertex of an arrangement.
-ghost use Rattle.std.specs.Prelude.{◌≡◌, ◌<◌, length, IfOk, IfErr, IfSome};
+ghost use Rattle.std.specs.Prelude.{◌≡◌, ◌<◌, length, get_or, IsTrue, IfOk, IfErr, IfSome};
 ghost use Rattle.sgb_plan.specs.Distinct.{Distinct};
 ghost use Rattle.sgb_perms.specs.Perms.{place_of};
 ghost use Rattle.sgb_perms.specs.Private.Places.{shown_by, word_of, word_place, IsWordsOf, IsIndexOf};
@@ -83,4 +83,40 @@ pub(crate) fn place_of_word(words: &IndexSet<u64>, word: u64) -> usize
     ensures { result ≡ word_place words.now.keys word }
 {
     words.get_index_of(&word).unwrap_or(words.len())
+}
+
+// The same, where a guess of the place is looked at first, which saves a search.
+#[inline]
+pub(crate) fn place_near(words: &IndexSet<u64>, word: u64, guess: usize) -> usize
+    requires { Distinct words.now.keys }
+    ensures { result ≡ word_place words.now.keys word }
+{
+    if stands_at(words, word, guess) {
+        guess
+    } else {
+        place_of_word(words, word)
+    }
+}
+
+// Whether the word stands at this place.
+#[inline]
+fn stands_at(words: &IndexSet<u64>, word: u64, place: usize) -> bool
+    ensures within { IsTrue result → place < length words.now.keys }
+    ensures here { IsTrue result → get_or words.now.keys place 0 ≡ word }
+{
+    match words.get_index(place) {
+        Some(held) => *held == word,
+        None => false,
+    }
+}
+
+// The word at this place.
+#[inline]
+pub(crate) fn word_at(words: &IndexSet<u64>, place: usize) -> u64
+    ensures { result ≡ get_or words.now.keys place 0 }
+{
+    match words.get_index(place) {
+        Some(word) => *word,
+        None => 0,
+    }
 }

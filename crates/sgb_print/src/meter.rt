@@ -143,7 +143,6 @@ impl<W: Write> MeteredWriter<W> {
     }
 
     /// Makes one write of some bytes. To take none of them is to fail.
-    #[inline]
     pub fn write(&mut self, bytes: &[u8]) -> Result<usize, Failed>
         requires { 0 < length bytes.now }
         ensures failed { self.new.failed ≡ (self.old.failed || is_err result) }

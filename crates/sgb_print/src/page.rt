@@ -32,7 +32,6 @@ impl Model for Page {
 
 impl Page {
     /// No text.
-    #[inline]
     pub fn new() -> Page
         ensures { result ≡ [] }
     {
@@ -40,14 +39,6 @@ impl Page {
             bytes: [0; PAGE_LIMIT],
             start: PAGE_LIMIT,
         }
-    }
-
-    /// Forgets the text.
-    #[inline]
-    pub fn clear(&mut self)
-        ensures { self.new ≡ [] }
-    {
-        self.start = PAGE_LIMIT;
     }
 
     /// Puts bytes in front.
@@ -88,7 +79,6 @@ impl Page {
     }
 
     /// Writes the text.
-    #[inline]
     pub fn print<W: Write>(&self, writer: &mut MeteredWriter<W>) -> Result<(), Failed>
         ensures { Prints (W.contents writer.old.inner) (W.contents writer.new.inner) writer.old.failed writer.new.failed result self.now }
     {

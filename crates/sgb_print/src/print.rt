@@ -17,7 +17,6 @@ pub fn put_all<W: Write>(writer: &mut MeteredWriter<W>, pieces: &[&[u8]]) -> Res
 }
 
 /// Writes all the bytes.
-#[inline]
 pub fn put<W: Write>(writer: &mut MeteredWriter<W>, bytes: &[u8]) -> Result<(), Failed>
     ensures { Prints (W.contents writer.old.inner) (W.contents writer.new.inner) writer.old.failed writer.new.failed result bytes.now }
 {

@@ -170,18 +170,15 @@ fn print_arcs<W: Write>(
     ensures { Prints (W.contents writer.old.inner) (W.contents writer.new.inner) writer.old.failed writer.new.failed
         result (arcs_text graph.now (arcs_of graph.now vertex.0)) }
 {
-    let mut page = Page::new();
     for number in graph.arcs(vertex) {
-        print_arc(writer, &mut page, graph, number)?;
+        print_arc(writer, graph, number)?;
     }
     Ok(())
 }
 
-// An arc's number, tip, length and fields, by way of a page that is lent.
-#[inline]
+// An arc's number, tip, length and fields.
 fn print_arc<W: Write>(
     writer: &mut MeteredWriter<W>,
-    page: &mut Page,
     graph: &Graph,
     number: ArcNo,
 ) -> Result<(), Failed>
@@ -198,17 +195,15 @@ fn print_arc<W: Write>(
         ("b", graph.util(Place::Arc(number, ArcField::B))),
     ];
     if are_zeros(&values) {
-        return print_arc_head(writer, page, number, arc.tip, arc.len, b"\n");
+        return print_arc_head(writer, number, arc.tip, arc.len, b"\n");
     }
-    print_arc_head(writer, page, number, arc.tip, arc.len, b"")?;
+    print_arc_head(writer, number, arc.tip, arc.len, b"")?;
     end_with_fields(writer, &values)
 }
 
 // What stands before an arc's fields, and what follows.
-#[inline]
 fn print_arc_head<W: Write>(
     writer: &mut MeteredWriter<W>,
-    page: &mut Page,
     number: ArcNo,
     tip: Tip,
     len: i64,
@@ -218,17 +213,16 @@ fn print_arc_head<W: Write>(
     ensures { Prints (W.contents writer.old.inner) (W.contents writer.new.inner) writer.old.failed writer.new.failed
         result (arc_head number.0 tip len ++ behind.now) }
 {
-    page.clear();
+    let mut page = Page::new();
     page.prepend(behind);
     page.prepend_signed(len);
-    prepend_tip(page, tip);
+    prepend_tip(&mut page, tip);
     page.prepend_number(number.0 as u64);
     page.prepend(b"  A");
     page.print(writer)
 }
 
 // Puts an arc's tip in front, between spaces.
-#[inline]
 fn prepend_tip(page: &mut Page, tip: Tip)
     requires { length page.old ≤ 22 }
     ensures text { page.new ≡ (codes " " ++ tip_text tip ++ codes " ") ++ page.old }
@@ -246,7 +240,6 @@ fn prepend_tip(page: &mut Page, tip: Tip)
 }
 
 // Whether each value is Zero.
-#[inline]
 fn are_zeros(fields: &[(&str, &Util)]) -> bool
     ensures { result ≡ list_all (λ p. is_zero p.1.now) fields.now }
 {

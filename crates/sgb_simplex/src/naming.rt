@@ -31,7 +31,6 @@ pub fn push_point(
 {
     name.clear();
     append_dotted(name, point)?;
-    let label = label_of(alloc, name)?;
     let fields = [
         Util::Zero,
         Util::Zero,
@@ -40,6 +39,7 @@ pub fn push_point(
         coordinate_field(point, 1),
         coordinate_field(point, 2),
     ];
+    let label = label_of(alloc, name)?;
     builder.push_vertex(label, fields)
 }
 

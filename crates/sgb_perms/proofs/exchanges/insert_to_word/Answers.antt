@@ -4,6 +4,7 @@ use Rattle.sgb_graph.specs.Builder.{grown}
 use Rattle.sgb_graph.proofs.Inserting.{LeftFrom, RefusesInsertions, from_some, from_none, from_refused, from_end, from_n}
 use Rattle.sgb_perms.specs.Perms.{exchanges_of}
 use Rattle.sgb_perms.specs.Private.Places.{LeadsWithin}
+use Rattle.sgb_perms.proofs.Looking.{word_own}
 use Rattle.sgb_perms.proofs.Digits.{worth_start, worth_more, word_leads}
 use Rattle.sgb_perms.proofs.Moves.{move_at, moves_start, move_some, move_none, descends_so, rises_so, from_within}
 use Rattle.sgb_perms.proofs.exchanges.insert_to_word.Goals as goal
@@ -19,9 +20,9 @@ overflow_cast-source c =
     let place = c.loop-place.place in
     let low : place + 1 < length a = omega arith in
     let leads : LeadsWithin rows a = subst (LeadsWithin rows) (sym c.row-row.ensures.value) (c.requires.closed c.args.to.0 c.requires.vertex) in
-    let is = c.place_of_word-source.ensures
-    ∙ word_leads rows c.args.words.now.keys a place (get_or a place 0 - get_or a (place + 1) 0) c.loop-place.worth c.word_of-word.result c.requires.words leads low c.if-right-left.true refl c.loop-place.invariant.worth c.word_of-word.ensures in
-    let less = from_within rows a place c.place_of_word-source.result leads low (descends_so a a place refl c.if-right-left.true) is in
+    let is = c.place_near-source.ensures
+    ∙ word_leads rows c.args.words.now.keys a place (get_or a place 0 - get_or a (place + 1) 0) c.loop-place.worth c.word_at-word.result c.requires.words leads low c.if-right-left.true refl c.loop-place.invariant.worth (word_own rows c.args.words.now.keys a c.args.to.0 c.word_at-word.result c.requires.words c.requires.vertex c.row-row.ensures.value c.word_at-word.ensures) in
+    let less = from_within rows a place c.place_near-source.result leads low (descends_so a a place refl c.if-right-left.true) is in
     omega (arith, c.requires.few)
 
 pub insert-requires-clause-to : goal.insert-requires-clause-to
@@ -34,9 +35,9 @@ insert-requires-clause-from c =
     let place = c.loop-place.place in
     let low : place + 1 < length a = omega arith in
     let leads : LeadsWithin rows a = subst (LeadsWithin rows) (sym c.row-row.ensures.value) (c.requires.closed c.args.to.0 c.requires.vertex) in
-    let is = c.place_of_word-source.ensures
-    ∙ word_leads rows c.args.words.now.keys a place (get_or a place 0 - get_or a (place + 1) 0) c.loop-place.worth c.word_of-word.result c.requires.words leads low c.if-right-left.true refl c.loop-place.invariant.worth c.word_of-word.ensures in
-    let less = from_within rows a place c.place_of_word-source.result leads low (descends_so a a place refl c.if-right-left.true) is in
+    let is = c.place_near-source.ensures
+    ∙ word_leads rows c.args.words.now.keys a place (get_or a place 0 - get_or a (place + 1) 0) c.loop-place.worth c.word_at-word.result c.requires.words leads low c.if-right-left.true refl c.loop-place.invariant.worth (word_own rows c.args.words.now.keys a c.args.to.0 c.word_at-word.result c.requires.words c.requires.vertex c.row-row.ensures.value c.word_at-word.ensures) in
+    let less = from_within rows a place c.place_near-source.result leads low (descends_so a a place refl c.if-right-left.true) is in
     omega (arith, from_n c.loop-place.invariant.left, c.requires.vertices)
 
 pub returns-in_err-insert : goal.returns-in_err-insert
@@ -47,9 +48,9 @@ returns-in_err-insert c =
     let place = c.loop-place.place in
     let low : place + 1 < length a = omega arith in
     let leads : LeadsWithin rows a = subst (LeadsWithin rows) (sym c.row-row.ensures.value) (c.requires.closed c.args.to.0 c.requires.vertex) in
-    let is = c.place_of_word-source.ensures
-    ∙ word_leads rows c.args.words.now.keys a place (get_or a place 0 - get_or a (place + 1) 0) c.loop-place.worth c.word_of-word.result c.requires.words leads low c.if-right-left.true refl c.loop-place.invariant.worth c.word_of-word.ensures in
-    let one = move_some rows c.args.to.0 a place c.place_of_word-source.result (descends_so a a place refl c.if-right-left.true) is in
+    let is = c.place_near-source.ensures
+    ∙ word_leads rows c.args.words.now.keys a place (get_or a place 0 - get_or a (place + 1) 0) c.loop-place.worth c.word_at-word.result c.requires.words leads low c.if-right-left.true refl c.loop-place.invariant.worth (word_own rows c.args.words.now.keys a c.args.to.0 c.word_at-word.result c.requires.words c.requires.vertex c.row-row.ensures.value c.word_at-word.ensures) in
+    let one = move_some rows c.args.to.0 a place c.place_near-source.result (descends_so a a place refl c.if-right-left.true) is in
     let refused : RefusesInsertions c.loop-place.builder (move_at rows c.args.to.0 a place) c.in_err-insert.field-0.0 =
     subst (λ es. RefusesInsertions c.loop-place.builder es c.in_err-insert.field-0.0) one c.in_err-insert.ensures.value in
     rw (p.1, p.2)
@@ -67,12 +68,12 @@ loop-place-preserved c =
     let left : LeftFrom c.args.builder.now (exchanges_of rows c.args.to.0 a) c.if-right-left.builder (move_at rows c.args.to.0 a) (place + 1) (length a - 1) =
     elim c.if-right-left.branch [
       | then-right-left+in_ok-insert w ↦
-          let is = w.place_of_word-source.ensures
-          ∙ word_leads rows c.args.words.now.keys a place (get_or a place 0 - get_or a (place + 1) 0) c.loop-place.worth c.word_of-word.result c.requires.words leads low w.if-right-left.true refl c.loop-place.invariant.worth c.word_of-word.ensures in
+          let is = w.place_near-source.ensures
+          ∙ word_leads rows c.args.words.now.keys a place (get_or a place 0 - get_or a (place + 1) 0) c.loop-place.worth c.word_at-word.result c.requires.words leads low w.if-right-left.true refl c.loop-place.invariant.worth (word_own rows c.args.words.now.keys a c.args.to.0 c.word_at-word.result c.requires.words c.requires.vertex c.row-row.ensures.value c.word_at-word.ensures) in
           from_some inside c.loop-place.invariant.left
           (w.builder-is
           ∙ (w.in_ok-insert.ensures.value
-          ∙ ap (grown c.loop-place.builder) (move_some rows c.args.to.0 a place w.place_of_word-source.result (descends_so a a place refl w.if-right-left.true) is)))
+          ∙ ap (grown c.loop-place.builder) (move_some rows c.args.to.0 a place w.place_near-source.result (descends_so a a place refl w.if-right-left.true) is)))
       | else-right-left w ↦
           subst (λ b. LeftFrom c.args.builder.now (exchanges_of rows c.args.to.0 a) b (move_at rows c.args.to.0 a) (place + 1) (length a - 1)) (sym w.builder-is)
           (from_none inside c.loop-place.invariant.left (move_none rows c.args.to.0 a place (rises_so a a place refl w.if-right-left.false)))

@@ -16,6 +16,6 @@ returns g c =
     prints_same _ _ _ _ c.print.result _ (arc_head k c.args.tip c.args.len ++ behind) c.print.ensures
     (pieces_behind (codes "  A") (decimal k) gap tip (signed_decimal c.args.len) behind
     ∙ five_pieces (codes "  A") (decimal k) (gap ++ tip ++ gap) (signed_decimal c.args.len) behind _ _ _ _ _ _
-    c.clear.ensures c.prepend.ensures.text
+    c.new-page.ensures c.prepend.ensures.text
     (c.prepend_signed.ensures.text ∙ ap (λ z. signed_decimal z ++ c.prepend.new.self) (to_z-of_z w64 c.args.len c.ranges.len))
     c.prepend_tip.ensures.text c.prepend_number.ensures.text c.prepend-2.ensures.text)

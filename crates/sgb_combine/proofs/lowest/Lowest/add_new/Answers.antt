@@ -1,4 +1,4 @@
-use Rattle.std.proofs.Common.{◌<◌, length, arith}
+use Rattle.std.proofs.Common.{arith}
 use Rattle.sgb_combine.proofs.Fewer.{added_fewer}
 use Rattle.sgb_combine.proofs.lowest.Lowest.add_new.Goals as goal
 
