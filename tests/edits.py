@@ -269,7 +269,7 @@ def await_memory():
 
 
 def rattle(crate, folder, flags):
-    """What a check says, but for its offers of files to write a proof in: they take a tenth to a half of it, and say nothing of what is refused."""
+    """What a check says, but for its offers of files to write a proof in: they take up to a half of it, and say nothing of what is refused."""
     await_memory()
     stages = '%s/stages' % folder
     words = ['check', *crate.words(['--jobs', '1'], keeps=False), '--stage-times', stages, *flags]
