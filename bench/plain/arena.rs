@@ -95,7 +95,7 @@ impl Arena {
         replace(&mut self.firsts[owner as usize], number)
     }
 
-    #[inline]
+    #[inline(always)]
     pub fn new_arc(&mut self, from: u32, to: u32, len: i64) -> Result<u32, TooLarge> {
         self.make_room(1)?;
         let number = self.arcs.len() as u32;
@@ -105,19 +105,21 @@ impl Arena {
     }
 
     // The arc from the larger end is linked first, so that of a loop the first arc stands before the second.
-    #[inline]
+    #[inline(always)]
     pub fn new_edge(&mut self, from: u32, to: u32, len: i64) -> Result<u32, TooLarge> {
         self.make_room(2)?;
         let number = self.arcs.len() as u32;
         let (low, high) = (from.min(to), from.max(to));
         let second = self.link(high, number + 1);
         let first = self.link(low, number);
-        self.arcs.push(Arc { owner: low, tip: high, next: first, names: 0, len });
-        self.arcs.push(Arc { owner: high, tip: low, next: second, names: 0, len });
+        self.arcs.extend([
+            Arc { owner: low, tip: high, next: first, names: 0, len },
+            Arc { owner: high, tip: low, next: second, names: 0, len },
+        ]);
         Ok(number)
     }
 
-    #[inline]
+    #[inline(always)]
     pub fn insert(&mut self, from: u32, to: u32, len: i64, directed: bool) -> Result<u32, TooLarge> {
         if directed { self.new_arc(from, to, len) } else { self.new_edge(from, to, len) }
     }
