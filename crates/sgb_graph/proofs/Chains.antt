@@ -1,11 +1,11 @@
 -- Lemmas on lists that are linked by number.
-use Rattle.std.proofs.Common.{◌≡◌, ◌≢◌, ◌<◌, ◌≤◌, ◌+◌, ℕ, zero, suc, List, [], ◌∷◌, length, get_or, Option, Some, None, All, refl, sym, ap, subst, ◌∙◌, arith}
+use Rattle.std.proofs.Common.{◌≡◌, ◌≢◌, ◌<◌, ◌≤◌, ◌+◌, ℕ, zero, suc, List, [], ◌∷◌, length, get_or, Option, Some, None, IsSome, All, refl, sym, ap, subst, ◌∙◌, arith}
 use Rattle.std.specs.List.{insert, remove}
 use Rattle.sgb_graph.specs.declared.field.ArcNo.{ArcNo}
 use Rattle.sgb_graph.specs.Graph.{occurrences}
 use Rattle.sgb_graph.proofs.Counts.{occurs_yes, occurs_more, occurs_at}
 use Rattle.sgb_graph.specs.Chain.{Leads, chain}
-use Rattle.sgb_graph.specs.Private.Arena.{Slots, next_at, numbers, IsLinked}
+use Rattle.sgb_graph.specs.Private.Arena.{Slots, slot_at, next_at, numbers, IsLinked}
 
 -- links that lead along a list give that list
 pub chain_is : (next : ℕ → Option ArcNo) (link : Option ArcNo) (ks : List ℕ) (m : ℕ) → Leads next link ks None → length ks ≤ m → chain next m link ≡ ks
@@ -46,23 +46,23 @@ chain_step next (suc m) k l =
 pub record LinkedStep (ss : Slots) (k : ArcNo) : Type 0 where
   pub numbers : numbers ss (Some k) ≡ k.0 ∷ numbers ss (next_at ss k.0)
   pub linked : IsLinked ss (next_at ss k.0)
-  pub within : k.0 < length ss
+  pub live : IsSome (slot_at ss k.0)
 
 pub linked_step : (ss : Slots) (k : ArcNo) → IsLinked ss (Some k) → LinkedStep ss k
 linked_step ss k l =
     let s = chain_step (next_at ss) (length ss) k l.ends in
-    let within : All (λ j. j < length ss) (k.0 ∷ numbers ss (next_at ss k.0)) = rw s.numbers at l.within in
+    let live : All (λ j. IsSome (slot_at ss j)) (k.0 ∷ numbers ss (next_at ss k.0)) = rw s.numbers at l.live in
     record {
       numbers = s.numbers;
-      linked = record { ends = s.ends; within = λ i d h. within (suc i) d (omega arith) };
-      within = within 0 0 (omega arith);
+      linked = record { ends = s.ends; live = λ i d h. live (suc i) d (omega arith) };
+      live = live 0 0 (omega arith);
     }
 
 -- what an iterator over these links gives next
 pub record Gives (ss : Slots) (link : Option ArcNo) (now : List ℕ) (k : ArcNo) : Type 0 where
   pub steps : now ≡ k.0 ∷ numbers ss link
   pub linked : IsLinked ss link
-  pub within : k.0 < length ss
+  pub live : IsSome (slot_at ss k.0)
   pub shorter : length (numbers ss link) < length now
 
 pub gives_next : (ss : Slots) (link : Option ArcNo) (now : List ℕ) (k : ArcNo) (after : Option ArcNo) → IsLinked ss link → link ≡ Some k → numbers ss link ≡ now → after ≡ next_at ss k.0 → Gives ss after now k
@@ -73,7 +73,7 @@ gives_next ss link now k after linked is same follows =
     record {
       steps = steps;
       linked = subst (IsLinked ss) (sym follows) s.linked;
-      within = s.within;
+      live = s.live;
       shorter = rw steps (omega arith);
     }
 

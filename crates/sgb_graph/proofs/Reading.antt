@@ -1,5 +1,5 @@
 -- Lemmas on what the readers of a graph show.
-use Rattle.std.proofs.Common.{◌≡◌, ◌<◌, ℕ, List, [], ◌∷◌, ◌++◌, length, get_or, Option, Some, None, is_some, IsSome, IfSome, All, true, refl, ap, subst, ◌∙◌, arith}
+use Rattle.std.proofs.Common.{◌≡◌, ◌<◌, ℕ, List, [], ◌∷◌, ◌++◌, get_or, Option, Some, None, is_some, IsSome, IfSome, All, true, refl, ap, subst, ◌∙◌}
 use Rattle.sgb_graph.specs.declared.field.ArcNo.{ArcNo}
 use Rattle.sgb_graph.specs.declared.graph.arena.Slot.{Slot}
 use Rattle.sgb_graph.specs.declared.graph.Graph.TheInside.{Inside}
@@ -11,8 +11,8 @@ use Rattle.sgb_graph.specs.Private.Arena.{Slots, IsArena, slot_at, next_at, entr
 use Rattle.sgb_graph.specs.Private.Link.{any_vertex, vertex_in}
 use Rattle.sgb_graph.specs.Private.Exchange.{fields_in}
 use Rattle.sgb_graph.proofs.Counts.{occurs_at}
-use Rattle.sgb_graph.proofs.Graphs.{owner_is, made_of_live}
-use Rattle.sgb_graph.proofs.Shows.{opened, but_of, numbers_are}
+use Rattle.sgb_graph.proofs.Graphs.{owner_is}
+use Rattle.sgb_graph.proofs.Shows.{opened, but_of, numbers_are, slot_lives}
 
 -- the list that `arcs` walks along
 pub arcs_are : (a : Inside) (g : GraphOf) (v : ℕ) (link : Option ArcNo) (ss : Slots) (ks : List ℕ) → graph_of a ≡ g → IsArena a → v < n_of g → link ≡ (vertex_in a.vertices v).first → ss ≡ a.slots → ks ≡ numbers ss link → ks ≡ arcs_of g v
@@ -58,11 +58,10 @@ next_is a g k ss link same arena is link_is v low before after list =
     ∙ next_in (next_at a.slots) x.first before k after
     (subst (λ ks. Leads (next_at a.slots) x.first ks None) list (o.shows.vertices v any_vertex low).arcs))
 
-pub live_slot : (a : Inside) (g : GraphOf) (k : ℕ) (ss : Slots) → graph_of a ≡ g → IsArena a → ss ≡ a.slots → IsSome (arc_at g k) → k < length ss
+pub live_slot : (a : Inside) (g : GraphOf) (k : ℕ) (ss : Slots) → graph_of a ≡ g → IsArena a → ss ≡ a.slots → IsSome (arc_at g k) → IsSome (slot_at ss k)
 live_slot a g k ss same arena is live =
     let o = opened a g same arena in
-    let made : k < made_of g = made_of_live g k live in
-    omega (arith, made, o.shows.made, ap length is)
+    slot_lives (slot_at ss k) (arc_at g k) (ap (λ s. entry_of (slot_at s k)) is ∙ o.shows.entries k) live
 
 -- the fields of a live arc
 fields_of_entry : (o : Option Slot) (p : Option ArcOf) → entry_of o ≡ p → is_some p ≡ true → fields_in o ≡ (arc_or no_arc p).fields

@@ -1,5 +1,5 @@
 -- Lemmas on vertices and slots that show a graph.
-use Rattle.std.proofs.Common.{◌≡◌, ◌<◌, ℕ, List, length, get_or, map, Option, Some, None, is_some, IfSome, All, true, refl, sym, ap, subst, ◌∙◌, arith, FitsSigned}
+use Rattle.std.proofs.Common.{◌≡◌, ◌<◌, ℕ, List, length, get_or, map, Option, Some, None, is_some, IsSome, IfSome, All, true, refl, sym, ap, subst, ◌∙◌, arith, FitsSigned}
 use Rattle.std.specs.Int.{w64}
 use Rattle.sgb_graph.specs.Read.{entry_view, arc_view}
 use Rattle.std.proofs.lemmas.List.{get_or-map, length-map, same_lists, get_or_default, get_or_read}
@@ -8,12 +8,13 @@ use Rattle.sgb_graph.specs.declared.graph.Vertex.{Vertex}
 use Rattle.sgb_graph.specs.declared.graph.arena.Slot.{Slot}
 use Rattle.sgb_graph.specs.declared.graph.read.ArcView.{ArcView}
 use Rattle.sgb_graph.specs.declared.graph.Graph.TheInside.{Inside}
-use Rattle.sgb_graph.specs.Graph.{GraphOf, IsGraph, IsArc, n_of, made_of, m_of, vertex_at, no_vertex, arcs_of, arc_at, has_arc, occurrences}
+use Rattle.sgb_graph.specs.Graph.{GraphOf, ArcOf, IsGraph, IsArc, n_of, made_of, m_of, vertex_at, no_vertex, arcs_of, arc_at, has_arc, occurrences}
 use Rattle.sgb_graph.specs.Edit.{owner_of}
 use Rattle.sgb_graph.specs.Chain.{Leads}
 use Rattle.sgb_graph.specs.Private.Arena.{Slots, Shows, ShowsVertex, IsLinked, IsArena, slot_at, next_at, entry_of, owner_in, view_in, numbers, vertex_of, graph_of}
 use Rattle.sgb_graph.specs.Private.Link.{any_vertex, vertex_in}
 use Rattle.sgb_graph.proofs.Graphs.{owner_is, arcs_live, few_arcs_of, same_vertex, same_graph, made_of_live}
+use Rattle.sgb_graph.proofs.Cells.{live_low}
 use Rattle.sgb_graph.proofs.Chains.{chain_is}
 
 -- what is known of the fields of a graph g
@@ -41,6 +42,12 @@ pub record ShowsBut (vs : List Vertex) (ss : Slots) (g : GraphOf) : Type 0 where
 pub but_of : (vs : List Vertex) (ss : Slots) (g : GraphOf) → Shows vs ss g → ShowsBut vs ss g
 but_of vs ss g x = record { n = x.n; vertices = x.vertices; made = x.made; entries = x.entries; owners = x.owners }
 
+-- the slot of a live arc
+pub slot_lives : (o : Option Slot) (e : Option ArcOf) → entry_of o ≡ e → is_some e ≡ true → IsSome o
+slot_lives None None same live = absurd cc
+slot_lives None (Some e) same live = absurd cc
+slot_lives (Some s) e same live = refl
+
 -- the links of a vertex give its arcs
 pub numbers_are : (vs : List Vertex) (ss : Slots) (g : GraphOf) (v : ℕ) (d : Vertex) → ShowsBut vs ss g → IsGraph g → v < n_of g → numbers ss (get_or vs v d).first ≡ arcs_of g v
 numbers_are vs ss g v d shows sound h =
@@ -52,7 +59,9 @@ linked_first vs ss g v d shows sound h =
     let same = numbers_are vs ss g v d shows sound h in
     record {
       ends = subst (λ ks. Leads (next_at ss) (get_or vs v d).first ks None) (sym same) (shows.vertices v d h).arcs;
-      within = subst (λ ks. All (λ k. k < length ss) ks) (sym same) (λ i e l. omega (arith, (arcs_live g v sound i e l).made, shows.made));
+      live = subst (λ ks. All (λ k. IsSome (slot_at ss k)) ks) (sym same) (λ i e l.
+          let k = get_or (arcs_of g v) i e in
+          slot_lives (slot_at ss k) (arc_at g k) (shows.entries k) (arcs_live g v sound i e l).live);
     }
 
 -- fields that show a sound graph are an arena whose view is that graph
@@ -132,4 +141,4 @@ pub within_made : (a : Inside) (g : GraphOf) (v : ℕ) (link : Option ArcNo) (ss
 within_made a g v link ss ks same arena h read is are =
     let o = opened a g same arena in
     let l = linked_at a g v link ss same arena h read is in
-    subst (λ js. All (λ k. k < made_of g) js) (sym are) (λ i d low. omega (arith, l.within i d low, ap length is, o.shows.made))
+    subst (λ js. All (λ k. k < made_of g) js) (sym are) (λ i d low. omega (arith, live_low ss (get_or (numbers ss link) i d) (l.live i d low), ap length is, o.shows.made))

@@ -1,5 +1,5 @@
 -- Lemmas on walks past the second halves of loops.
-use Rattle.std.proofs.Common.{◌≡◌, ◌<◌, ◌≤◌, ◌+◌, ℕ, suc, List, [], ◌∷◌, length, Option, Some, None, Bool, true, false, ◌&&◌, ◌==◌, All, cond, inl, inr, refl, sym, ap, subst, ◌∙◌, arith}
+use Rattle.std.proofs.Common.{◌≡◌, ◌<◌, ◌≤◌, ◌+◌, ℕ, suc, List, [], ◌∷◌, length, Option, Some, None, IsSome, Bool, true, false, ◌&&◌, ◌==◌, All, cond, inl, inr, refl, sym, ap, subst, ◌∙◌, arith}
 use Rattle.std.proofs.lemmas.Bool.{cases_Bool, eq-eqb}
 use Rattle.std.proofs.lemmas.List.Elements.{All-cons}
 use Rattle.sgb_graph.specs.declared.field.ArcNo.{ArcNo}
@@ -15,6 +15,7 @@ use Rattle.sgb_graph.specs.Private.Link.{vertex_in}
 use Rattle.sgb_graph.specs.Private.Walk.{is_loop_in, is_pair_in, without_pairs, walked, past}
 use Rattle.sgb_graph.proofs.Counts.{occurs_yes, occurs_more}
 use Rattle.sgb_graph.proofs.Graphs.{owner_is}
+use Rattle.sgb_graph.proofs.Cells.{live_low}
 use Rattle.sgb_graph.proofs.Chains.{chain-none, linked_step}
 use Rattle.sgb_graph.proofs.Shows.{opened, shows_arc}
 use Rattle.sgb_graph.proofs.Reading.{arcs_are}
@@ -126,7 +127,7 @@ pub record WalksTo (ss : Slots) (d : Bool) (follows after : Option ArcNo) (now :
   pub steps : now ≡ k.0 ∷ walked d ss (numbers ss after)
   pub next : IsLinked ss follows
   pub linked : IsLinked ss after
-  pub within : k.0 < length ss
+  pub live : IsSome (slot_at ss k.0)
   pub shorter : length (walked d ss (numbers ss after)) < length now
 
 pub walks_next : (ss : Slots) (d : Bool) (link : Option ArcNo) (now : List ℕ) (k : ArcNo) (next after : Option ArcNo) → IsLinked ss link → link ≡ Some k → walked d ss (numbers ss link) ≡ now → next ≡ next_at ss k.0 → after ≡ past d ss k.0 next → WalksTo ss d next after now k
@@ -142,7 +143,7 @@ walks_next ss d link now k next after linked is same follows goes =
       steps = steps;
       next = here;
       linked = subst (IsLinked ss) (sym goes) (past_linked ss d k.0 next here);
-      within = s.within;
+      live = s.live;
       shorter = rw steps (omega arith);
     }
 
@@ -155,5 +156,8 @@ pub walks_none : (ss : Slots) (d : Bool) (link : Option ArcNo) (now : List ℕ) 
 walks_none ss d link now is same =
     sym same ∙ (ap (λ x. walked d ss (numbers ss x)) is ∙ (ap (walked d ss) (chain-none (next_at ss) (length ss)) ∙ walked_none ss d))
 
+pub live_linked : (ss : Slots) (link : Option ArcNo) (k : ArcNo) → IsLinked ss link → link ≡ Some k → IsSome (slot_at ss k.0)
+live_linked ss link k l is = (linked_step ss k (subst (IsLinked ss) is l)).live
+
 pub within_linked : (ss : Slots) (link : Option ArcNo) (k : ArcNo) → IsLinked ss link → link ≡ Some k → k.0 < length ss
-within_linked ss link k l is = (linked_step ss k (subst (IsLinked ss) is l)).within
+within_linked ss link k l is = live_low ss k.0 (live_linked ss link k l is)

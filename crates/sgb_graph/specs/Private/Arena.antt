@@ -1,5 +1,5 @@
 -- The arena of arcs: how its fields show a graph.
-use Rattle.std.specs.Prelude.{◌≡◌, ◌<◌, ℕ, ℤ, pos, List, [], map, length, Option, Some, None, IfSome, All, slice_index_or}
+use Rattle.std.specs.Prelude.{◌≡◌, ◌<◌, ℕ, ℤ, pos, List, [], map, length, Option, Some, None, IfSome, IsSome, All, slice_index_or}
 use Rattle.sgb_graph.specs.declared.field.VertexNo.{VertexNo}
 use Rattle.sgb_graph.specs.declared.field.ArcNo.{ArcNo}
 use Rattle.sgb_graph.specs.declared.graph.Vertex.{Vertex}
@@ -44,10 +44,10 @@ graph_of a = record {
   entries = map entry_of a.slots;
 }
 
--- the numbers from this link on come to an end, and name slots
+-- the numbers from this link on come to an end, and name arcs that live
 pub record IsLinked (ss : Slots) (link : Option ArcNo) : Type 0 where
   pub ends : Leads (next_at ss) link (numbers ss link) None
-  pub within : All (λ k. k < length ss) (numbers ss link)
+  pub live : All (λ k. IsSome (slot_at ss k)) (numbers ss link)
 
 pub record ShowsVertex (ss : Slots) (v : Vertex) (x : VertexOf) : Type 0 where
   pub label : v.label ≡ x.label

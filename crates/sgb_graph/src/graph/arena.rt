@@ -306,17 +306,13 @@ impl Arena {
         }
     }
 
-    /// The arc that follows this one in its list.
+    /// The arc that follows a live one in its list.
     #[inline]
     pub fn next_after(&self, number: ArcNo) -> Link
-        requires { number.0 < length self.now }
+        requires { IsSome (slot_at self.now number.0) }
         ensures { result ≡ next_at self.now number.0 }
     {
-        let cell = self.cell(number.0 as usize);
-        match cell.owner.get() {
-            Some(_) => cell.next,
-            None => Link::none(),
-        }
+        self.cell(number.0 as usize).next
     }
 
     /// Replaces the link that follows this arc, and gives the one that was there.

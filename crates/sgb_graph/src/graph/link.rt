@@ -60,20 +60,23 @@ fn lose_names(slots: &mut Arena, fields: &[Util; 2])
     slots.lose_name(&fields[1]);
 }
 
-// The place of the arc in a list, or the list's length where it does not stand there.
-fn place_in(slots: &Arena, first: Link, number: ArcNo) -> u32
+// The place of the arc in a list, or the list's length where it does not stand there; and the arc before that place.
+fn place_in(slots: &Arena, first: Link, number: ArcNo) -> (u32, Option<ArcNo>)
     requires linked { IsLinked slots.now first }
     requires few { length slots.now ≤ 1000000 }
-    ensures { result ≡ position_or_len (λ j. j == number.0) (numbers slots.now first) }
+    ensures place { result.0 ≡ position_or_len (λ j. j == number.0) (numbers slots.now first) }
+    ensures before { result.1 ≡ number_before (numbers slots.now first) result.0 }
 {
     let mut place = 0;
+    let mut before = None;
     for other in Arcs::new(slots, first) {
         if other == number {
-            return place;
+            break;
         }
         place += 1;
+        before = Some(other);
     }
-    place
+    (place, before)
 }
 
 // Links the arc into its owner's list at its place. Its number is a hole.
@@ -126,8 +129,7 @@ pub(super) fn take_out(vertices: &mut Vertices, slots: &mut Arena, number: ArcNo
 {
     let owner = slots.owner_at(number);
     let first = vertices.first(owner);
-    let place = place_in(slots, first, number);
-    let before = number_before(slots, first, place);
+    let (place, before) = place_in(slots, first, number);
     let slot = slots.remove(number);
     replace_link(vertices, slots, owner, before, slot.next);
     lose_names(slots, &slot.fields);

@@ -4,7 +4,7 @@ use Rattle.sgb_graph.proofs.graph.arcs.ArcsIterator.next.Goals as goal
 
 pub next_after-self-inside-requires : goal.next_after-self-inside-requires
 next_after-self-inside-requires c =
-    (gives_next c.self.inside.slots.now c.self.inside.next _ c.in-Some.number _ c.self.invariant (sym c.get.ensures ∙ c.in-Some.is) refl refl).within
+    (gives_next c.self.inside.slots.now c.self.inside.next _ c.in-Some.number _ c.self.invariant (sym c.get.ensures ∙ c.in-Some.is) refl refl).live
 
 pub invariant_of-self : goal.invariant_of-self
 invariant_of-self c =

@@ -1,4 +1,4 @@
-use Rattle.std.proofs.Common.{◌∙◌, arith, refl, ap, length}
+use Rattle.std.proofs.Common.{arith, refl, ap, length}
 use Rattle.sgb_graph.specs.New.{six_zeros}
 use Rattle.sgb_graph.proofs.Vertices.{vertex_pushed, values-none}
 use Rattle.sgb_graph.proofs.graph.vertices.Vertices.push_named.Goals as goal

@@ -1,9 +1,9 @@
 use Rattle.std.proofs.Common.{rules, refl, sym, ◌∙◌}
-use Rattle.sgb_graph.proofs.Walking.{WalksTo, walks_next, walks_none, within_linked}
+use Rattle.sgb_graph.proofs.Walking.{WalksTo, walks_next, walks_none, live_linked, within_linked}
 use Rattle.sgb_graph.proofs.graph.walk.WalkIterator.next.Goals as goal
 
 pub next_after-next-requires : goal.next_after-next-requires
-next_after-next-requires c = within_linked c.self.inside.slots.now c.self.inside.next c.in-Some.number c.self.invariant (sym c.get.ensures ∙ c.in-Some.is)
+next_after-next-requires c = live_linked c.self.inside.slots.now c.self.inside.next c.in-Some.number c.self.invariant (sym c.get.ensures ∙ c.in-Some.is)
 
 pub past-self-inside-requires-clause-number : goal.past-self-inside-requires-clause-number
 past-self-inside-requires-clause-number c = within_linked c.self.inside.slots.now c.self.inside.next c.in-Some.number c.self.invariant (sym c.get.ensures ∙ c.in-Some.is)
