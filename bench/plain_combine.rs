@@ -172,6 +172,32 @@ fn complement(graph: &Graph, copy: bool, loops: bool, directed: bool) -> Result<
     Ok(made)
 }
 
+// The union so far, from one vertex on.
+struct Union<'a> {
+    made: &'a mut Graph,
+    // By target, whose arc was inserted last, and its number.
+    marks: Vec<(u32, u32)>,
+    multi: bool,
+    directed: bool,
+}
+
+impl Union<'_> {
+    #[inline(always)]
+    fn add(&mut self, from: u32, to: u32, len: i64) -> Result<(), Refusal> {
+        if !self.multi {
+            let mark = &mut self.marks[to as usize];
+            if mark.0 == from {
+                self.made.lower(mark.1, len, self.directed);
+                return Ok(());
+            }
+            *mark = (from, self.made.arena.arcs.len() as u32);
+        }
+        self.made.insert(from, to, len, self.directed)
+    }
+}
+
+// The lists are read side by side: where each arc names the next, and they lie apart in memory, an arc of one is waited
+// for together with one of the other.
 fn gunion(g: &Graph, h: &Graph, multi: bool, directed: bool) -> Result<Graph, Refusal> {
     g.check_operand()?;
     h.check_operand()?;
@@ -179,27 +205,64 @@ fn gunion(g: &Graph, h: &Graph, multi: bool, directed: bool) -> Result<Graph, Re
     let mut made = begin_as(id_of_two("gunion", &g.id, &h.id, &end), g)?;
     made.arena.reserve(g.arena.arcs.len() + h.arena.arcs.len());
     let n = g.n();
-    // By target, whose arc was inserted last, and its number.
-    let mut marks = vec![(NONE, 0u32); n as usize];
+    let marks = vec![(NONE, 0u32); n as usize];
+    let mut union = Union { made: &mut made, marks, multi, directed };
+    let mut later: Vec<(u32, i64)> = Vec::new();
     for v in 0..n {
         let low = if directed { 0 } else { v };
-        let in_h = if v < h.n() { h.walk(v, directed) } else { Walk { arcs: &[], directed, next: NONE } };
-        for (_, arc) in g.walk(v, directed).chain(in_h) {
-            if arc.tip < low || arc.tip >= n {
-                continue;
-            }
-            if !multi {
-                let mark = &mut marks[arc.tip as usize];
-                if mark.0 == v {
-                    made.lower(mark.1, arc.len, directed);
-                    continue;
+        let mut in_h = if v < h.n() { h.walk(v, directed) } else { Walk { arcs: &[], directed, next: NONE } };
+        later.clear();
+        for (_, arc) in g.walk(v, directed) {
+            if let Some((_, arc)) = in_h.next() {
+                if (low..n).contains(&arc.tip) {
+                    later.push((arc.tip, arc.len));
                 }
-                *mark = (v, made.arena.arcs.len() as u32);
             }
-            made.insert(v, arc.tip, arc.len, directed)?;
+            if arc.tip >= low {
+                union.add(v, arc.tip, arc.len)?;
+            }
+        }
+        for &(to, len) in &later {
+            union.add(v, to, len)?;
+        }
+        for (_, arc) in in_h {
+            if (low..n).contains(&arc.tip) {
+                union.add(v, arc.tip, arc.len)?;
+            }
         }
     }
     Ok(made)
+}
+
+// The least length to each vertex to which arcs were met, from one vertex on.
+struct Least {
+    // By target, from whom an arc was met last, and where its length stands.
+    marks: Vec<(u32, u32)>,
+    spokes: Vec<(u32, i64)>,
+}
+
+impl Least {
+    fn new(n: u32) -> Least {
+        Least { marks: vec![(NONE, 0); n as usize], spokes: Vec::new() }
+    }
+
+    #[inline(always)]
+    fn add(&mut self, from: u32, to: u32, len: i64) {
+        let mark = &mut self.marks[to as usize];
+        if mark.0 == from {
+            let spoke = &mut self.spokes[mark.1 as usize];
+            spoke.1 = spoke.1.min(len);
+        } else {
+            *mark = (from, self.spokes.len() as u32);
+            self.spokes.push((to, len));
+        }
+    }
+
+    #[inline]
+    fn find(&self, from: u32, to: u32) -> Option<i64> {
+        let mark = self.marks.get(to as usize)?;
+        if mark.0 == from { Some(self.spokes[mark.1 as usize].1) } else { None }
+    }
 }
 
 fn intersection(g: &Graph, h: &Graph, directed: bool) -> Result<Graph, Refusal> {
@@ -208,42 +271,30 @@ fn intersection(g: &Graph, h: &Graph, directed: bool) -> Result<Graph, Refusal> 
     let end = format!(",0,{})", directed as u8);
     let mut made = begin_as(id_of_two("intersection", &g.id, &h.id, &end), g)?;
     made.arena.reserve(g.arena.arcs.len().min(h.arena.arcs.len()));
-    let n = g.n();
-    // By target, from whom an arc was met last, and the least length or where that stands.
-    let mut mine = vec![(NONE, 0u32); n as usize];
-    let mut theirs = vec![(NONE, 0i64); h.vertices.len()];
-    let mut firsts: Vec<(u32, i64)> = Vec::new();
-    for v in 0..n {
+    let (mut mine, mut theirs) = (Least::new(g.n()), Least::new(h.n()));
+    for v in 0..g.n().min(h.n()) {
         let low = if directed { 0 } else { v };
-        if v >= h.n() {
-            break;
-        }
-        for (_, arc) in h.walk(v, true) {
-            if arc.tip < low {
-                continue;
-            }
-            let mark = &mut theirs[arc.tip as usize];
-            *mark = (v, if mark.0 == v { mark.1.min(arc.len) } else { arc.len });
-        }
-        firsts.clear();
+        mine.spokes.clear();
+        theirs.spokes.clear();
+        let mut in_h = h.walk(v, true);
         for (_, arc) in g.walk(v, true) {
-            if arc.tip < low {
-                continue;
+            if arc.tip >= low {
+                mine.add(v, arc.tip, arc.len);
             }
-            let mark = &mut mine[arc.tip as usize];
-            if mark.0 == v {
-                let first = &mut firsts[mark.1 as usize];
-                first.1 = first.1.min(arc.len);
-            } else {
-                *mark = (v, firsts.len() as u32);
-                firsts.push((arc.tip, arc.len));
+            if let Some((_, arc)) = in_h.next() {
+                if arc.tip >= low {
+                    theirs.add(v, arc.tip, arc.len);
+                }
             }
         }
-        for &(to, len) in &firsts {
-            if let Some(&(from, other)) = theirs.get(to as usize) {
-                if from == v {
-                    made.insert(v, to, len.max(other), directed)?;
-                }
+        for (_, arc) in in_h {
+            if arc.tip >= low {
+                theirs.add(v, arc.tip, arc.len);
+            }
+        }
+        for &(to, len) in &mine.spokes {
+            if let Some(other) = theirs.find(v, to) {
+                made.insert(v, to, len.max(other), directed)?;
             }
         }
     }
@@ -609,6 +660,11 @@ fn revert_lengths(graph: &mut Graph, delta: LengthsDelta) {
     graph.id = delta.id;
 }
 
+// How often each call is timed. Its operands stay, so that a call takes the memory that the one before it gave back: where
+// they go in between, the C library may give all of it back to the system, and the next call's time is then in good part
+// the system's, which clears it.
+const TIMES: u32 = 6;
+
 // Where the edges of a second operand begin.
 const SECOND: u32 = 1_000_003;
 
@@ -748,43 +804,50 @@ fn time_small() {
 
 fn time_union(name: &str, multi: bool, layout: Layout) {
     let [first, second] = [0, SECOND].map(|begin| with_edges(10_000, 24, 3, begin, layout));
-    time(name, || gunion(&first, &second, multi, false));
+    for _ in 0..TIMES {
+        time(name, || gunion(&first, &second, multi, false));
+    }
 }
 
 fn time_intersection(name: &str, layout: Layout) {
     let [first, second] = [0, SECOND].map(|begin| with_edges(1000, 400, 20, begin, layout));
-    time(name, || intersection(&first, &second, false));
+    for _ in 0..TIMES {
+        time(name, || intersection(&first, &second, false));
+    }
 }
 
 fn time_induced(name: &str, layout: Layout) {
     let fated = with_fates(with_edges(1000, 400, 20, 0, layout));
-    time(name, || induced(&fated, "classes", false, false, false));
+    for _ in 0..TIMES {
+        time(name, || induced(&fated, "classes", false, false, false));
+    }
 }
 
 fn time_drawn(draws: &str, reverts: &str, layout: Layout) {
-    time_lengths(draws, reverts, &mut with_edges(1000, 400, 20, 0, layout));
+    let mut dense = with_edges(1000, 400, 20, 0, layout);
+    for _ in 0..TIMES {
+        time_lengths(draws, reverts, &mut dense);
+    }
 }
 
 // The small ones come first, so that they take memory that was taken before: else a good part of their time is the
 // system's, which clears it.
 fn main() {
-    for _ in 0..5 {
+    for _ in 0..TIMES {
         time_next();
         time_small();
     }
-    for _ in 0..5 {
-        time_union("gunion_multi", true, Layout::InOrder);
-        time_union("gunion", false, Layout::InOrder);
-        time_union("gunion_strewn", false, Layout::Strewn);
-        time_union("gunion_far", false, Layout::Scattered);
-        time_intersection("intersection", Layout::InOrder);
-        time_induced("induced", Layout::InOrder);
-        time_drawn("lengths", "revert", Layout::InOrder);
-        time_intersection("intersection_strewn", Layout::Strewn);
-        time_induced("induced_strewn", Layout::Strewn);
-        time_drawn("lengths_strewn", "revert_strewn", Layout::Strewn);
-        time_intersection("intersection_far", Layout::Scattered);
-        time_induced("induced_far", Layout::Scattered);
-        time_drawn("lengths_far", "revert_far", Layout::Scattered);
-    }
+    time_union("gunion_multi", true, Layout::InOrder);
+    time_union("gunion", false, Layout::InOrder);
+    time_union("gunion_strewn", false, Layout::Strewn);
+    time_union("gunion_far", false, Layout::Scattered);
+    time_intersection("intersection", Layout::InOrder);
+    time_induced("induced", Layout::InOrder);
+    time_drawn("lengths", "revert", Layout::InOrder);
+    time_intersection("intersection_strewn", Layout::Strewn);
+    time_induced("induced_strewn", Layout::Strewn);
+    time_drawn("lengths_strewn", "revert_strewn", Layout::Strewn);
+    time_intersection("intersection_far", Layout::Scattered);
+    time_induced("induced_far", Layout::Scattered);
+    time_drawn("lengths_far", "revert_far", Layout::Scattered);
 }

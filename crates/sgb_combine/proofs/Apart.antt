@@ -48,10 +48,10 @@ unfolding lowest
 once-lowest ss = pairs_apart (lowest ss) (apart-fold [] ss tt)
 
 -- ---- the least length
-min_assoc : (a b c : ℤ) → int_min (int_min a b) c ≡ int_min a (int_min b c)
+pub min_assoc : (a b c : ℤ) → int_min (int_min a b) c ≡ int_min a (int_min b c)
 min_assoc a b c = omega (arith, ints, int_min_is a b, int_min_is (int_min a b) c, int_min_is b c, int_min_is a (int_min b c))
 
-min_swap : (a b c : ℤ) → int_min (int_min a b) c ≡ int_min (int_min a c) b
+pub min_swap : (a b c : ℤ) → int_min (int_min a b) c ≡ int_min (int_min a c) b
 min_swap a b c = omega (arith, ints, int_min_is a b, int_min_is (int_min a b) c, int_min_is a c, int_min_is (int_min a c) b)
 
 lesser_none : (k : Option ℤ) → k ≡ lesser k None

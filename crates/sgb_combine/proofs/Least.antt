@@ -5,20 +5,15 @@ use Rattle.std.proofs.lemmas.List.{take_more, get_or_default, set-get_or, get_or
 use Rattle.std.proofs.lemmas.List.Elements.{All-head, All-tail}
 use Rattle.std.proofs.lemmas.List.Sums.{fold-append}
 use Rattle.sgb_operand.specs.declared.spoke.Spoke.{Spoke}
-use Rattle.sgb_combine.specs.Lowest.{lowered, add_or_lower, lowest}
+use Rattle.sgb_combine.specs.Lowest.{lowered, add_or_lower}
 use Rattle.sgb_combine.specs.Private.Targets.{IsMarked}
 
 -- ---- one spoke more
-pub lowest_more : (xs : List Spoke) (i : ℕ) (s d : Spoke) → i < length xs → s ≡ get_or xs i d → lowest (take (i + 1) xs) ≡ add_or_lower (lowest (take i xs)) s
-unfolding lowest
-lowest_more xs i s d h is =
-    ap (fold add_or_lower []) (take_more xs i d h)
-    ∙ (fold-append add_or_lower [] (take i xs) (get_or xs i d ∷ [])
-    ∙ ap (add_or_lower (fold add_or_lower [] (take i xs))) (sym is))
-
-pub lowest_none : lowest [] ≡ []
-unfolding lowest
-lowest_none = refl
+pub added_more : (rs xs : List Spoke) (i : ℕ) (s d : Spoke) → i < length xs → s ≡ get_or xs i d → fold add_or_lower rs (take (i + 1) xs) ≡ add_or_lower (fold add_or_lower rs (take i xs)) s
+added_more rs xs i s d h is =
+    ap (fold add_or_lower rs) (take_more xs i d h)
+    ∙ (fold-append add_or_lower rs (take i xs) (get_or xs i d ∷ [])
+    ∙ ap (add_or_lower (fold add_or_lower rs (take i xs))) (sym is))
 
 -- none leads to the same vertex
 pub added : (ss : List Spoke) (s : Spoke) → All (λ r. r.to ≢ s.to) ss → add_or_lower ss s ≡ ss ++ s ∷ []

@@ -1,10 +1,12 @@
 pub mod Apart
 pub mod Beginning
 pub mod Fewer
+pub mod Folding
 pub mod Joined
 pub mod Joint
 pub mod Least
 pub mod Meeting
+pub mod Meets
 pub mod Named
 pub mod Products
 pub mod Pruning

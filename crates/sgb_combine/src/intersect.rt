@@ -1,21 +1,21 @@
 //! Intersections.
-ghost use Rattle.std.specs.Prelude.{◌≡◌, ◌<◌, All, OnOk, true};
-ghost use Rattle.std.specs.List.{flat_map, filter, range_with_len};
+ghost use Rattle.std.specs.Prelude.{◌≡◌, ◌<◌, length, All};
+ghost use Rattle.std.specs.List.{flat_map, range_with_len};
 ghost use Rattle.sgb_graph.specs.Graph.{n_of};
 ghost use Rattle.sgb_graph.specs.Builder.{Inserts};
-ghost use Rattle.sgb_operand.specs.Operand.{IsWithin, spokes};
+ghost use Rattle.sgb_operand.specs.Operand.{IsWithin};
 ghost use Rattle.sgb_plan.specs.Plan.{IsMade};
-ghost use Rattle.sgb_combine.specs.Combined.{is_upward};
-ghost use Rattle.sgb_combine.specs.Intersection.{longer, joints, intersection_at, plan_of_intersection};
+ghost use Rattle.sgb_combine.specs.Intersection.{firsts, longer, joints, intersection_at, plan_of_intersection};
 
 use crate::begin::{begin_as, room_of};
-use crate::both::{Both, Sought};
+use crate::both::Sought;
 use crate::lowest::Lowest;
+use crate::met::Met;
 use crate::run::insert_spoke;
 use sgb_graph::{Builder, Graph, Refusal, VertexNo};
 use sgb_operand::{Spoke, check_operand};
 use sgb_plan::{Part, id_of_two};
-use std::alloc::{AllocError, Global};
+use std::alloc::Global;
 
 /// The intersection of two graphs: the vertices of the first, and from each one arc or edge to each that it is joined
 /// to in both graphs, in the order of its list in the first. Its length is the larger of the least length in the first
@@ -54,34 +54,24 @@ fn insert_intersections(
     ensures { Inserts builder.old builder.new
         (flat_map (intersection_at directed first.now second.now) (range_with_len 0 (n_of first.now))) result }
 {
-    let mut mine = Lowest::new(alloc, first.n())?;
-    let mut theirs = Lowest::new(alloc, second.n())?;
-    let mut both = Both::new(alloc);
+    let mut met = Met::new(alloc, first.n(), second.n())?;
     for v in 0..first.n() {
         let vertex = VertexNo(v);
-        read_upward(&mut both, first, second, vertex, directed)?;
-        mine.keep(&both.mine);
-        theirs.keep(&both.theirs);
-        insert_joints(builder, vertex, mine.spokes(), &theirs)?;
+        read_upward(&mut met, first, second, vertex, directed);
+        insert_joints(builder, vertex, met.mine.spokes(), &met.theirs)?;
     }
     Ok(())
 }
 
-// Reads the spokes of a vertex, which the second graph may lack, but where edges are made none that leads below it.
-fn read_upward(
-    both: &mut Both,
-    first: &Graph,
-    second: &Graph,
-    vertex: VertexNo,
-    directed: bool,
-) -> Result<(), AllocError>
-    requires { vertex.0 < n_of first.now }
-    ensures mine { OnOk result
-        (both.new.mine.items ≡ filter (is_upward directed vertex.0) (spokes true first.now vertex.0)) }
-    ensures mine_within { OnOk result (All (IsWithin (n_of first.now)) both.new.mine.items) }
-    ensures theirs { OnOk result
-        (both.new.theirs.items ≡ filter (is_upward directed vertex.0) (spokes true second.now vertex.0)) }
-    ensures theirs_within { OnOk result (All (IsWithin (n_of second.now)) both.new.theirs.items) }
+// Reads the lowest spokes of a vertex, which the second graph may lack, but where edges are made none that leads below it.
+fn read_upward(met: &mut Met, first: &Graph, second: &Graph, vertex: VertexNo, directed: bool)
+    requires vertex { vertex.0 < n_of first.now }
+    requires mine { length met.old.mine.places.items ≡ n_of first.now }
+    requires theirs { length met.old.theirs.places.items ≡ n_of second.now }
+    ensures mine { met.new.mine.spokes.items ≡ firsts directed first.now vertex.0 }
+    ensures theirs { met.new.theirs.spokes.items ≡ firsts directed second.now vertex.0 }
+    ensures mine_width { length met.new.mine.places.items ≡ length met.old.mine.places.items }
+    ensures theirs_width { length met.new.theirs.places.items ≡ length met.old.theirs.places.items }
 {
     let sought = Sought {
         vertex,
@@ -95,8 +85,7 @@ fn read_upward(
         directed,
         n: second.n(),
     };
-    both.read(first, second, sought, other)?;
-    Ok(())
+    met.read(first, second, sought, other);
 }
 
 fn insert_joints(

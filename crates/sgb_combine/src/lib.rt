@@ -7,6 +7,7 @@ mod both;
 mod facts;
 mod intersect;
 mod lowest;
+mod met;
 mod multiply;
 mod negate;
 mod pairs;

@@ -19,7 +19,7 @@ pub(crate) struct Lowest {
 }
 
 impl Lowest {
-    ghost use Rattle.std.specs.Prelude.{◌≡◌, ◌<◌, ◌∷◌, ◌++◌, [], length, All, IfOk};
+    ghost use Rattle.std.specs.Prelude.{◌≡◌, ◌<◌, ◌∷◌, ◌++◌, [], length, fold, All, IfOk};
     ghost use Rattle.sgb_operand.specs.Operand.{IsWithin};
     ghost use Rattle.sgb_combine.specs.Lowest.{lowest, add_or_lower};
     ghost use Rattle.sgb_combine.specs.Private.Targets.{StandsAt, found};
@@ -45,13 +45,31 @@ impl Lowest {
         &self.spokes
     }
 
+    // Forgets all that was met.
+    #[inline]
+    pub(crate) fn clear(&mut self)
+        ensures none { self.new.spokes.items ≡ [] }
+        ensures width { length self.new.places.items ≡ length self.old.places.items }
+    {
+        self.spokes.clear();
+    }
+
     // Forgets all that was met, and takes these spokes.
     pub(crate) fn keep(&mut self, spokes: &[Spoke])
         requires { All (IsWithin (length self.old.places.items)) spokes.now }
         ensures spokes { self.new.spokes.items ≡ lowest spokes.now }
         ensures width { length self.new.places.items ≡ length self.old.places.items }
     {
-        self.spokes.clear();
+        self.clear();
+        self.add_all(spokes);
+    }
+
+    // Takes these spokes too.
+    pub(crate) fn add_all(&mut self, spokes: &[Spoke])
+        requires { All (IsWithin (length self.old.places.items)) spokes.now }
+        ensures spokes { self.new.spokes.items ≡ fold add_or_lower self.old.spokes.items spokes.now }
+        ensures width { length self.new.places.items ≡ length self.old.places.items }
+    {
         for spoke in spokes {
             self.add(*spoke);
         }
@@ -100,7 +118,7 @@ impl Lowest {
 
     // A spoke more, or a shorter length of the one to the same vertex.
     #[inline]
-    fn add(&mut self, spoke: Spoke)
+    pub(crate) fn add(&mut self, spoke: Spoke)
         requires { spoke.to < length self.old.places.items }
         ensures spokes { self.new.spokes.items ≡ add_or_lower self.old.spokes.items spoke }
         ensures width { length self.new.places.items ≡ length self.old.places.items }

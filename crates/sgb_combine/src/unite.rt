@@ -1,20 +1,19 @@
 //! Unions.
-ghost use Rattle.std.specs.Prelude.{◌≡◌, ◌<◌, length, map, All, OnOk};
+ghost use Rattle.std.specs.Prelude.{◌≡◌, ◌<◌, length, OnOk};
 ghost use Rattle.std.specs.List.{flat_map, range_with_len};
 ghost use Rattle.sgb_graph.specs.Graph.{n_of};
 ghost use Rattle.sgb_graph.specs.Builder.{Inserts};
-ghost use Rattle.sgb_operand.specs.Operand.{IsWithin};
 ghost use Rattle.sgb_plan.specs.Plan.{IsMade};
-ghost use Rattle.sgb_combine.specs.Combined.{along};
-ghost use Rattle.sgb_combine.specs.Gunion.{candidates, run_of, union_at, plan_of_gunion};
+ghost use Rattle.sgb_combine.specs.Gunion.{candidates, union_at, plan_of_gunion};
+ghost use Rattle.sgb_combine.specs.Lowest.{lowest};
 
 use crate::GunionSpec;
 use crate::begin::{begin_as, room_of};
 use crate::both::{Both, Sought};
-use crate::lowest::Lowest;
+use crate::met::Met;
 use crate::run::insert_spokes;
 use sgb_graph::{Builder, Graph, Refusal, VertexNo};
-use sgb_operand::{Spoke, check_operand};
+use sgb_operand::check_operand;
 use sgb_plan::{Part, id_of_two};
 use std::alloc::{AllocError, Global};
 
@@ -65,13 +64,58 @@ fn insert_unions(
     ensures { Inserts builder.old builder.new
         (flat_map (union_at spec first.now second.now) (range_with_len 0 (n_of first.now))) result }
 {
-    let mut met = Lowest::new(alloc, first.n())?;
+    let mut met = Met::new(alloc, first.n(), first.n())?;
     let mut both = Both::new(alloc);
     for v in 0..first.n() {
-        read_candidates(&mut both, first, second, VertexNo(v), spec.directed)?;
-        insert_union(builder, &mut met, VertexNo(v), &both.mine, spec.multi)?;
+        insert_union(
+            builder,
+            &mut met,
+            &mut both,
+            first,
+            second,
+            VertexNo(v),
+            spec,
+        )?;
     }
     Ok(())
+}
+
+// Inserts along the candidates of a vertex, or along the lowest of them.
+fn insert_union(
+    builder: &mut Builder,
+    met: &mut Met,
+    both: &mut Both,
+    first: &Graph,
+    second: &Graph,
+    vertex: VertexNo,
+    spec: GunionSpec,
+) -> Result<(), Refusal>
+    requires n { n_of builder.old.graph ≡ n_of first.now }
+    requires vertex { vertex.0 < n_of first.now }
+    requires mine { length met.old.mine.places.items ≡ n_of first.now }
+    requires theirs { length met.old.theirs.places.items ≡ n_of first.now }
+    ensures inserts { Inserts builder.old builder.new (union_at spec first.now second.now vertex.0) result }
+    ensures mine { length met.new.mine.places.items ≡ length met.old.mine.places.items }
+    ensures theirs { length met.new.theirs.places.items ≡ length met.old.theirs.places.items }
+{
+    if spec.multi {
+        read_candidates(both, first, second, vertex, spec.directed)?;
+        return insert_spokes(builder, vertex, &both.mine);
+    }
+    read_lowest(met, first, second, vertex, spec.directed);
+    insert_spokes(builder, vertex, met.mine.spokes())
+}
+
+// What is sought of the lists of a vertex.
+fn sought_of(first: &Graph, vertex: VertexNo, directed: bool) -> Sought
+    ensures { result ≡ record { vertex = vertex; halves = directed; directed = directed; n = n_of first.now } }
+{
+    Sought {
+        vertex,
+        halves: directed,
+        directed,
+        n: first.n(),
+    }
 }
 
 // Reads the candidates of a vertex: those of the first graph, and behind them those of the second.
@@ -85,34 +129,22 @@ fn read_candidates(
     requires { vertex.0 < n_of first.now }
     ensures { OnOk result (both.new.mine.items ≡ candidates directed first.now second.now vertex.0) }
 {
-    let sought = Sought {
-        vertex,
-        halves: directed,
-        directed,
-        n: first.n(),
-    };
+    let sought = sought_of(first, vertex, directed);
     both.read(first, second, sought, sought)?;
     both.mine.extend_from_slice(&both.theirs)?;
     Ok(())
 }
 
-// Inserts along the candidates of a vertex, or along the lowest of them.
-fn insert_union(
-    builder: &mut Builder,
-    met: &mut Lowest,
-    vertex: VertexNo,
-    candidates: &[Spoke],
-    multi: bool,
-) -> Result<(), Refusal>
-    requires from { vertex.0 < n_of builder.old.graph }
-    requires to { All (IsWithin (n_of builder.old.graph)) candidates.now }
-    requires width { length met.old.places.items ≡ n_of builder.old.graph }
-    ensures inserts { Inserts builder.old builder.new (map (along vertex.0) (run_of multi candidates.now)) result }
-    ensures width { length met.new.places.items ≡ length met.old.places.items }
+// Reads the lowest of the candidates of a vertex: of each graph by itself, and then of both.
+fn read_lowest(met: &mut Met, first: &Graph, second: &Graph, vertex: VertexNo, directed: bool)
+    requires vertex { vertex.0 < n_of first.now }
+    requires mine { length met.old.mine.places.items ≡ n_of first.now }
+    requires theirs { length met.old.theirs.places.items ≡ n_of first.now }
+    ensures lowest { met.new.mine.spokes.items ≡ lowest (candidates directed first.now second.now vertex.0) }
+    ensures mine { length met.new.mine.places.items ≡ length met.old.mine.places.items }
+    ensures theirs { length met.new.theirs.places.items ≡ length met.old.theirs.places.items }
 {
-    if multi {
-        return insert_spokes(builder, vertex, candidates);
-    }
-    met.keep(candidates);
-    insert_spokes(builder, vertex, met.spokes())
+    let sought = sought_of(first, vertex, directed);
+    met.read(first, second, sought, sought);
+    met.mine.add_all(met.theirs.spokes());
 }

@@ -1,14 +1,21 @@
-use Rattle.std.proofs.Common.{map, subst, ◌∙◌, sym}
+use Rattle.std.proofs.Common.{subst, ◌∙◌}
 use Rattle.sgb_graph.specs.Builder.{Inserts}
-use Rattle.sgb_combine.specs.Combined.{along}
-use Rattle.sgb_combine.specs.Gunion.{run_of}
+use Rattle.sgb_combine.proofs.Reached.{within_as, candidates_within}
+use Rattle.sgb_combine.proofs.Unions.{multi_is, lowest_is}
 use Rattle.sgb_combine.proofs.unite.insert_union.Goals as goal
 
-pub returns-then-multi-clause-inserts : goal.returns-then-multi-clause-inserts
-returns-then-multi-clause-inserts c =
-    subst (λ b. Inserts c.args.builder.now c.insert_spokes.new.builder (map (along c.args.vertex.0) (run_of b c.args.candidates.now)) c.insert_spokes.result) (sym c.if-multi.true) c.insert_spokes.ensures
+pub insert_spokes-requires-clause-to : goal.insert_spokes-requires-clause-to
+insert_spokes-requires-clause-to c =
+    within_as (c.deref.ensures.value ∙ c.in_ok-read_candidates.ensures) c.requires.n (candidates_within c.args.spec.directed c.args.first.now c.args.second.now c.args.vertex.0)
+
+pub returns-then-spec-clause-inserts : goal.returns-then-spec-clause-inserts
+returns-then-spec-clause-inserts c =
+    subst (λ es. Inserts c.args.builder.now c.insert_spokes.new.builder es c.insert_spokes.result)
+    (multi_is c.args.spec c.args.first.now c.args.second.now c.args.vertex.0 _ c.if-spec.true (c.deref.ensures.value ∙ c.in_ok-read_candidates.ensures))
+    c.insert_spokes.ensures
 
 pub returns-clause-inserts : goal.returns-clause-inserts
 returns-clause-inserts c =
-    subst (λ b. Inserts c.args.builder.now c.insert_spokes-2.new.builder (map (along c.args.vertex.0) (run_of b c.args.candidates.now)) c.insert_spokes-2.result) (sym c.if-multi.false)
-    (subst (λ ss. Inserts c.args.builder.now c.insert_spokes-2.new.builder (map (along c.args.vertex.0) ss) c.insert_spokes-2.result) (c.spokes.ensures ∙ c.keep.ensures.spokes) c.insert_spokes-2.ensures)
+    subst (λ es. Inserts c.args.builder.now c.insert_spokes-2.new.builder es c.insert_spokes-2.result)
+    (lowest_is c.args.spec c.args.first.now c.args.second.now c.args.vertex.0 _ c.if-spec.false (c.spokes.ensures ∙ c.read_lowest.ensures.lowest))
+    c.insert_spokes-2.ensures

@@ -1,0 +1,15 @@
+use Rattle.std.proofs.Common.{All, IsSome, subst}
+use Rattle.std.proofs.lemmas.List.Elements.{All-tail}
+use Rattle.sgb_graph.specs.Graph.{arc_at}
+use Rattle.sgb_combine.specs.Gunion.{is_candidate}
+use Rattle.sgb_combine.proofs.Meets.{next_met}
+use Rattle.sgb_combine.proofs.met.meet_next.Goals as goal
+
+pub returns-clause-spokes : goal.returns-clause-spokes
+returns-clause-spokes c =
+    let s = c.args.sought in
+    next_met c.args.graph.now (is_candidate s.directed s.n s.vertex.0) _ _ _ _ _ c.in-Some.ensures.steps c.meet.ensures.spokes
+
+pub returns-clause-live : goal.returns-clause-live
+returns-clause-live c =
+    All-tail (λ k. IsSome (arc_at c.args.graph.now k)) _ _ (subst (All (λ k. IsSome (arc_at c.args.graph.now k))) c.in-Some.ensures.steps c.requires.live)
