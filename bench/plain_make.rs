@@ -786,6 +786,9 @@ impl Trees {
 
 // Random graphs.
 
+// So many places are looked at together.
+const NEAR: usize = 4;
+
 // The pairs that are joined, each as one number, by open addressing.
 struct Pairs {
     keys: Vec<u32>,
@@ -802,17 +805,33 @@ impl Pairs {
     fn insert(&mut self, key: u32) -> (usize, bool) {
         let mixed = key.wrapping_mul(FACTOR as u32);
         let first = (u64::from(mixed) * self.keys.len() as u64 >> 32) as usize;
-        let found = self.find(first, key).or_else(|| self.find(0, key));
-        let place = found.expect("a third stays free");
+        let place = self.find_near(first, key).unwrap_or_else(|| self.find_far(first, key));
         let is_new = self.keys[place] == NONE;
         self.keys[place] = key;
         (place, is_new)
     }
 
+    // The first of the next few places that is free or has this. All are looked at, since no jump then depends on what
+    // stands there: the processor would often guess it wrong.
     #[inline]
-    fn find(&self, first: usize, key: u32) -> Option<usize> {
-        (first..self.keys.len()).find(|place| self.keys[*place] == NONE || self.keys[*place] == key)
+    fn find_near(&self, first: usize, key: u32) -> Option<usize> {
+        let near = self.keys.get(first..)?.first_chunk::<NEAR>()?;
+        let places = near.iter().enumerate();
+        let found = places.fold(NEAR, |found, (i, held)| found.min(if takes(*held, key) { i } else { NEAR }));
+        if found < NEAR { Some(first + found) } else { None }
     }
+
+    // The same, by looking at one place after the other, over the end to the front if need be.
+    #[inline(never)]
+    fn find_far(&self, first: usize, key: u32) -> usize {
+        let mut places = (first..self.keys.len()).chain(0..first);
+        places.find(|place| takes(self.keys[*place], key)).expect("a third stays free")
+    }
+}
+
+#[inline]
+fn takes(held: u32, key: u32) -> bool {
+    held == NONE || held == key
 }
 
 #[derive(Clone, Copy)]

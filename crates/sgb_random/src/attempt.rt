@@ -49,10 +49,9 @@ pub(crate) fn attempt(
     ensures few_draws { progress.new.draws ≤ progress.old.draws + 5442 }
     ensures generator { IsGenerator flip.new }
 {
-    let from = ends.draw(flip);
-    let to = ends.draw(flip);
-    progress.draws += from.draws as u64 + to.draws as u64;
-    try_pair(flip, spec, range, progress, from.value, to.value)
+    let from = ends.draw(flip, &mut progress.draws);
+    let to = ends.draw(flip, &mut progress.draws);
+    try_pair(flip, spec, range, progress, from, to)
 }
 
 // Tries to join two vertices.

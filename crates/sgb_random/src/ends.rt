@@ -2,7 +2,7 @@
 ghost use Rattle.std.specs.Prelude.{◌≡◌, ◌≤◌, ◌<◌, ◌+◌, ◌*◌, ◌%◌, ◌^◌};
 ghost use Rattle.sgb_flip.specs.Generator.{IsGenerator, after, limit, uniform};
 
-use sgb_flip::{Drawn, Flip};
+use sgb_flip::Flip;
 
 // The vertices from 0 on, of which one is drawn, and the greatest multiple of their number up to 2^31: a number that is
 // not below it is drawn anew. The inverse is the next number above 2^63 by their number.
@@ -42,27 +42,28 @@ impl Ends {
         number - quotient * self.n
     }
 
-    // Draws a vertex as `Flip::uniform` does. Nearly always the first number serves.
+    // Draws a vertex as `Flip::uniform` does, and counts the draws. Nearly always the first number serves.
     #[inline]
-    pub(crate) fn draw(&self, flip: &mut Flip) -> Drawn
-        ensures value { result.value ≡ (uniform flip.old self.now.n).value }
-        ensures draws { result.draws ≡ (uniform flip.old self.now.n).draws }
+    pub(crate) fn draw(&self, flip: &mut Flip, draws: &mut u64) -> u32
+        requires { draws.old < 2 ^ 41 }
+        ensures value { result ≡ (uniform flip.old self.now.n).value }
+        ensures draws { draws.new ≡ draws.old + (uniform flip.old self.now.n).draws }
         ensures rest { flip.new ≡ (uniform flip.old self.now.n).rest }
-        ensures after { flip.new ≡ after flip.old result.draws }
-        ensures few { result.draws ≤ 1814 }
-        ensures below { result.value < self.now.n }
+        ensures after { flip.new ≡ after flip.old (uniform flip.old self.now.n).draws }
+        ensures few { (uniform flip.old self.now.n).draws ≤ 1814 }
+        ensures below { result < self.now.n }
         ensures generator { IsGenerator flip.new }
     {
         // It tells that the generator is one.
         let _ = flip.unread();
         let number = flip.next();
         if number < self.end {
-            return Drawn {
-                value: self.reduce(number),
-                draws: 1,
-            };
+            *draws += 1;
+            return self.reduce(number);
         }
         flip.back();
-        flip.uniform(self.n)
+        let drawn = flip.uniform(self.n);
+        *draws += drawn.draws as u64;
+        drawn.value
     }
 }

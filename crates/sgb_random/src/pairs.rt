@@ -18,6 +18,9 @@ use std::marker::Model;
 // A number is multiplied by this, so that numbers that are close to each other are looked for far apart.
 const FACTOR: u32 = 0x9e37_79b1;
 
+// So many places are looked at together.
+const NEAR: usize = 4;
+
 // The numbers of the pairs, each at the first free place from the one where it is looked for first. A free place has 0,
 // and a number stands there as the next one. A number that stands in the table stays where it is.
 #[derive(Drop)]
@@ -74,6 +77,21 @@ fn place_of(slots: &[u32], key: u32) -> usize
     requires room { HasRoom slots.now }
     ensures { IsPlaceOf slots.now key result }
 {
+    let first = first_place(slots.len(), key);
+    match find_near(slots, first, key + 1) {
+        Some(place) => place,
+        None => far_place(slots, key),
+    }
+}
+
+// The same, by looking at one place after the other, over the end to the front if need be.
+#[inline(never)]
+fn far_place(slots: &[u32], key: u32) -> usize
+    requires key { key + 1 < 2 ^ 32 }
+    requires table { IsTable slots.now }
+    requires room { HasRoom slots.now }
+    ensures { IsPlaceOf slots.now key result }
+{
     if let Some(place) = find(slots, first_place(slots.len(), key), key + 1) {
         return place;
     }
@@ -105,4 +123,27 @@ fn find(slots: &[u32], first: usize, slot: u32) -> Option<usize>
         }
     }
     None
+}
+
+// The first of the next few places that is free or has this. All are looked at, since no jump then depends on what stands
+// there: the processor would often guess it wrong.
+#[inline]
+fn find_near(slots: &[u32], first: usize, slot: u32) -> Option<usize>
+    ensures { IfSome result (λ place. IsFirstOf slots.now slot first place) }
+{
+    let end = first.saturating_add(NEAR);
+    if end > slots.len() {
+        return None;
+    }
+    let mut found = end;
+    for place in first..end {
+        let held = slots[place];
+        let at = if held == slot || held == 0 {
+            place
+        } else {
+            end
+        };
+        found = found.min(at);
+    }
+    if found < end { Some(found) } else { None }
 }

@@ -1,8 +1,8 @@
 //! New arcs and edges.
-ghost use Rattle.std.specs.Prelude.{◌≡◌, ◌⊎◌, ◌∷◌, ◌++◌, ◌+◌, ◌-◌, ◌<◌, ◌≤◌, [], length, vec_len, vec_capacity, IfOk, IfErr, OnOk, OnErr, None, Some, true};
+ghost use Rattle.std.specs.Prelude.{◌≡◌, ◌⊎◌, ◌∷◌, ◌++◌, ◌+◌, ◌-◌, ◌<◌, ◌≤◌, ◌&&◌, [], length, vec_len, vec_capacity, IfOk, IfErr, OnOk, OnErr, None, Some, true};
 ghost use Rattle.std.specs.Result.{IsErrOf};
 ghost use Rattle.sgb_graph.specs.Builder.{row, with_all};
-ghost use Rattle.sgb_graph.specs.Graph.{IsGraph, n_of, made_of};
+ghost use Rattle.sgb_graph.specs.Graph.{IsGraph, has_vertex, n_of, made_of};
 ghost use Rattle.sgb_graph.specs.Edit.{with_arc, with_edge, refusal_of_arc, refusal_of_edge};
 ghost use Rattle.sgb_graph.specs.Delta.{LeftBy};
 ghost use Rattle.sgb_graph.specs.Field.{arc_no};
@@ -33,6 +33,9 @@ impl Graph {
         ensures unchanged { OnErr result (self.new ≡ self.old) }
         ensures sound { IsGraph self.new }
     {
+        if !self.has_both(from, to) {
+            return Err(Refusal::BadOperand);
+        }
         let number = self.add_arc(from, to, len)?;
         Ok((number, GraphDelta::NewArc(number)))
     }
@@ -59,11 +62,23 @@ impl Graph {
         ensures unchanged { OnErr result (self.new ≡ self.old) }
         ensures sound { IsGraph self.new }
     {
+        if !self.has_both(from, to) {
+            return Err(Refusal::BadOperand);
+        }
         let number = self.add_edge(from, to, len)?;
         Ok((number, GraphDelta::NewEdge(number)))
     }
 
-    // What `new_arc` does. Answers the number alone.
+    // Whether there are both vertices.
+    #[inline]
+    fn has_both(&self, from: VertexNo, to: VertexNo) -> bool
+        ensures value { result ≡ (has_vertex self.now from.0 && has_vertex self.now to.0) }
+        ensures sound { IsGraph self.now }
+    {
+        from.0 < self.n() && to.0 < self.n()
+    }
+
+    // What `new_arc` does where there are both vertices. Answers the number alone.
     #[inline(always)]
     pub(crate) fn add_arc(
         &mut self,
@@ -71,6 +86,8 @@ impl Graph {
         to: VertexNo,
         len: i64,
     ) -> Result<ArcNo, Refusal>
+        requires from { from.0 < n_of self.old }
+        requires to { to.0 < n_of self.old }
         ensures accepted { OnOk result (refusal_of_arc self.old from.0 to.0 ≡ None) }
         ensures number { IfOk result (λ k. k ≡ arc_no (made_of self.old)) }
         ensures graph { OnOk result (self.new ≡ with_arc self.old from.0 to.0 len) }
@@ -80,9 +97,7 @@ impl Graph {
         ensures unchanged { OnErr result (self.new ≡ self.old) }
         ensures sound { IsGraph self.new }
     {
-        if from.0 >= self.n() || to.0 >= self.n() {
-            return Err(Refusal::BadOperand);
-        }
+        let _ = self.n();
         if self.made() >= MOST_ARCS {
             return Err(Refusal::TooLarge);
         }
@@ -94,7 +109,7 @@ impl Graph {
         Ok(number)
     }
 
-    // What `new_edge` does. Answers the first number alone.
+    // What `new_edge` does where there are both vertices. Answers the first number alone.
     #[inline(always)]
     pub(crate) fn add_edge(
         &mut self,
@@ -102,6 +117,8 @@ impl Graph {
         to: VertexNo,
         len: i64,
     ) -> Result<ArcNo, Refusal>
+        requires from { from.0 < n_of self.old }
+        requires to { to.0 < n_of self.old }
         ensures accepted { OnOk result (refusal_of_edge self.old from.0 to.0 ≡ None) }
         ensures number { IfOk result (λ k. k ≡ arc_no (made_of self.old)) }
         ensures graph { OnOk result (self.new ≡ with_edge self.old from.0 to.0 len) }
@@ -111,9 +128,7 @@ impl Graph {
         ensures unchanged { OnErr result (self.new ≡ self.old) }
         ensures sound { IsGraph self.new }
     {
-        if from.0 >= self.n() || to.0 >= self.n() {
-            return Err(Refusal::BadOperand);
-        }
+        let _ = self.n();
         if self.made() + 2 > MOST_ARCS {
             return Err(Refusal::TooLarge);
         }
