@@ -1,10 +1,10 @@
 //! The session: what the commands change.
-ghost use Rattle.std.specs.Prelude.{◌≡◌, ◌<◌, ◌≤◌, ◌⊎◌, length, true, IfOk, IfErr, OnErr};
+ghost use Rattle.std.specs.Prelude.{◌≡◌, ◌<◌, ◌≤◌, ◌⊎◌, length, true, IfOk, IfErr, OnOk, OnErr};
 ghost use Rattle.sgb_undo.specs.Outcome.{Accepted, Refused};
 ghost use Rattle.sgb_script.specs.declared.command.Command.TheVariants as commands;
 ghost use Rattle.sgb_session.specs.Drawing.{drawn_from, generator_of};
 ghost use Rattle.sgb_session.specs.Edits.{refusal_from};
-ghost use Rattle.sgb_session.specs.Private.Making.{Judges, Performs};
+ghost use Rattle.sgb_session.specs.Private.Making.{Judges, Performs, with_delta};
 ghost use Rattle.sgb_session.specs.State.{is_spent};
 
 use crate::making::{find_operands, goes_on, make_boxed};
@@ -45,7 +45,8 @@ impl Model for Session {
 }
 
 impl Session {
-    ghost use Rattle.sgb_session.specs.State.{empty};
+    ghost use Rattle.sgb_session.specs.State.{empty, step, before, can_revert, takes_memory, may_want};
+    ghost use Rattle.sgb_script.specs.Refusal.{is_no_room};
     ghost use Rattle.sgb_session.specs.Table.{find, entry_in, graph_in};
 
     /// The empty session: the generator is that of seed 0, and there are no graphs. It takes no memory.
@@ -101,21 +102,50 @@ impl Session {
         self.table.find(name)
     }
 
+    /// Performs a command as [`Reversible::apply`] does, and writes its delta where another stood. Where the command is
+    /// refused, what stands there tells nothing.
+    pub fn apply_at(&mut self, command: &Command, delta: &mut Delta) -> Result<Reply, ShellRefusal>
+        ensures accepted { IfOk result (λ reply. step self.old command.now ≡ Accepted self.new delta.new reply) }
+        ensures can_revert { OnOk result (can_revert self.new delta.new) }
+        ensures before { OnOk result (before self.new delta.new ≡ self.old) }
+        ensures refused { IfErr result (λ r.
+            ((is_no_room r ≡ true) × (may_want self.old command.now ≡ true)) ⊎ (step self.old command.now ≡ Refused r)) }
+        ensures err { OnErr result (self.new ≡ self.old) }
+        ensures memory { IfErr result (λ r. (takes_memory command.now ≡ true) ⊎ (step self.old command.now ≡ Refused r)) }
+    {
+        match command {
+            Command::Seed(seed) => {
+                let before = Past::of(&self.generator);
+                keep(&mut self.marks, &self.generator);
+                self.generator = Mark::new(*seed);
+                *delta = Delta::Seed(before);
+                Ok(Reply::Done)
+            }
+            Command::Next => self.draw(delta),
+            Command::Unif(bound) => self.draw_below(*bound, delta),
+            Command::Make(name, maker) => self.make(*name, maker, delta),
+            Command::Edit(name, edit) => self.edit(name, edit, delta),
+            Command::Lengths(name, spec, seed) => self.lengthen(name, spec, *seed, delta),
+            Command::Drop(name) => self.drop_graph(name, delta),
+        }
+    }
+
     // Draws one number.
-    fn draw(&mut self) -> Result<(Delta, Reply), ShellRefusal>
-        ensures { Performs self.old self.new commands.Next result }
+    fn draw(&mut self, delta: &mut Delta) -> Result<Reply, ShellRefusal>
+        ensures { Performs self.old self.new commands.Next (with_delta delta.new result) }
     {
         if self.generator.draws() >= MOST_DRAWS {
             return Err(ShellRefusal::TooLarge);
         }
         let number = self.generator.next();
-        Ok((Delta::Draws(1), Reply::Number(number)))
+        *delta = Delta::Draws(1);
+        Ok(Reply::Number(number))
     }
 
     // Draws a uniform number.
     #[inline(never)]
-    fn draw_below(&mut self, bound: i64) -> Result<(Delta, Reply), ShellRefusal>
-        ensures { Performs self.old self.new (commands.Unif bound) result }
+    fn draw_below(&mut self, bound: i64, delta: &mut Delta) -> Result<Reply, ShellRefusal>
+        ensures { Performs self.old self.new (commands.Unif bound) (with_delta delta.new result) }
     {
         if self.generator.draws() >= MOST_DRAWS {
             return Err(ShellRefusal::TooLarge);
@@ -124,16 +154,14 @@ impl Session {
             return Err(ShellRefusal::BadSpecs);
         }
         let drawn = self.generator.uniform(bound as u32);
-        Ok((
-            Delta::Draws(u64::from(drawn.draws)),
-            Reply::Number(drawn.value),
-        ))
+        *delta = Delta::Draws(u64::from(drawn.draws));
+        Ok(Reply::Number(drawn.value))
     }
 
     // Makes a graph, which then stands last.
     #[inline(never)]
-    fn make(&mut self, name: Name, maker: &Maker) -> Result<(Delta, Reply), ShellRefusal>
-        ensures { Performs self.old self.new (commands.Make name maker.now) result }
+    fn make(&mut self, name: Name, maker: &Maker, delta: &mut Delta) -> Result<Reply, ShellRefusal>
+        ensures { Performs self.old self.new (commands.Make name maker.now) (with_delta delta.new result) }
     {
         let operands = self.judge(&name, maker)?;
         match make_boxed(
@@ -143,11 +171,12 @@ impl Session {
             operands,
             maker,
         ) {
-            Ok((boxed, delta)) => {
+            Ok((boxed, kept)) => {
                 let graph = boxed.get();
                 let reply = Reply::Made(name, graph.n(), graph.m());
                 self.table.push(name, boxed);
-                Ok((delta, reply))
+                *delta = kept;
+                Ok(reply)
             }
             Err(refusal) => Err(refusal_of(refusal)),
         }
@@ -174,14 +203,17 @@ impl Session {
 
     // Edits the graph of this name.
     #[inline(never)]
-    fn edit(&mut self, name: &Name, edit: &Edit) -> Result<(Delta, Reply), ShellRefusal>
-        ensures { Performs self.old self.new (commands.Edit name.now edit.now) result }
+    fn edit(&mut self, name: &Name, edit: &Edit, delta: &mut Delta) -> Result<Reply, ShellRefusal>
+        ensures { Performs self.old self.new (commands.Edit name.now edit.now) (with_delta delta.new result) }
     {
         let Some(place) = self.table.find(name) else {
             return Err(ShellRefusal::NoGraph);
         };
         match self.table.edit(self.alloc, place, edit) {
-            Ok((delta, reply)) => Ok((Delta::Edit(place, delta), reply)),
+            Ok((kept, reply)) => {
+                *delta = Delta::Edit(place, kept);
+                Ok(reply)
+            }
             Err(refusal) => Err(refusal_of(refusal)),
         }
     }
@@ -193,8 +225,9 @@ impl Session {
         name: &Name,
         spec: &LengthsSpec,
         seed: Seed,
-    ) -> Result<(Delta, Reply), ShellRefusal>
-        ensures { Performs self.old self.new (commands.Lengths name.now spec.now seed) result }
+        delta: &mut Delta,
+    ) -> Result<Reply, ShellRefusal>
+        ensures { Performs self.old self.new (commands.Lengths name.now spec.now seed) (with_delta delta.new result) }
     {
         let Some(place) = self.table.find(name) else {
             return Err(ShellRefusal::NoGraph);
@@ -206,21 +239,25 @@ impl Session {
             .table
             .lengthen(self.alloc, place, &mut self.generator, spec, seed)
         {
-            Ok((delta, source)) => Ok((Delta::Lengths(place, delta, source), Reply::Done)),
+            Ok((kept, source)) => {
+                *delta = Delta::Lengths(place, kept, source);
+                Ok(Reply::Done)
+            }
             Err(refusal) => Err(refusal_of(refusal)),
         }
     }
 
     // Takes the graph of this name out of the table.
     #[inline(never)]
-    fn drop_graph(&mut self, name: &Name) -> Result<(Delta, Reply), ShellRefusal>
-        ensures { Performs self.old self.new (commands.Drop name.now) result }
+    fn drop_graph(&mut self, name: &Name, delta: &mut Delta) -> Result<Reply, ShellRefusal>
+        ensures { Performs self.old self.new (commands.Drop name.now) (with_delta delta.new result) }
     {
         let Some(place) = self.table.find(name) else {
             return Err(ShellRefusal::NoGraph);
         };
         let entry = self.table.remove(place);
-        Ok((Delta::Dropped(place, entry.name, entry.graph), Reply::Done))
+        *delta = Delta::Dropped(place, entry.name, entry.graph);
+        Ok(Reply::Done)
     }
 }
 
@@ -283,20 +320,9 @@ impl Reversible for Session {
         ensures err { OnErr result (self.new ≡ self.old) }
         ensures memory { IfErr result (λ r. (takes_memory command.now ≡ true) ⊎ (step self.old command.now ≡ Refused r)) }
     {
-        match command {
-            Command::Seed(seed) => {
-                let before = Past::of(&self.generator);
-                keep(&mut self.marks, &self.generator);
-                self.generator = Mark::new(*seed);
-                Ok((Delta::Seed(before), Reply::Done))
-            }
-            Command::Next => self.draw(),
-            Command::Unif(bound) => self.draw_below(*bound),
-            Command::Make(name, maker) => self.make(*name, maker),
-            Command::Edit(name, edit) => self.edit(name, edit),
-            Command::Lengths(name, spec, seed) => self.lengthen(name, spec, *seed),
-            Command::Drop(name) => self.drop_graph(name),
-        }
+        let mut delta = Delta::Made;
+        let reply = self.apply_at(command, &mut delta)?;
+        Ok((delta, reply))
     }
 
     #[inline(always)]

@@ -104,3 +104,8 @@ with_made (Err r) = Err r
 abbrev pub Performs : State → State → Command → Result (Delta × Reply) ShellRefusal → Type 0
 Performs old new c (Ok a) = (step old c ≡ Accepted new a.0 a.1) × can_revert new a.0 × (before new a.0 ≡ old)
 Performs old new c (Err r) = (new ≡ old) × (((r ≡ NoRoom) × (may_want old c ≡ true)) ⊎ (step old c ≡ Refused r))
+
+-- what a command answered, with the delta that it left
+abbrev pub with_delta : Delta → Result Reply ShellRefusal → Result (Delta × Reply) ShellRefusal
+with_delta d (Ok r) = Ok (d, r)
+with_delta d (Err r) = Err r

@@ -1,10 +1,11 @@
 use Rattle.std.proofs.Common.{ap, ◌∙◌, subst, sym, ◌≡◌, ◌<◌, Some, Err, length}
 use Rattle.sgb_script.specs.declared.command.Command.TheVariants as commands
+use Rattle.sgb_session.specs.declared.reply.Delta.TheVariants as kept
 use Rattle.sgb_session.specs.Table.{find}
 use Rattle.sgb_session.proofs.Sessions.{state, find_within, edit_done, edit_refused}
 use Rattle.sgb_session.proofs.session.Session.edit.Goals as goal
 use Rattle.sgb_session.proofs.session.Session.edit.Goals.{in-Ok, in-Err}
-use Rattle.sgb_session.specs.Private.Making.{Performs, AtPlace, Edits}
+use Rattle.sgb_session.specs.Private.Making.{Performs, AtPlace, Edits, with_delta}
 
 pub returns : goal.returns
 returns c =
@@ -17,10 +18,11 @@ returns c =
     let at : find t name ≡ Some i = sym c.find.ensures ∙ c.in-Some.is in
     let within : i < length t = find_within t name i at in
     let made : AtPlace (Edits e c.edit.result) t u i = c.edit.ensures in
-    subst (λ s. Performs s (state d u) (commands.Edit name e) c.match-edit.result) c.self.view_is
+    subst (λ s. Performs s (state d u) (commands.Edit name e) (with_delta c.match-edit.delta c.match-edit.result)) c.self.view_is
     (elim c.match-edit.branch [
-      | in-Ok w ↦ subst (Performs (state d t) (state d u) (commands.Edit name e)) (sym w.result-is)
-          (edit_done d t u name e i _ at within (subst (λ r. AtPlace (Edits e r) t u i) w.in-Ok.is made))
-      | in-Err w ↦ subst (Performs (state d t) (state d u) (commands.Edit name e)) (sym (w.result-is ∙ ap Err w.refusal_of.ensures))
+      | in-Ok w ↦ subst (λ k. Performs (state d t) (state d u) (commands.Edit name e) (with_delta k c.match-edit.result)) (sym w.delta-is)
+          (subst (λ r. Performs (state d t) (state d u) (commands.Edit name e) (with_delta (kept.Edit i w.in-Ok.kept) r)) (sym w.result-is)
+          (edit_done d t u name e i _ at within (subst (λ r. AtPlace (Edits e r) t u i) w.in-Ok.is made)))
+      | in-Err w ↦ subst (λ r. Performs (state d t) (state d u) (commands.Edit name e) (with_delta c.match-edit.delta r)) (sym (w.result-is ∙ ap Err w.refusal_of.ensures))
           (edit_refused d t u name e i _ at (subst (λ r. AtPlace (Edits e r) t u i) w.in-Err.is made))
     ])
