@@ -6,7 +6,7 @@ ghost use Rattle.sgb_script.specs.Refusal.{is_no_room};
 
 use crate::grouped::{GroupedCommand, GroupedDelta, GroupedReply};
 use sgb_script::ShellRefusal;
-use sgb_session::{Delta, Session};
+use sgb_session::{Delta, Reply, Session};
 use sgb_undo::{GroupRefusal, Reversible, apply_all, revert_all};
 use std::alloc::{AllocError, Global};
 use std::marker::Model;
@@ -110,7 +110,8 @@ impl Reversible for GroupedSession {
         match command {
             GroupedCommand::One(one) => {
                 let mut delta = Delta::Made;
-                let reply = self.session.apply_at(one, &mut delta)?;
+                let mut reply = Reply::Done;
+                self.session.apply_at(one, &mut delta, &mut reply)?;
                 deltas.push_reserved(GroupedDelta::One(delta));
                 Ok(GroupedReply::One(reply))
             }

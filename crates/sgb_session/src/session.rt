@@ -4,7 +4,7 @@ ghost use Rattle.sgb_undo.specs.Outcome.{Accepted, Refused};
 ghost use Rattle.sgb_script.specs.declared.command.Command.TheVariants as commands;
 ghost use Rattle.sgb_session.specs.Drawing.{drawn_from, generator_of};
 ghost use Rattle.sgb_session.specs.Edits.{refusal_from};
-ghost use Rattle.sgb_session.specs.Private.Making.{Judges, Performs, with_delta};
+ghost use Rattle.sgb_session.specs.Private.Making.{Judges, Performs, told};
 ghost use Rattle.sgb_session.specs.State.{is_spent};
 
 use crate::making::{find_operands, goes_on, make_boxed};
@@ -13,7 +13,7 @@ use crate::past::{Past, keep, take_back};
 use crate::reply::{Delta, Reply};
 use crate::table::{MOST_GRAPHS, Table};
 use sgb_combine::LengthsSpec;
-use sgb_graph::{Graph, Refusal};
+use sgb_graph::{ArcNo, Graph, GraphDelta, Refusal};
 use sgb_make::Seed;
 use sgb_script::{Command, Edit, Maker, Name, ShellRefusal};
 use sgb_undo::Reversible;
@@ -102,10 +102,16 @@ impl Session {
         self.table.find(name)
     }
 
-    /// Performs a command as [`Reversible::apply`] does, and writes its delta where another stood. Where the command is
-    /// refused, what stands there tells nothing.
-    pub fn apply_at(&mut self, command: &Command, delta: &mut Delta) -> Result<Reply, ShellRefusal>
-        ensures accepted { IfOk result (λ reply. step self.old command.now ≡ Accepted self.new delta.new reply) }
+    /// Performs a command as [`Reversible::apply`] does, and writes its delta and its reply where others stood. Where the
+    /// command is refused, what stands there tells nothing.
+    // Both are large: so they are written once, and not handed up from call to call.
+    pub fn apply_at(
+        &mut self,
+        command: &Command,
+        delta: &mut Delta,
+        reply: &mut Reply,
+    ) -> Result<(), ShellRefusal>
+        ensures accepted { OnOk result (step self.old command.now ≡ Accepted self.new delta.new reply.new) }
         ensures can_revert { OnOk result (can_revert self.new delta.new) }
         ensures before { OnOk result (before self.new delta.new ≡ self.old) }
         ensures refused { IfErr result (λ r.
@@ -119,33 +125,40 @@ impl Session {
                 keep(&mut self.marks, &self.generator);
                 self.generator = Mark::new(*seed);
                 *delta = Delta::Seed(before);
-                Ok(Reply::Done)
+                *reply = Reply::Done;
+                Ok(())
             }
-            Command::Next => self.draw(delta),
-            Command::Unif(bound) => self.draw_below(*bound, delta),
-            Command::Make(name, maker) => self.make(*name, maker, delta),
-            Command::Edit(name, edit) => self.edit(name, edit, delta),
-            Command::Lengths(name, spec, seed) => self.lengthen(name, spec, *seed, delta),
-            Command::Drop(name) => self.drop_graph(name, delta),
+            Command::Next => self.draw(delta, reply),
+            Command::Unif(bound) => self.draw_below(*bound, delta, reply),
+            Command::Make(name, maker) => self.make(*name, maker, delta, reply),
+            Command::Edit(name, edit) => self.edit(name, edit, delta, reply),
+            Command::Lengths(name, spec, seed) => self.lengthen(name, spec, *seed, delta, reply),
+            Command::Drop(name) => self.drop_graph(name, delta, reply),
         }
     }
 
     // Draws one number.
-    fn draw(&mut self, delta: &mut Delta) -> Result<Reply, ShellRefusal>
-        ensures { Performs self.old self.new commands.Next (with_delta delta.new result) }
+    fn draw(&mut self, delta: &mut Delta, reply: &mut Reply) -> Result<(), ShellRefusal>
+        ensures { Performs self.old self.new commands.Next (told delta.new reply.new result) }
     {
         if self.generator.draws() >= MOST_DRAWS {
             return Err(ShellRefusal::TooLarge);
         }
         let number = self.generator.next();
         *delta = Delta::Draws(1);
-        Ok(Reply::Number(number))
+        *reply = Reply::Number(number);
+        Ok(())
     }
 
     // Draws a uniform number.
     #[inline(never)]
-    fn draw_below(&mut self, bound: i64, delta: &mut Delta) -> Result<Reply, ShellRefusal>
-        ensures { Performs self.old self.new (commands.Unif bound) (with_delta delta.new result) }
+    fn draw_below(
+        &mut self,
+        bound: i64,
+        delta: &mut Delta,
+        reply: &mut Reply,
+    ) -> Result<(), ShellRefusal>
+        ensures { Performs self.old self.new (commands.Unif bound) (told delta.new reply.new result) }
     {
         if self.generator.draws() >= MOST_DRAWS {
             return Err(ShellRefusal::TooLarge);
@@ -155,13 +168,20 @@ impl Session {
         }
         let drawn = self.generator.uniform(bound as u32);
         *delta = Delta::Draws(u64::from(drawn.draws));
-        Ok(Reply::Number(drawn.value))
+        *reply = Reply::Number(drawn.value);
+        Ok(())
     }
 
     // Makes a graph, which then stands last.
     #[inline(never)]
-    fn make(&mut self, name: Name, maker: &Maker, delta: &mut Delta) -> Result<Reply, ShellRefusal>
-        ensures { Performs self.old self.new (commands.Make name maker.now) (with_delta delta.new result) }
+    fn make(
+        &mut self,
+        name: Name,
+        maker: &Maker,
+        delta: &mut Delta,
+        reply: &mut Reply,
+    ) -> Result<(), ShellRefusal>
+        ensures { Performs self.old self.new (commands.Make name maker.now) (told delta.new reply.new result) }
     {
         let operands = self.judge(&name, maker)?;
         match make_boxed(
@@ -173,10 +193,10 @@ impl Session {
         ) {
             Ok((boxed, kept)) => {
                 let graph = boxed.get();
-                let reply = Reply::Made(name, graph.n(), graph.m());
+                *reply = Reply::Made(name, graph.n(), graph.m());
                 self.table.push(name, boxed);
                 *delta = kept;
-                Ok(reply)
+                Ok(())
             }
             Err(refusal) => Err(refusal_of(refusal)),
         }
@@ -203,17 +223,23 @@ impl Session {
 
     // Edits the graph of this name.
     #[inline(never)]
-    fn edit(&mut self, name: &Name, edit: &Edit, delta: &mut Delta) -> Result<Reply, ShellRefusal>
-        ensures { Performs self.old self.new (commands.Edit name.now edit.now) (with_delta delta.new result) }
+    fn edit(
+        &mut self,
+        name: &Name,
+        edit: &Edit,
+        delta: &mut Delta,
+        reply: &mut Reply,
+    ) -> Result<(), ShellRefusal>
+        ensures { Performs self.old self.new (commands.Edit name.now edit.now) (told delta.new reply.new result) }
     {
         let Some(place) = self.table.find(name) else {
             return Err(ShellRefusal::NoGraph);
         };
-        match self.table.edit(self.alloc, place, edit) {
-            Ok((kept, reply)) => {
-                *delta = Delta::Edit(place, kept);
-                Ok(reply)
-            }
+        let mut kept = GraphDelta::NewArc(ArcNo(0));
+        let done = self.table.edit(self.alloc, place, edit, &mut kept, reply);
+        *delta = Delta::Edit(place, kept);
+        match done {
+            Ok(()) => Ok(()),
             Err(refusal) => Err(refusal_of(refusal)),
         }
     }
@@ -226,8 +252,9 @@ impl Session {
         spec: &LengthsSpec,
         seed: Seed,
         delta: &mut Delta,
-    ) -> Result<Reply, ShellRefusal>
-        ensures { Performs self.old self.new (commands.Lengths name.now spec.now seed) (with_delta delta.new result) }
+        reply: &mut Reply,
+    ) -> Result<(), ShellRefusal>
+        ensures { Performs self.old self.new (commands.Lengths name.now spec.now seed) (told delta.new reply.new result) }
     {
         let Some(place) = self.table.find(name) else {
             return Err(ShellRefusal::NoGraph);
@@ -241,7 +268,8 @@ impl Session {
         {
             Ok((kept, source)) => {
                 *delta = Delta::Lengths(place, kept, source);
-                Ok(Reply::Done)
+                *reply = Reply::Done;
+                Ok(())
             }
             Err(refusal) => Err(refusal_of(refusal)),
         }
@@ -249,15 +277,21 @@ impl Session {
 
     // Takes the graph of this name out of the table.
     #[inline(never)]
-    fn drop_graph(&mut self, name: &Name, delta: &mut Delta) -> Result<Reply, ShellRefusal>
-        ensures { Performs self.old self.new (commands.Drop name.now) (with_delta delta.new result) }
+    fn drop_graph(
+        &mut self,
+        name: &Name,
+        delta: &mut Delta,
+        reply: &mut Reply,
+    ) -> Result<(), ShellRefusal>
+        ensures { Performs self.old self.new (commands.Drop name.now) (told delta.new reply.new result) }
     {
         let Some(place) = self.table.find(name) else {
             return Err(ShellRefusal::NoGraph);
         };
         let entry = self.table.remove(place);
         *delta = Delta::Dropped(place, entry.name, entry.graph);
-        Ok(Reply::Done)
+        *reply = Reply::Done;
+        Ok(())
     }
 }
 
@@ -321,7 +355,8 @@ impl Reversible for Session {
         ensures memory { IfErr result (λ r. (takes_memory command.now ≡ true) ⊎ (step self.old command.now ≡ Refused r)) }
     {
         let mut delta = Delta::Made;
-        let reply = self.apply_at(command, &mut delta)?;
+        let mut reply = Reply::Done;
+        self.apply_at(command, &mut delta, &mut reply)?;
         Ok((delta, reply))
     }
 

@@ -128,7 +128,10 @@ impl<M: Reversible> Journal<M> {
         if next == self.commands.len() {
             return Err(JournalRefusal::NothingToRedo);
         }
-        let reply = match self.machine.apply_onto(&self.commands[next], &mut self.deltas) {
+        let reply = match self
+            .machine
+            .apply_onto(&self.commands[next], &mut self.deltas)
+        {
             Ok(reply) => reply,
             Err(want) => return Err(JournalRefusal::Machine(want)),
         };

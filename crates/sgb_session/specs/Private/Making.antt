@@ -25,6 +25,11 @@ use Rattle.sgb_session.specs.Source.{turned_back, CanTurnBack}
 use Rattle.sgb_session.specs.State.{State, step, before, can_revert, may_want, refusal_of_making}
 use Rattle.sgb_session.specs.Table.{find, graph_in, has_all, with_graph}
 
+-- what was answered, with what was written of it into two places
+abbrev pub told : {D R U F : Type 0} → D → R → Result U F → Result (D × R) F
+told d r (Ok done) = Ok (d, r)
+told d r (Err refusal) = Err refusal
+
 -- whether an edit that is refused so, or not, may want for memory
 abbrev pub edit_may_want : Edit → Option Refusal → Bool
 edit_may_want edit refusal = edit_takes_memory edit && (edit_has_text edit || is_none refusal)
@@ -104,8 +109,3 @@ with_made (Err r) = Err r
 abbrev pub Performs : State → State → Command → Result (Delta × Reply) ShellRefusal → Type 0
 Performs old new c (Ok a) = (step old c ≡ Accepted new a.0 a.1) × can_revert new a.0 × (before new a.0 ≡ old)
 Performs old new c (Err r) = (new ≡ old) × (((r ≡ NoRoom) × (may_want old c ≡ true)) ⊎ (step old c ≡ Refused r))
-
--- what a command answered, with the delta that it left
-abbrev pub with_delta : Delta → Result Reply ShellRefusal → Result (Delta × Reply) ShellRefusal
-with_delta d (Ok r) = Ok (d, r)
-with_delta d (Err r) = Err r
