@@ -1,10 +1,12 @@
 //! The session whose commands may be groups.
-ghost use Rattle.std.specs.Prelude.{◌≡◌, ◌⊎◌, true, IfOk, IfErr, OnErr};
-ghost use Rattle.sgb_undo.specs.Outcome.{Accepted, Refused};
+ghost use Rattle.std.specs.Prelude.{◌≡◌, ◌<◌, ◌⊎◌, true, IfOk, IfErr, OnErr, vec_len, vec_capacity};
+ghost use Rattle.sgb_undo.specs.Outcome.{Accepted, Refused, Keeps};
+ghost use Rattle.sgb_groups.specs.Grouped.{step, before, can_revert, may_want};
+ghost use Rattle.sgb_script.specs.Refusal.{is_no_room};
 
 use crate::grouped::{GroupedCommand, GroupedDelta, GroupedReply};
 use sgb_script::ShellRefusal;
-use sgb_session::Session;
+use sgb_session::{Delta, Reply, Session};
 use sgb_undo::{GroupRefusal, Reversible, apply_all, revert_all};
 use std::alloc::{AllocError, Global};
 use std::marker::Model;
@@ -70,7 +72,6 @@ impl Reversible for GroupedSession {
 
     /// Performs a command, or a group of them: all of it, or nothing where a member is refused. A group takes memory for
     /// its members' deltas and replies before the first of them is performed, and one without members takes none.
-    #[inline(always)]
     fn apply(
         &mut self,
         command: &GroupedCommand,
@@ -99,6 +100,25 @@ impl Reversible for GroupedSession {
         }
     }
 
+    /// Performs a command as `apply` does, and puts its delta last. That of a command by itself is written by the session.
+    #[inline(always)]
+    fn apply_onto(
+        &mut self,
+        command: &GroupedCommand,
+        deltas: &mut Vec<GroupedDelta>,
+    ) -> Result<GroupedReply, ShellRefusal> {
+        match command {
+            GroupedCommand::One(one) => {
+                let mut delta = Delta::Made;
+                let mut reply = Reply::Done;
+                self.session.apply_at(one, &mut delta, &mut reply)?;
+                deltas.push_reserved(GroupedDelta::One(delta));
+                Ok(GroupedReply::One(reply))
+            }
+            GroupedCommand::Group(_) => apply_group(self, command, deltas),
+        }
+    }
+
     /// Takes back a command, or each member of a group, the last first. It takes no memory.
     #[inline(always)]
     fn revert(&mut self, delta: GroupedDelta) {
@@ -116,4 +136,25 @@ impl Reversible for GroupedSession {
     fn is_memory(refusal: &ShellRefusal) -> bool {
         Session::is_memory(refusal)
     }
+}
+
+// Performs a group, and puts its delta last.
+#[inline(never)]
+fn apply_group(
+    session: &mut GroupedSession,
+    command: &GroupedCommand,
+    deltas: &mut Vec<GroupedDelta>,
+) -> Result<GroupedReply, ShellRefusal>
+    requires place { vec_len deltas.old < vec_capacity deltas.old }
+    ensures accepted { IfOk result (λ reply.
+        Keeps step before can_revert session.old command.now session.new reply deltas.old.items deltas.new.items) }
+    ensures refused { IfErr result (λ r.
+        ((is_no_room r ≡ true) × (may_want session.old command.now ≡ true)) ⊎ (step session.old command.now ≡ Refused r)) }
+    ensures err { OnErr result (session.new ≡ session.old) }
+    ensures same { OnErr result (deltas.new.items ≡ deltas.old.items) }
+    ensures capacity { vec_capacity deltas.new ≡ vec_capacity deltas.old }
+{
+    let (delta, reply) = session.apply(command)?;
+    deltas.push_reserved(delta);
+    Ok(reply)
 }

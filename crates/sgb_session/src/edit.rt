@@ -4,30 +4,36 @@ ghost use Rattle.sgb_graph.specs.declared.refusal.Refusal.TheVariants.{NoRoom};
 ghost use Rattle.sgb_session.specs.declared.reply.Reply.TheVariants.{Done};
 ghost use Rattle.sgb_script.specs.declared.command.Edit.TheVariants.{Arc, Edge, Set, Label, Id};
 ghost use Rattle.sgb_session.specs.Edits.{edited, is_text_value};
-ghost use Rattle.sgb_session.specs.Private.Making.{Makes, edit_may_want, with_done};
+ghost use Rattle.sgb_session.specs.Private.Making.{Makes, edit_may_want, told, with_done};
 
 use crate::reply::Reply;
 use sgb_graph::{ArcNo, Graph, GraphDelta, Place, Refusal, Text, Util, VertexNo};
 use sgb_script::Edit;
 use std::alloc::Global;
 
-/// Makes an edit. A text is copied first, since the command keeps its own.
+/// Makes an edit, and writes its delta and its reply. A text is copied first, since the command keeps its own.
 pub(crate) fn make_edit(
     alloc: Global,
     graph: &mut Graph,
     edit: &Edit,
-) -> Result<(GraphDelta, Reply), Refusal>
-    ensures { Makes (edit_may_want edit.now) graph.old graph.new (edited graph.old edit.now) result }
+    delta: &mut GraphDelta,
+    reply: &mut Reply,
+) -> Result<(), Refusal>
+    ensures { Makes (edit_may_want edit.now) graph.old graph.new (edited graph.old edit.now) (told delta.new reply.new result) }
 {
     match edit {
-        Edit::Arc(from, to, len) => make_arc(graph, *from, *to, *len),
-        Edit::Edge(from, to, len) => make_edge(graph, *from, *to, *len),
-        Edit::Cut(number) => done(graph.cut(*number)),
-        Edit::Len(number, len) => done(graph.set_len(*number, *len)),
-        Edit::Set(place, value) => set_value(alloc, graph, *place, value),
-        Edit::Types(types) => Ok((graph.set_types(*types), Reply::Done)),
-        Edit::Label(vertex, text) => set_label(alloc, graph, *vertex, text),
-        Edit::Id(text) => set_id(alloc, graph, text),
+        Edit::Arc(from, to, len) => make_arc(graph, *from, *to, *len, delta, reply),
+        Edit::Edge(from, to, len) => make_edge(graph, *from, *to, *len, delta, reply),
+        Edit::Cut(number) => done(graph.cut(*number), delta, reply),
+        Edit::Len(number, len) => done(graph.set_len(*number, *len), delta, reply),
+        Edit::Set(place, value) => set_value(alloc, graph, *place, value, delta, reply),
+        Edit::Types(types) => {
+            *delta = graph.set_types(*types);
+            *reply = Reply::Done;
+            Ok(())
+        }
+        Edit::Label(vertex, text) => set_label(alloc, graph, *vertex, text, delta, reply),
+        Edit::Id(text) => set_id(alloc, graph, text, delta, reply),
     }
 }
 
@@ -36,11 +42,15 @@ fn make_arc(
     from: VertexNo,
     to: VertexNo,
     len: i64,
-) -> Result<(GraphDelta, Reply), Refusal>
-    ensures { Makes (edit_may_want (Arc from to len)) graph.old graph.new (edited graph.old (Arc from to len)) result }
+    delta: &mut GraphDelta,
+    reply: &mut Reply,
+) -> Result<(), Refusal>
+    ensures { Makes (edit_may_want (Arc from to len)) graph.old graph.new (edited graph.old (Arc from to len)) (told delta.new reply.new result) }
 {
-    let (number, delta) = graph.new_arc(from, to, len)?;
-    Ok((delta, Reply::Arc(number)))
+    let (number, kept) = graph.new_arc(from, to, len)?;
+    *delta = kept;
+    *reply = Reply::Arc(number);
+    Ok(())
 }
 
 fn make_edge(
@@ -48,11 +58,15 @@ fn make_edge(
     from: VertexNo,
     to: VertexNo,
     len: i64,
-) -> Result<(GraphDelta, Reply), Refusal>
-    ensures { Makes (edit_may_want (Edge from to len)) graph.old graph.new (edited graph.old (Edge from to len)) result }
+    delta: &mut GraphDelta,
+    reply: &mut Reply,
+) -> Result<(), Refusal>
+    ensures { Makes (edit_may_want (Edge from to len)) graph.old graph.new (edited graph.old (Edge from to len)) (told delta.new reply.new result) }
 {
-    let (number, delta) = graph.new_edge(from, to, len)?;
-    Ok((delta, Reply::Edge(number, ArcNo(number.0 + 1))))
+    let (number, kept) = graph.new_edge(from, to, len)?;
+    *delta = kept;
+    *reply = Reply::Edge(number, ArcNo(number.0 + 1));
+    Ok(())
 }
 
 fn set_value(
@@ -60,11 +74,13 @@ fn set_value(
     graph: &mut Graph,
     place: Place,
     value: &Util,
-) -> Result<(GraphDelta, Reply), Refusal>
-    ensures { Makes (edit_may_want (Set place value.now)) graph.old graph.new (edited graph.old (Set place value.now)) result }
+    delta: &mut GraphDelta,
+    reply: &mut Reply,
+) -> Result<(), Refusal>
+    ensures { Makes (edit_may_want (Set place value.now)) graph.old graph.new (edited graph.old (Set place value.now)) (told delta.new reply.new result) }
 {
     let copy = copy_of_value(alloc, value)?;
-    done(graph.set_util(place, copy))
+    done(graph.set_util(place, copy), delta, reply)
 }
 
 fn set_label(
@@ -72,26 +88,39 @@ fn set_label(
     graph: &mut Graph,
     vertex: VertexNo,
     text: &Text,
-) -> Result<(GraphDelta, Reply), Refusal>
-    ensures { Makes (edit_may_want (Label vertex text.now)) graph.old graph.new (edited graph.old (Label vertex text.now)) result }
+    delta: &mut GraphDelta,
+    reply: &mut Reply,
+) -> Result<(), Refusal>
+    ensures { Makes (edit_may_want (Label vertex text.now)) graph.old graph.new (edited graph.old (Label vertex text.now)) (told delta.new reply.new result) }
 {
     let copy = copy_of_text(alloc, text)?;
-    done(graph.set_label(vertex, copy))
+    done(graph.set_label(vertex, copy), delta, reply)
 }
 
-fn set_id(alloc: Global, graph: &mut Graph, text: &Text) -> Result<(GraphDelta, Reply), Refusal>
-    ensures { Makes (edit_may_want (Id text.now)) graph.old graph.new (edited graph.old (Id text.now)) result }
+fn set_id(
+    alloc: Global,
+    graph: &mut Graph,
+    text: &Text,
+    delta: &mut GraphDelta,
+    reply: &mut Reply,
+) -> Result<(), Refusal>
+    ensures { Makes (edit_may_want (Id text.now)) graph.old graph.new (edited graph.old (Id text.now)) (told delta.new reply.new result) }
 {
     let copy = copy_of_text(alloc, text)?;
-    done(graph.set_id(copy))
+    done(graph.set_id(copy), delta, reply)
 }
 
 // An edit that answers no number.
-fn done(outcome: Result<GraphDelta, Refusal>) -> Result<(GraphDelta, Reply), Refusal>
-    ensures { result ≡ with_done outcome }
+fn done(
+    outcome: Result<GraphDelta, Refusal>,
+    delta: &mut GraphDelta,
+    reply: &mut Reply,
+) -> Result<(), Refusal>
+    ensures { told delta.new reply.new result ≡ with_done outcome }
 {
-    let delta = outcome?;
-    Ok((delta, Reply::Done))
+    *delta = outcome?;
+    *reply = Reply::Done;
+    Ok(())
 }
 
 fn copy_of_value(alloc: Global, value: &Util) -> Result<Util, Refusal>

@@ -1,10 +1,10 @@
 //! The session: what the commands change.
-ghost use Rattle.std.specs.Prelude.{◌≡◌, ◌<◌, ◌≤◌, ◌⊎◌, length, true, IfOk, IfErr, OnErr};
+ghost use Rattle.std.specs.Prelude.{◌≡◌, ◌<◌, ◌≤◌, ◌⊎◌, length, true, IfOk, IfErr, OnOk, OnErr};
 ghost use Rattle.sgb_undo.specs.Outcome.{Accepted, Refused};
 ghost use Rattle.sgb_script.specs.declared.command.Command.TheVariants as commands;
 ghost use Rattle.sgb_session.specs.Drawing.{drawn_from, generator_of};
 ghost use Rattle.sgb_session.specs.Edits.{refusal_from};
-ghost use Rattle.sgb_session.specs.Private.Making.{Judges, Performs};
+ghost use Rattle.sgb_session.specs.Private.Making.{Judges, Performs, told};
 ghost use Rattle.sgb_session.specs.State.{is_spent};
 
 use crate::making::{find_operands, goes_on, make_boxed};
@@ -13,7 +13,7 @@ use crate::past::{Past, keep, take_back};
 use crate::reply::{Delta, Reply};
 use crate::table::{MOST_GRAPHS, Table};
 use sgb_combine::LengthsSpec;
-use sgb_graph::{Graph, Refusal};
+use sgb_graph::{ArcNo, Graph, GraphDelta, Refusal};
 use sgb_make::Seed;
 use sgb_script::{Command, Edit, Maker, Name, ShellRefusal};
 use sgb_undo::Reversible;
@@ -45,7 +45,8 @@ impl Model for Session {
 }
 
 impl Session {
-    ghost use Rattle.sgb_session.specs.State.{empty};
+    ghost use Rattle.sgb_session.specs.State.{empty, step, before, can_revert, takes_memory, may_want};
+    ghost use Rattle.sgb_script.specs.Refusal.{is_no_room};
     ghost use Rattle.sgb_session.specs.Table.{find, entry_in, graph_in};
 
     /// The empty session: the generator is that of seed 0, and there are no graphs. It takes no memory.
@@ -101,21 +102,63 @@ impl Session {
         self.table.find(name)
     }
 
+    /// Performs a command as [`Reversible::apply`] does, and writes its delta and its reply where others stood. Where the
+    /// command is refused, what stands there tells nothing.
+    // Both are large: so they are written once, and not handed up from call to call.
+    pub fn apply_at(
+        &mut self,
+        command: &Command,
+        delta: &mut Delta,
+        reply: &mut Reply,
+    ) -> Result<(), ShellRefusal>
+        ensures accepted { OnOk result (step self.old command.now ≡ Accepted self.new delta.new reply.new) }
+        ensures can_revert { OnOk result (can_revert self.new delta.new) }
+        ensures before { OnOk result (before self.new delta.new ≡ self.old) }
+        ensures refused { IfErr result (λ r.
+            ((is_no_room r ≡ true) × (may_want self.old command.now ≡ true)) ⊎ (step self.old command.now ≡ Refused r)) }
+        ensures err { OnErr result (self.new ≡ self.old) }
+        ensures memory { IfErr result (λ r. (takes_memory command.now ≡ true) ⊎ (step self.old command.now ≡ Refused r)) }
+    {
+        match command {
+            Command::Seed(seed) => {
+                let before = Past::of(&self.generator);
+                keep(&mut self.marks, &self.generator);
+                self.generator = Mark::new(*seed);
+                *delta = Delta::Seed(before);
+                *reply = Reply::Done;
+                Ok(())
+            }
+            Command::Next => self.draw(delta, reply),
+            Command::Unif(bound) => self.draw_below(*bound, delta, reply),
+            Command::Make(name, maker) => self.make(*name, maker, delta, reply),
+            Command::Edit(name, edit) => self.edit(name, edit, delta, reply),
+            Command::Lengths(name, spec, seed) => self.lengthen(name, spec, *seed, delta, reply),
+            Command::Drop(name) => self.drop_graph(name, delta, reply),
+        }
+    }
+
     // Draws one number.
-    fn draw(&mut self) -> Result<(Delta, Reply), ShellRefusal>
-        ensures { Performs self.old self.new commands.Next result }
+    fn draw(&mut self, delta: &mut Delta, reply: &mut Reply) -> Result<(), ShellRefusal>
+        ensures { Performs self.old self.new commands.Next (told delta.new reply.new result) }
     {
         if self.generator.draws() >= MOST_DRAWS {
             return Err(ShellRefusal::TooLarge);
         }
         let number = self.generator.next();
-        Ok((Delta::Draws(1), Reply::Number(number)))
+        *delta = Delta::Draws(1);
+        *reply = Reply::Number(number);
+        Ok(())
     }
 
     // Draws a uniform number.
     #[inline(never)]
-    fn draw_below(&mut self, bound: i64) -> Result<(Delta, Reply), ShellRefusal>
-        ensures { Performs self.old self.new (commands.Unif bound) result }
+    fn draw_below(
+        &mut self,
+        bound: i64,
+        delta: &mut Delta,
+        reply: &mut Reply,
+    ) -> Result<(), ShellRefusal>
+        ensures { Performs self.old self.new (commands.Unif bound) (told delta.new reply.new result) }
     {
         if self.generator.draws() >= MOST_DRAWS {
             return Err(ShellRefusal::TooLarge);
@@ -124,16 +167,21 @@ impl Session {
             return Err(ShellRefusal::BadSpecs);
         }
         let drawn = self.generator.uniform(bound as u32);
-        Ok((
-            Delta::Draws(u64::from(drawn.draws)),
-            Reply::Number(drawn.value),
-        ))
+        *delta = Delta::Draws(u64::from(drawn.draws));
+        *reply = Reply::Number(drawn.value);
+        Ok(())
     }
 
     // Makes a graph, which then stands last.
     #[inline(never)]
-    fn make(&mut self, name: Name, maker: &Maker) -> Result<(Delta, Reply), ShellRefusal>
-        ensures { Performs self.old self.new (commands.Make name maker.now) result }
+    fn make(
+        &mut self,
+        name: Name,
+        maker: &Maker,
+        delta: &mut Delta,
+        reply: &mut Reply,
+    ) -> Result<(), ShellRefusal>
+        ensures { Performs self.old self.new (commands.Make name maker.now) (told delta.new reply.new result) }
     {
         let operands = self.judge(&name, maker)?;
         match make_boxed(
@@ -143,11 +191,12 @@ impl Session {
             operands,
             maker,
         ) {
-            Ok((boxed, delta)) => {
+            Ok((boxed, kept)) => {
                 let graph = boxed.get();
-                let reply = Reply::Made(name, graph.n(), graph.m());
+                *reply = Reply::Made(name, graph.n(), graph.m());
                 self.table.push(name, boxed);
-                Ok((delta, reply))
+                *delta = kept;
+                Ok(())
             }
             Err(refusal) => Err(refusal_of(refusal)),
         }
@@ -174,14 +223,23 @@ impl Session {
 
     // Edits the graph of this name.
     #[inline(never)]
-    fn edit(&mut self, name: &Name, edit: &Edit) -> Result<(Delta, Reply), ShellRefusal>
-        ensures { Performs self.old self.new (commands.Edit name.now edit.now) result }
+    fn edit(
+        &mut self,
+        name: &Name,
+        edit: &Edit,
+        delta: &mut Delta,
+        reply: &mut Reply,
+    ) -> Result<(), ShellRefusal>
+        ensures { Performs self.old self.new (commands.Edit name.now edit.now) (told delta.new reply.new result) }
     {
         let Some(place) = self.table.find(name) else {
             return Err(ShellRefusal::NoGraph);
         };
-        match self.table.edit(self.alloc, place, edit) {
-            Ok((delta, reply)) => Ok((Delta::Edit(place, delta), reply)),
+        let mut kept = GraphDelta::NewArc(ArcNo(0));
+        let done = self.table.edit(self.alloc, place, edit, &mut kept, reply);
+        *delta = Delta::Edit(place, kept);
+        match done {
+            Ok(()) => Ok(()),
             Err(refusal) => Err(refusal_of(refusal)),
         }
     }
@@ -193,8 +251,10 @@ impl Session {
         name: &Name,
         spec: &LengthsSpec,
         seed: Seed,
-    ) -> Result<(Delta, Reply), ShellRefusal>
-        ensures { Performs self.old self.new (commands.Lengths name.now spec.now seed) result }
+        delta: &mut Delta,
+        reply: &mut Reply,
+    ) -> Result<(), ShellRefusal>
+        ensures { Performs self.old self.new (commands.Lengths name.now spec.now seed) (told delta.new reply.new result) }
     {
         let Some(place) = self.table.find(name) else {
             return Err(ShellRefusal::NoGraph);
@@ -206,21 +266,32 @@ impl Session {
             .table
             .lengthen(self.alloc, place, &mut self.generator, spec, seed)
         {
-            Ok((delta, source)) => Ok((Delta::Lengths(place, delta, source), Reply::Done)),
+            Ok((kept, source)) => {
+                *delta = Delta::Lengths(place, kept, source);
+                *reply = Reply::Done;
+                Ok(())
+            }
             Err(refusal) => Err(refusal_of(refusal)),
         }
     }
 
     // Takes the graph of this name out of the table.
     #[inline(never)]
-    fn drop_graph(&mut self, name: &Name) -> Result<(Delta, Reply), ShellRefusal>
-        ensures { Performs self.old self.new (commands.Drop name.now) result }
+    fn drop_graph(
+        &mut self,
+        name: &Name,
+        delta: &mut Delta,
+        reply: &mut Reply,
+    ) -> Result<(), ShellRefusal>
+        ensures { Performs self.old self.new (commands.Drop name.now) (told delta.new reply.new result) }
     {
         let Some(place) = self.table.find(name) else {
             return Err(ShellRefusal::NoGraph);
         };
         let entry = self.table.remove(place);
-        Ok((Delta::Dropped(place, entry.name, entry.graph), Reply::Done))
+        *delta = Delta::Dropped(place, entry.name, entry.graph);
+        *reply = Reply::Done;
+        Ok(())
     }
 }
 
@@ -283,20 +354,10 @@ impl Reversible for Session {
         ensures err { OnErr result (self.new ≡ self.old) }
         ensures memory { IfErr result (λ r. (takes_memory command.now ≡ true) ⊎ (step self.old command.now ≡ Refused r)) }
     {
-        match command {
-            Command::Seed(seed) => {
-                let before = Past::of(&self.generator);
-                keep(&mut self.marks, &self.generator);
-                self.generator = Mark::new(*seed);
-                Ok((Delta::Seed(before), Reply::Done))
-            }
-            Command::Next => self.draw(),
-            Command::Unif(bound) => self.draw_below(*bound),
-            Command::Make(name, maker) => self.make(*name, maker),
-            Command::Edit(name, edit) => self.edit(name, edit),
-            Command::Lengths(name, spec, seed) => self.lengthen(name, spec, *seed),
-            Command::Drop(name) => self.drop_graph(name),
-        }
+        let mut delta = Delta::Made;
+        let mut reply = Reply::Done;
+        self.apply_at(command, &mut delta, &mut reply)?;
+        Ok((delta, reply))
     }
 
     #[inline(always)]

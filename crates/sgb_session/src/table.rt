@@ -7,7 +7,7 @@ ghost use Rattle.sgb_graph.specs.Delta.{LeftBy};
 ghost use Rattle.sgb_graph.specs.Reverted.{reverted};
 ghost use Rattle.sgb_lengths.specs.Lengths.{CanRevertLengths, before_lengths};
 ghost use Rattle.sgb_session.specs.Drawing.{drawn_from};
-ghost use Rattle.sgb_session.specs.Private.Making.{AtPlace, InSlot, Edits};
+ghost use Rattle.sgb_session.specs.Private.Making.{AtPlace, InSlot, Edits, told};
 ghost use Rattle.sgb_session.specs.Private.Slots.{held, slot_in, slot_with_graph};
 ghost use Rattle.sgb_session.specs.Private.Working.{Lengthens};
 ghost use Rattle.sgb_session.specs.Table.{find, entry_in, graph_in, with_graph};
@@ -142,11 +142,20 @@ impl Table {
         alloc: Global,
         place: usize,
         edit: &Edit,
-    ) -> Result<(GraphDelta, Reply), Refusal>
+        delta: &mut GraphDelta,
+        reply: &mut Reply,
+    ) -> Result<(), Refusal>
         requires { place < length self.old }
-        ensures { AtPlace (Edits edit.now result) self.old self.new place }
+        ensures { AtPlace (Edits edit.now (told delta.new reply.new result)) self.old self.new place }
     {
-        edit_slot(self.entries.as_mut_slice(), alloc, place, edit)
+        edit_slot(
+            self.entries.as_mut_slice(),
+            alloc,
+            place,
+            edit,
+            delta,
+            reply,
+        )
     }
 
     /// Takes an edit of the graph at a place back.
@@ -211,13 +220,15 @@ fn edit_slot(
     alloc: Global,
     place: usize,
     edit: &Edit,
-) -> Result<(GraphDelta, Reply), Refusal>
+    delta: &mut GraphDelta,
+    reply: &mut Reply,
+) -> Result<(), Refusal>
     requires place { place < length slots.old }
     requires some { IsSome (slot_in slots.old place) }
-    ensures { InSlot (Edits edit.now result) slots.old slots.new place }
+    ensures { InSlot (Edits edit.now (told delta.new reply.new result)) slots.old slots.new place }
 {
     match &mut slots[place] {
-        Some(entry) => make_edit(alloc, &mut entry.graph.inner, edit),
+        Some(entry) => make_edit(alloc, &mut entry.graph.inner, edit, delta, reply),
         None => unreachable!(),
     }
 }

@@ -1,5 +1,5 @@
 //! Does what a line says to the session's journal.
-ghost use Rattle.std.specs.Prelude.{◌≡◌, Some};
+ghost use Rattle.std.specs.Prelude.{◌≡◌, Some, codes};
 ghost use Rattle.std.specs.Str.{bytes_eq};
 ghost use Rattle.sgb_script.specs.Line.{line_of};
 ghost use Rattle.sgb_shell.specs.Private.Performing.{IsBegun, Does, Answers, Saves, by_command, by_line, answer_from, refusal_from};
@@ -20,23 +20,41 @@ use std::alloc::Global;
 pub(crate) fn perform(alloc: Global, journal: &mut Journal<GroupedSession>, line: &[u8]) -> Answer
     ensures { IsBegun journal.old → Does (by_line (line_of line.now)) journal.old journal.new result }
 {
-    if is(line, "undo") {
+    if is_undo(line) {
         undo(journal)
-    } else if is(line, "redo") {
+    } else if is_redo(line) {
         redo(journal)
-    } else if is(line, "next") {
+    } else if is_next(line) {
         change(journal, GroupedCommand::One(Command::Next))
-    } else if is(line, "gen") {
+    } else if is_gen(line) {
         Answer::Generator
     } else {
         perform_words(alloc, journal, line)
     }
 }
 
-fn is(line: &[u8], word: &str) -> bool
-    ensures { result ≡ bytes_eq line.now word.now }
+fn is_undo(line: &[u8]) -> bool
+    ensures { result ≡ bytes_eq line.now (codes "undo") }
 {
-    line == word.as_bytes()
+    matches!(line, b"undo")
+}
+
+fn is_redo(line: &[u8]) -> bool
+    ensures { result ≡ bytes_eq line.now (codes "redo") }
+{
+    matches!(line, b"redo")
+}
+
+fn is_next(line: &[u8]) -> bool
+    ensures { result ≡ bytes_eq line.now (codes "next") }
+{
+    matches!(line, b"next")
+}
+
+fn is_gen(line: &[u8]) -> bool
+    ensures { result ≡ bytes_eq line.now (codes "gen") }
+{
+    matches!(line, b"gen")
 }
 
 // Reads a line by its words, and does what it says.

@@ -231,6 +231,7 @@ impl Shell {
 }
 
 // The line that the bytes begin with, where a newline ends it.
+#[inline(always)]
 fn first_line(bytes: &[u8]) -> Option<&[u8]>
     ensures { IfSome result (λ line. IsFirstLine line.now bytes.now) }
 {

@@ -79,11 +79,10 @@ impl<M: Reversible> Journal<M> {
         if make_place(&mut self.machine, &mut self.commands, &mut self.deltas).is_err() {
             return Err(JournalRefusal::NoRoom);
         }
-        match self.machine.apply(&command) {
-            Ok((delta, reply)) => {
+        match self.machine.apply_onto(&command, &mut self.deltas) {
+            Ok(reply) => {
                 self.commands.truncate(standing);
                 self.commands.push_reserved(command);
-                self.deltas.push_reserved(delta);
                 Ok(reply)
             }
             Err(refusal) => Err(JournalRefusal::Machine(refusal)),
@@ -129,13 +128,14 @@ impl<M: Reversible> Journal<M> {
         if next == self.commands.len() {
             return Err(JournalRefusal::NothingToRedo);
         }
-        match self.machine.apply(&self.commands[next]) {
-            Ok((delta, reply)) => {
-                self.deltas.push_reserved(delta);
-                Ok(reply)
-            }
-            Err(want) => Err(JournalRefusal::Machine(want)),
-        }
+        let reply = match self
+            .machine
+            .apply_onto(&self.commands[next], &mut self.deltas)
+        {
+            Ok(reply) => reply,
+            Err(want) => return Err(JournalRefusal::Machine(want)),
+        };
+        Ok(reply)
     }
 
     /// How many commands stand.

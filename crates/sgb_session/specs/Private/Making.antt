@@ -25,6 +25,11 @@ use Rattle.sgb_session.specs.Source.{turned_back, CanTurnBack}
 use Rattle.sgb_session.specs.State.{State, step, before, can_revert, may_want, refusal_of_making}
 use Rattle.sgb_session.specs.Table.{find, graph_in, has_all, with_graph}
 
+-- what was answered, with what was written of it into two places
+abbrev pub told : {D R U F : Type 0} → D → R → Result U F → Result (D × R) F
+told d r (Ok done) = Ok (d, r)
+told d r (Err refusal) = Err refusal
+
 -- whether an edit that is refused so, or not, may want for memory
 abbrev pub edit_may_want : Edit → Option Refusal → Bool
 edit_may_want edit refusal = edit_takes_memory edit && (edit_has_text edit || is_none refusal)

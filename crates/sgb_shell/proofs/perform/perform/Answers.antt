@@ -2,14 +2,14 @@ use Rattle.std.proofs.Common.{sym, ◌∙◌}
 use Rattle.sgb_shell.proofs.Performing.{undo_does, redo_does, next_does, gen_does}
 use Rattle.sgb_shell.proofs.perform.perform.Goals as goal
 
-pub returns-then-is : goal.returns-then-is
-returns-then-is c b = undo_does _ _ _ _ (sym c.is.ensures ∙ c.if-is.true) (c.undo.ensures b)
+pub returns-then-is_undo : goal.returns-then-is_undo
+returns-then-is_undo c b = undo_does _ _ _ _ (sym c.is_undo.ensures ∙ c.if-is_undo.true) (c.undo.ensures b)
 
-pub returns-then-is-2 : goal.returns-then-is-2
-returns-then-is-2 c b = redo_does _ _ _ _ (sym c.is-else-is.ensures ∙ c.if-is-2.true) (c.redo.ensures b)
+pub returns-then-is_redo : goal.returns-then-is_redo
+returns-then-is_redo c b = redo_does _ _ _ _ (sym c.is_redo.ensures ∙ c.if-is_redo.true) (c.redo.ensures b)
 
-pub returns-then-is-3 : goal.returns-then-is-3
-returns-then-is-3 c b = next_does _ _ _ _ (sym c.is-else-is-2.ensures ∙ c.if-is-3.true) (c.change.ensures b)
+pub returns-then-is_next : goal.returns-then-is_next
+returns-then-is_next c b = next_does _ _ _ _ (sym c.is_next.ensures ∙ c.if-is_next.true) (c.change.ensures b)
 
-pub returns-then-is-4 : goal.returns-then-is-4
-returns-then-is-4 c b = gen_does _ _ (sym c.is-else-is-3.ensures ∙ c.if-is-4.true) b
+pub returns-then-is_gen : goal.returns-then-is_gen
+returns-then-is_gen c b = gen_does _ _ (sym c.is_gen.ensures ∙ c.if-is_gen.true) b

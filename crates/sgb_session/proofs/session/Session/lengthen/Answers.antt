@@ -1,8 +1,10 @@
 use Rattle.std.proofs.Common.{◌≡◌, ◌<◌, ap, ◌∙◌, subst, sym, false, Some, Err, length}
 use Rattle.sgb_script.specs.declared.command.Command.TheVariants as commands
 use Rattle.sgb_session.specs.Drawing.{drawn_from}
-use Rattle.sgb_session.specs.Private.Making.{AtPlace, Performs}
+use Rattle.sgb_session.specs.Private.Making.{AtPlace, Performs, told}
 use Rattle.sgb_session.specs.Private.Working.{Lengthens}
+use Rattle.sgb_session.specs.declared.reply.Delta.TheVariants as kept
+use Rattle.sgb_session.specs.declared.reply.Reply.TheVariants.{Done}
 use Rattle.sgb_session.specs.State.{is_spent}
 use Rattle.sgb_session.specs.Table.{find}
 use Rattle.sgb_session.proofs.Lengthenings.{lengths_done, lengths_refused}
@@ -25,10 +27,12 @@ returns c =
     let within : i < length t = find_within t name i at in
     let fresh : is_spent (drawn_from seed d) ≡ false = sym c.is_spent.ensures ∙ c.if-is_spent.false in
     let made : AtPlace (λ g h. Lengthens spec seed d e g h c.lengthen.result) t u i = c.lengthen.ensures in
-    subst (λ s. Performs s (state e u) command c.match-lengthen.result) c.self.view_is
+    subst (λ s. Performs s (state e u) command (told c.match-lengthen.delta c.match-lengthen.reply c.match-lengthen.result)) c.self.view_is
     (elim c.match-lengthen.branch [
-      | in-Ok w ↦ subst (Performs (state d t) (state e u) command) (sym w.result-is)
-          (lengths_done d e t u name spec seed i _ at within fresh (subst (λ r. AtPlace (λ g h. Lengthens spec seed d e g h r) t u i) w.in-Ok.is made))
-      | in-Err w ↦ subst (Performs (state d t) (state e u) command) (sym (w.result-is ∙ ap Err w.refusal_of.ensures))
+      | in-Ok w ↦ subst (λ k. Performs (state d t) (state e u) command (told k c.match-lengthen.reply c.match-lengthen.result)) (sym w.delta-is)
+          (subst (λ q. Performs (state d t) (state e u) command (told (kept.Lengths i w.in-Ok.kept w.in-Ok.source) q c.match-lengthen.result)) (sym w.reply-is)
+          (subst (λ r. Performs (state d t) (state e u) command (told (kept.Lengths i w.in-Ok.kept w.in-Ok.source) Done r)) (sym w.result-is)
+          (lengths_done d e t u name spec seed i _ at within fresh (subst (λ r. AtPlace (λ g h. Lengthens spec seed d e g h r) t u i) w.in-Ok.is made))))
+      | in-Err w ↦ subst (λ r. Performs (state d t) (state e u) command (told c.match-lengthen.delta c.match-lengthen.reply r)) (sym (w.result-is ∙ ap Err w.refusal_of.ensures))
           (lengths_refused d e t u name spec seed i _ at fresh (subst (λ r. AtPlace (λ g h. Lengthens spec seed d e g h r) t u i) w.in-Err.is made))
     ])

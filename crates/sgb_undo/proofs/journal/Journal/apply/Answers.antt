@@ -3,25 +3,25 @@ use Rattle.sgb_undo.specs.Private.Kept.{places}
 use Rattle.sgb_undo.proofs.Keeping.{Answers, commands-apply, IsJournal-seen, IsJournal-same, length-deltas, length-standing, IsSound-apply, Applies-sound, places-same}
 use Rattle.sgb_undo.proofs.journal.Journal.apply.Given.{Over}
 use Rattle.sgb_undo.proofs.journal.Journal.apply.Goals as goal
-use Rattle.sgb_undo.proofs.journal.Journal.apply.Goals.{After-push_reserved-in-Ok}
+use Rattle.sgb_undo.proofs.journal.Journal.apply.Goals.{After-push_reserved}
 
 -- what the machine answered
-abbrev answer : (g : Over) (c : After-push_reserved-in-Ok g) → Answers g.M.Reversible.step g.M.Reversible.before g.M.Reversible.can_revert c.self.inside.machine c.args.command c.in-Ok.delta c.apply.new.self
+abbrev answer : (g : Over) (c : After-push_reserved g) → Answers g.M.Reversible.step g.M.Reversible.before g.M.Reversible.can_revert c.self.inside.machine c.args.command c.in-Ok.ensures.accepted.delta c.apply_onto.new.self
 answer g c = record {
   reply = c.in-Ok.reply;
-  accepted = ap (λ m. g.M.Reversible.step m c.args.command) (sym c.make_place.ensures.machine) ∙ c.in-Ok.ensures.accepted;
-  back = c.in-Ok.ensures.before ∙ c.make_place.ensures.machine;
-  revertible = c.in-Ok.ensures.can_revert;
+  accepted = ap (λ m. g.M.Reversible.step m c.args.command) (sym c.make_place.ensures.machine) ∙ c.in-Ok.ensures.accepted.accepted;
+  back = c.in-Ok.ensures.accepted.back ∙ c.make_place.ensures.machine;
+  revertible = c.in-Ok.ensures.accepted.revertible;
 }
 
 -- the commands and the deltas in the end
-commands : (g : Over) (c : After-push_reserved-in-Ok g) → c.push_reserved.new.self.items ≡ take (vec_len c.self.inside.deltas) c.self.inside.commands.items ++ c.args.command ∷ []
+commands : (g : Over) (c : After-push_reserved g) → c.push_reserved.new.self.items ≡ take (vec_len c.self.inside.deltas) c.self.inside.commands.items ++ c.args.command ∷ []
 commands g c =
     commands-apply c.self.inside.commands.items _ _ (vec_len c.self.inside.deltas) _ c.args.command _ c.make_place.ensures.commands c.len-standing.ensures c.truncate.ensures.items c.push_reserved.ensures.items
 
-deltas : (g : Over) (c : After-push_reserved-in-Ok g) → c.push_reserved-in-Ok.new.self.items ≡ c.self.inside.deltas.items ++ c.in-Ok.delta ∷ []
+deltas : (g : Over) (c : After-push_reserved g) → c.apply_onto.new.deltas.items ≡ c.self.inside.deltas.items ++ c.in-Ok.ensures.accepted.delta ∷ []
 deltas g c =
-    c.push_reserved-in-Ok.ensures.items ∙ ap (λ ds. ds ++ c.in-Ok.delta ∷ []) c.make_place.ensures.deltas
+    c.in-Ok.ensures.accepted.kept ∙ ap (λ ds. ds ++ c.in-Ok.ensures.accepted.delta ∷ []) c.make_place.ensures.deltas
 
 pub returns-then-standing-eq-MOST_COMMANDS-clause-full : goal.returns-then-standing-eq-MOST_COMMANDS-clause-full
 returns-then-standing-eq-MOST_COMMANDS-clause-full g c = (
@@ -48,12 +48,12 @@ invariant_of-self-in-Ok g c =
     let placed : vec_len c.make_place.new.deltas < places (vec_capacity c.make_place.new.commands) (vec_capacity c.make_place.new.deltas) = search rules in
     let same = ap length c.make_place.ensures.deltas in
     let count : vec_len c.self.inside.deltas ≡ vec_len c.make_place.new.deltas = omega (arith, c.make_place.new.deltas.ok.0, c.self.inside.deltas.ok.0) in
-    let place = places-same count (c.push_reserved.ensures.capacity ∙ c.truncate.ensures.capacity) c.push_reserved-in-Ok.ensures.capacity placed in
+    let place = places-same count (c.push_reserved.ensures.capacity ∙ c.truncate.ensures.capacity) c.apply_onto.ensures.capacity placed in
     IsSound-apply c.self.invariant (answer g c) c.self.inside.deltas.ok.0 room place (commands g c) (deltas g c)
 
 pub returns-in-Ok-clause-ok : goal.returns-in-Ok-clause-ok
 returns-in-Ok-clause-ok g c =
-    Applies-sound c.self.invariant (answer g c) c.self.inside.deltas.ok.0 (commands g c) (deltas g c) c.push_reserved-in-Ok.new.self.ok.0 c.self.view_is
+    Applies-sound c.self.invariant (answer g c) c.self.inside.deltas.ok.0 (commands g c) (deltas g c) c.apply_onto.new.deltas.ok.0 c.self.view_is
 
 pub returns-in-Ok-clause-full : goal.returns-in-Ok-clause-full
 returns-in-Ok-clause-full g c = (
@@ -62,7 +62,7 @@ returns-in-Ok-clause-full g c = (
 )
 
 pub returns-in-Ok-clause-sound : goal.returns-in-Ok-clause-sound
-returns-in-Ok-clause-sound g c = IsJournal-seen (invariant_of-self-in-Ok g c) c.push_reserved-in-Ok.new.self.ok.0 refl
+returns-in-Ok-clause-sound g c = IsJournal-seen (invariant_of-self-in-Ok g c) c.apply_onto.new.deltas.ok.0 refl
 
 pub returns-in-Err-clause-full : goal.returns-in-Err-clause-full
 returns-in-Err-clause-full g c = (
@@ -72,7 +72,7 @@ returns-in-Err-clause-full g c = (
 
 pub returns-in-Err-clause-sound : goal.returns-in-Err-clause-sound
 returns-in-Err-clause-sound g c =
-    IsJournal-same c.self.invariant (c.in-Err.ensures.err ∙ c.make_place.ensures.machine) c.make_place.ensures.commands c.make_place.ensures.deltas c.make_place.new.deltas.ok.0
+    IsJournal-same c.self.invariant (c.in-Err.ensures.err ∙ c.make_place.ensures.machine) c.make_place.ensures.commands (c.in-Err.ensures.same ∙ c.make_place.ensures.deltas) c.apply_onto.new.deltas.ok.0
 
 pub returns-in-Ok-clause-start : goal.returns-in-Ok-clause-start
 returns-in-Ok-clause-start g c = let ok = returns-in-Ok-clause-ok g c in ok.start

@@ -3,24 +3,24 @@ use Rattle.sgb_undo.specs.Private.Kept.{places}
 use Rattle.sgb_undo.proofs.Keeping.{Answers, IsJournal-seen, IsJournal-same, length-deltas, undone-some, undone-accepted, FirstMayWant-waits, IsSound-redo, Redoes-sound}
 use Rattle.sgb_undo.proofs.journal.Journal.redo.Given.{Over}
 use Rattle.sgb_undo.proofs.journal.Journal.redo.Goals as goal
-use Rattle.sgb_undo.proofs.journal.Journal.redo.Goals.{After-push_reserved, In-Err}
+use Rattle.sgb_undo.proofs.journal.Journal.redo.Goals.{In-Ok, In-Err}
 
 -- what the machine answered
-abbrev answer : (g : Over) (c : After-push_reserved g) → Answers g.M.Reversible.step g.M.Reversible.before g.M.Reversible.can_revert c.self.inside.machine c.index.result.now c.in-Ok.delta c.apply.new.self
+abbrev answer : (g : Over) (c : In-Ok g) → Answers g.M.Reversible.step g.M.Reversible.before g.M.Reversible.can_revert c.self.inside.machine c.index.result.now c.in-Ok.ensures.accepted.delta c.apply_onto.new.self
 answer g c = record {
   reply = c.in-Ok.reply;
-  accepted = c.in-Ok.ensures.accepted;
-  back = c.in-Ok.ensures.before;
-  revertible = c.in-Ok.ensures.can_revert;
+  accepted = c.in-Ok.ensures.accepted.accepted;
+  back = c.in-Ok.ensures.accepted.back;
+  revertible = c.in-Ok.ensures.accepted.revertible;
 }
 
 -- something is undone, and what the machine was asked waits there
-below : (g : Over) (c : After-push_reserved g) → vec_len c.self.inside.deltas < length c.self.inside.commands.items
+below : (g : Over) (c : In-Ok g) → vec_len c.self.inside.deltas < length c.self.inside.commands.items
 below g c =
     let held = length-deltas c.self.invariant in
     omega (arith, c.self.inside.commands.ok.0, c.self.inside.deltas.ok.0)
 
-waits : (g : Over) (c : After-push_reserved g) → get_or c.self.inside.commands.items (vec_len c.self.inside.deltas) c.index.result.now ≡ c.index.result.now
+waits : (g : Over) (c : In-Ok g) → get_or c.self.inside.commands.items (vec_len c.self.inside.deltas) c.index.result.now ≡ c.index.result.now
 waits g c =
     ap (λ k. get_or c.self.inside.commands.items k c.index.result.now) (sym c.len-next.ensures)
     ∙ sym c.index.ensures
@@ -43,25 +43,25 @@ index-requires g c =
     let held = length-deltas c.self.invariant in
     omega (arith, c.self.inside.commands.ok.0, c.self.inside.deltas.ok.0)
 
-pub push_reserved-requires : goal.push_reserved-requires
-push_reserved-requires g c =
+pub apply_onto-requires : goal.apply_onto-requires
+apply_onto-requires g c =
     let held = length-deltas c.self.invariant in
     omega (arith, c.self.inside.commands.ok.0, c.self.inside.deltas.ok.0, c.self.invariant.placed)
 
-pub invariant_of-self : goal.invariant_of-self
-invariant_of-self g c =
-    IsSound-redo c.self.invariant (answer g c) c.self.inside.deltas.ok.0 (below g c) (waits g c) c.push_reserved.ensures.items (ap (places (vec_capacity c.self.inside.commands)) c.push_reserved.ensures.capacity)
+pub invariant_of-self-2 : goal.invariant_of-self-2
+invariant_of-self-2 g c =
+    IsSound-redo c.self.invariant (answer g c) c.self.inside.deltas.ok.0 (below g c) (waits g c) c.in-Ok.ensures.accepted.kept (ap (places (vec_capacity c.self.inside.commands)) c.apply_onto.ensures.capacity)
 
-pub returns-in-Ok-clause-ok : goal.returns-in-Ok-clause-ok
-returns-in-Ok-clause-ok g c =
-    Redoes-sound c.self.invariant (answer g c) c.self.inside.deltas.ok.0 (below g c) (waits g c) c.push_reserved.ensures.items c.push_reserved.new.self.ok.0 c.self.view_is
+pub returns-clause-ok : goal.returns-clause-ok
+returns-clause-ok g c =
+    Redoes-sound c.self.invariant (answer g c) c.self.inside.deltas.ok.0 (below g c) (waits g c) c.in-Ok.ensures.accepted.kept c.apply_onto.new.deltas.ok.0 c.self.view_is
 
-pub returns-in-Ok-clause-nothing : goal.returns-in-Ok-clause-nothing
-returns-in-Ok-clause-nothing g c =
+pub returns-clause-nothing : goal.returns-clause-nothing
+returns-clause-nothing g c =
     (λ e. cc, λ e. absurd (undone-some c.self.invariant c.self.inside.deltas.ok.0 (below g c) c.self.view_is e))
 
-pub returns-in-Ok-clause-sound : goal.returns-in-Ok-clause-sound
-returns-in-Ok-clause-sound g c = IsJournal-seen (invariant_of-self g c) c.push_reserved.new.self.ok.0 refl
+pub returns-clause-sound : goal.returns-clause-sound
+returns-clause-sound g c = IsJournal-seen (invariant_of-self-2 g c) c.apply_onto.new.deltas.ok.0 refl
 
 pub returns-in-Err-clause-nothing : goal.returns-in-Err-clause-nothing
 returns-in-Err-clause-nothing g c =
@@ -80,7 +80,7 @@ returns-in-Err-clause-refused g c = λ r e.
 
 pub returns-in-Err-clause-sound : goal.returns-in-Err-clause-sound
 returns-in-Err-clause-sound g c =
-    IsJournal-same c.self.invariant c.in-Err.ensures.err refl refl c.self.inside.deltas.ok.0
+    IsJournal-same c.self.invariant c.in-Err.ensures.err refl c.in-Err.ensures.same c.apply_onto.new.deltas.ok.0
 
-pub returns-in-Ok-clause-start : goal.returns-in-Ok-clause-start
-returns-in-Ok-clause-start g c = let ok = returns-in-Ok-clause-ok g c in ok.start
+pub returns-clause-start : goal.returns-clause-start
+returns-clause-start g c = let ok = returns-clause-ok g c in ok.start
