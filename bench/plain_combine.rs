@@ -141,33 +141,31 @@ fn complement(graph: &Graph, copy: bool, loops: bool, directed: bool) -> Result<
     let n = graph.n();
     made.arena.reserve(if copy { graph.arena.arcs.len() } else { n as usize * n as usize });
     let mut tips = Vec::new();
-    let mut mark = vec![NONE; n as usize];
     for u in 0..n {
         let low = if directed { 0 } else { u };
+        tips.clear();
+        tips.extend(graph.walk(u, true).map(|(_, arc)| arc.tip));
         if copy {
-            tips.clear();
-            tips.extend(graph.walk(u, true).map(|(_, arc)| arc.tip));
-            tips.retain(|&w| w >= low && (loops || w != u));
-            tips.sort_unstable();
-            tips.dedup();
+            tips.retain(|&w| loops || w != u);
+        } else if !loops {
+            tips.push(u);
+        }
+        tips.retain(|&w| w >= low);
+        tips.sort_unstable();
+        tips.dedup();
+        if copy {
             for &w in &tips {
                 made.insert(u, w, 1, directed)?;
             }
             continue;
         }
-        for (_, arc) in graph.walk(u, true) {
-            mark[arc.tip as usize] = u;
-        }
-        if !loops {
-            mark[u as usize] = u;
-        }
-        // The runs between marks.
+        // The runs between them.
         let mut start = low;
-        while start < n {
-            let run = mark[start as usize..].iter().take_while(|&&by| by != u).count() as u32;
-            made.arena.insert_run(u, start..start + run, 1, directed)?;
-            start += run + 1;
+        for &w in &tips {
+            made.arena.insert_run(u, start..w, 1, directed)?;
+            start = w + 1;
         }
+        made.arena.insert_run(u, start..n, 1, directed)?;
     }
     Ok(made)
 }
