@@ -149,7 +149,7 @@ impl Graph {
 pub(super) fn follows(first: ArcNo, second: ArcNo) -> bool
     ensures { result ≡ (first.0 + 1 == second.0) }
 {
-    second.0 > 0 && first.0 == second.0 - 1
+    u64::from(first.0) + 1 == u64::from(second.0)
 }
 
 // The arc leaves one vertex and leads to the other.
