@@ -1,8 +1,7 @@
 //! Machines whose commands can be taken back.
 
 ghost use Rattle.std.specs.Prelude.{◌≡◌, ◌<◌, ◌⊎◌, Bool, true, IfOk, IfErr, OnErr, vec_len, vec_capacity};
-ghost use Rattle.sgb_undo.specs.Outcome.{Outcome, Accepted, Refused};
-ghost use Rattle.sgb_undo.specs.Outcome.{Keeps};
+ghost use Rattle.sgb_undo.specs.Outcome.{Outcome, Accepted, Refused, Keeps};
 
 use std::alloc::AllocError;
 
