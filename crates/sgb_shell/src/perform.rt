@@ -14,22 +14,28 @@ use sgb_text::save;
 use sgb_undo::{Journal, JournalRefusal};
 use std::alloc::Global;
 
-/// Reads a line without a text, and does what it says. The lines of one word that take nothing are met first, without
-/// a look for words.
+/// Reads a line without a text, does what it says, and writes the answer where another stood. The lines of one word that
+/// take nothing are met first, without a look for words.
+// An answer is large: so it is written once, and not handed up from call to call.
 #[inline(always)]
-pub(crate) fn perform(alloc: Global, journal: &mut Journal<GroupedSession>, line: &[u8]) -> Answer
-    ensures { IsBegun journal.old → Does (by_line (line_of line.now)) journal.old journal.new result }
+pub(crate) fn perform(
+    alloc: Global,
+    journal: &mut Journal<GroupedSession>,
+    line: &[u8],
+    answer: &mut Answer,
+)
+    ensures { IsBegun journal.old → Does (by_line (line_of line.now)) journal.old journal.new answer.new }
 {
     if is_undo(line) {
-        undo(journal)
+        undo(journal, answer);
     } else if is_redo(line) {
-        redo(journal)
+        redo(journal, answer);
     } else if is_next(line) {
-        change(journal, GroupedCommand::One(Command::Next))
+        change(journal, GroupedCommand::One(Command::Next), answer);
     } else if is_gen(line) {
-        Answer::Generator
+        *answer = Answer::Generator;
     } else {
-        perform_words(alloc, journal, line)
+        perform_words(alloc, journal, line, answer);
     }
 }
 
@@ -59,54 +65,63 @@ fn is_gen(line: &[u8]) -> bool
 
 // Reads a line by its words, and does what it says.
 #[inline(never)]
-fn perform_words(alloc: Global, journal: &mut Journal<GroupedSession>, line: &[u8]) -> Answer
-    ensures { IsBegun journal.old → Does (by_line (line_of line.now)) journal.old journal.new result }
+fn perform_words(
+    alloc: Global,
+    journal: &mut Journal<GroupedSession>,
+    line: &[u8],
+    answer: &mut Answer,
+)
+    ensures { IsBegun journal.old → Does (by_line (line_of line.now)) journal.old journal.new answer.new }
 {
     match parse(alloc, line) {
-        Ok(Line::Nothing) => Answer::Silent,
-        Ok(Line::Change(command)) => change(journal, GroupedCommand::One(command)),
-        Ok(Line::Undo) => undo(journal),
-        Ok(Line::Redo) => redo(journal),
-        Ok(Line::Ask(query)) => ask(alloc, journal.machine().session(), query),
-        Ok(Line::Load(_, _)) => Answer::Refused(ShellRefusal::ScriptSyntax),
-        Ok(Line::Group) => Answer::Refused(ShellRefusal::ScriptSyntax),
-        Ok(Line::End) => Answer::Refused(ShellRefusal::ScriptSyntax),
-        Err(refusal) => Answer::Refused(refusal),
+        Ok(Line::Nothing) => *answer = Answer::Silent,
+        Ok(Line::Change(command)) => change(journal, GroupedCommand::One(command), answer),
+        Ok(Line::Undo) => undo(journal, answer),
+        Ok(Line::Redo) => redo(journal, answer),
+        Ok(Line::Ask(query)) => *answer = ask(alloc, journal.machine().session(), query),
+        Ok(Line::Load(_, _)) => *answer = Answer::Refused(ShellRefusal::ScriptSyntax),
+        Ok(Line::Group) => *answer = Answer::Refused(ShellRefusal::ScriptSyntax),
+        Ok(Line::End) => *answer = Answer::Refused(ShellRefusal::ScriptSyntax),
+        Err(refusal) => *answer = Answer::Refused(refusal),
     }
 }
 
 /// Performs a command, or a group.
 #[inline(always)]
-pub(crate) fn change(journal: &mut Journal<GroupedSession>, command: GroupedCommand) -> Answer
-    ensures { IsBegun journal.old → Does (by_command command) journal.old journal.new result }
+pub(crate) fn change(
+    journal: &mut Journal<GroupedSession>,
+    command: GroupedCommand,
+    answer: &mut Answer,
+)
+    ensures { IsBegun journal.old → Does (by_command command) journal.old journal.new answer.new }
 {
     let outcome = journal.apply(command);
-    answer_to(outcome)
+    answer_to(outcome, answer);
 }
 
-fn undo(journal: &mut Journal<GroupedSession>) -> Answer
-    ensures { IsBegun journal.old → Does (by_line (Some Undo)) journal.old journal.new result }
+fn undo(journal: &mut Journal<GroupedSession>, answer: &mut Answer)
+    ensures { IsBegun journal.old → Does (by_line (Some Undo)) journal.old journal.new answer.new }
 {
     match journal.undo() {
-        Ok(()) => Answer::Undone,
-        Err(_) => Answer::Refused(ShellRefusal::NothingToUndo),
+        Ok(()) => *answer = Answer::Undone,
+        Err(_) => *answer = Answer::Refused(ShellRefusal::NothingToUndo),
     }
 }
 
-fn redo(journal: &mut Journal<GroupedSession>) -> Answer
-    ensures { IsBegun journal.old → Does (by_line (Some Redo)) journal.old journal.new result }
+fn redo(journal: &mut Journal<GroupedSession>, answer: &mut Answer)
+    ensures { IsBegun journal.old → Does (by_line (Some Redo)) journal.old journal.new answer.new }
 {
     let outcome = journal.redo();
-    answer_to(outcome)
+    answer_to(outcome, answer);
 }
 
 #[inline]
-fn answer_to(outcome: Result<GroupedReply, JournalRefusal<ShellRefusal>>) -> Answer
-    ensures { result ≡ answer_from outcome }
+fn answer_to(outcome: Result<GroupedReply, JournalRefusal<ShellRefusal>>, answer: &mut Answer)
+    ensures { answer.new ≡ answer_from outcome }
 {
     match outcome {
-        Ok(reply) => Answer::Replied(reply),
-        Err(refusal) => Answer::Refused(refusal_of(refusal)),
+        Ok(reply) => *answer = Answer::Replied(reply),
+        Err(refusal) => *answer = Answer::Refused(refusal_of(refusal)),
     }
 }
 

@@ -130,7 +130,8 @@ impl Shell {
     {
         let number = self.lines.saturating_add(1);
         self.lines = number;
-        let answer = perform(self.alloc, &mut self.journal, line);
+        let mut answer = Answer::Silent;
+        perform(self.alloc, &mut self.journal, line, &mut answer);
         let session = self.journal.machine().session();
         tell(writer, &mut self.refused, number, session, &answer)
     }
