@@ -58,6 +58,8 @@ pub(crate) struct Arena {
     // The fields of the first arcs: those of all others are Zero. There is room for those of all arcs, so that a
     // field can be set without memory.
     fields: Vec<[Util; 2]>,
+    // For how many slots there is room, and for the fields of each.
+    room: usize,
     // What all others have.
     zeros: [Util; 2],
 }
@@ -72,7 +74,7 @@ impl Model for Arena {
 
     ghost view = { λ a. zipped a.cells.items a.fields.items };
 
-    ghost invariant = { λ a. (vec_len a.fields ≤ vec_len a.cells) × (vec_len a.cells ≤ vec_capacity a.fields) × (a.zeros ≡ two_zeros) };
+    ghost invariant = { λ a. (vec_len a.fields ≤ vec_len a.cells) × (vec_len a.cells ≤ a.room) × (a.room ≤ vec_capacity a.cells) × (a.room ≤ vec_capacity a.fields) × (a.zeros ≡ two_zeros) };
 }
 
 impl Arena {
@@ -83,6 +85,7 @@ impl Arena {
         Arena {
             cells: Vec::new(alloc),
             fields: Vec::new(alloc),
+            room: 0,
             zeros: two_zeros(),
         }
     }
@@ -98,7 +101,7 @@ impl Arena {
     pub fn reserve(&mut self, count: usize) -> Result<(), AllocError>
         ensures { self.new ≡ self.old }
     {
-        make_room(&mut self.cells, &mut self.fields, count)
+        make_room(&mut self.cells, &mut self.fields, &mut self.room, count)
     }
 
     /// Adds a hole, last.
@@ -106,7 +109,7 @@ impl Arena {
         ensures ok { OnOk result (self.new ≡ self.old ++ None ∷ []) }
         ensures unchanged { OnErr result (self.new ≡ self.old) }
     {
-        make_room(&mut self.cells, &mut self.fields, 1)?;
+        make_room(&mut self.cells, &mut self.fields, &mut self.room, 1)?;
         self.cells.push_reserved(hole());
         Ok(())
     }
@@ -125,7 +128,7 @@ impl Arena {
         ensures ok { OnOk result (self.new ≡ self.old ++ Some (new_slot from to next len) ∷ []) }
         ensures unchanged { OnErr result (self.new ≡ self.old) }
     {
-        make_room(&mut self.cells, &mut self.fields, 1)?;
+        make_room(&mut self.cells, &mut self.fields, &mut self.room, 1)?;
         self.cells.push_reserved(new_cell(from, to, next, len));
         Ok(())
     }
@@ -145,7 +148,7 @@ impl Arena {
         ensures ok { OnOk result (self.new ≡ self.old ++ Some (new_slot low high after_low len) ∷ [] ++ Some (new_slot high low after_high len) ∷ []) }
         ensures unchanged { OnErr result (self.new ≡ self.old) }
     {
-        make_room(&mut self.cells, &mut self.fields, 2)?;
+        make_room(&mut self.cells, &mut self.fields, &mut self.room, 2)?;
         self.cells
             .push_reserved(new_cell(low, high, after_low, len));
         self.cells
@@ -172,7 +175,7 @@ impl Arena {
         ensures unchanged { OnErr result (self.new ≡ self.old) }
     {
         let count = end.saturating_sub(first);
-        make_room(&mut self.cells, &mut self.fields, count as usize)?;
+        make_room(&mut self.cells, &mut self.fields, &mut self.room, count as usize)?;
         Ok(push_row(&mut self.cells, from, first, end, next, len))
     }
 
@@ -545,45 +548,52 @@ fn push_row(
     link
 }
 
-// Takes room for so many slots more, or vertices, and for the fields of all.
+// Takes room for so many slots more, and for the fields of all.
 #[inline]
-pub(super) fn make_room<T, F: Drop>(
-    cells: &mut Vec<T>,
-    fields: &mut Vec<F>,
+fn make_room(
+    cells: &mut Vec<Cell>,
+    fields: &mut Vec<[Util; 2]>,
+    room: &mut usize,
     count: usize,
 ) -> Result<(), AllocError>
-    requires len { vec_len fields.old ≤ vec_len cells.old }
-    requires room { vec_len cells.old ≤ vec_capacity fields.old }
+    requires few { vec_len fields.old ≤ vec_len cells.old }
+    requires len { vec_len cells.old ≤ room.old }
+    requires cells_room { room.old ≤ vec_capacity cells.old }
+    requires fields_room { room.old ≤ vec_capacity fields.old }
     ensures cells { cells.new.items ≡ cells.old.items }
     ensures cells_len { vec_len cells.new ≡ vec_len cells.old }
     ensures fields { fields.new.items ≡ fields.old.items }
     ensures fields_len { vec_len fields.new ≡ vec_len fields.old }
-    ensures cells_room { OnOk result (vec_len cells.new + count ≤ vec_capacity cells.new) }
-    ensures fields_room { OnOk result (vec_len cells.new + count ≤ vec_capacity fields.new) }
-    ensures capacity { vec_capacity fields.old ≤ vec_capacity fields.new }
+    ensures room { OnOk result (vec_len cells.new + count ≤ room.new) }
+    ensures len { vec_len cells.new ≤ room.new }
+    ensures cells_room { room.new ≤ vec_capacity cells.new }
+    ensures fields_room { room.new ≤ vec_capacity fields.new }
 {
-    if cells.capacity().min(fields.capacity()) - cells.len() >= count {
+    if *room - cells.len() >= count {
         return Ok(());
     }
-    grow_room(cells, fields, count)
+    *room = grow_room(cells, fields, count)?;
+    Ok(())
 }
 
-// Takes more memory for so many slots or vertices more, and for the fields of all.
+// Takes more memory for so many slots or vertices more, and for the fields of all. Answers for how many there is room.
 #[cold]
 #[inline(never)]
-fn grow_room<T, F: Drop>(
+pub(super) fn grow_room<T, F: Drop>(
     cells: &mut Vec<T>,
     fields: &mut Vec<F>,
     count: usize,
-) -> Result<(), AllocError>
+) -> Result<usize, AllocError>
     requires { vec_len fields.old ≤ vec_len cells.old }
     ensures cells { cells.new.items ≡ cells.old.items }
     ensures cells_len { vec_len cells.new ≡ vec_len cells.old }
     ensures fields { fields.new.items ≡ fields.old.items }
     ensures fields_len { vec_len fields.new ≡ vec_len fields.old }
-    ensures cells_room { OnOk result (vec_len cells.new + count ≤ vec_capacity cells.new) }
-    ensures fields_room { OnOk result (vec_len cells.new + count ≤ vec_capacity fields.new) }
-    ensures capacity { vec_capacity fields.old ≤ vec_capacity fields.new }
+    ensures room { IfOk result (λ room. vec_len cells.new + count ≤ room) }
+    ensures cells_room { IfOk result (λ room. room ≤ vec_capacity cells.new) }
+    ensures fields_room { IfOk result (λ room. room ≤ vec_capacity fields.new) }
+    ensures cells_capacity { vec_capacity cells.old ≤ vec_capacity cells.new }
+    ensures fields_capacity { vec_capacity fields.old ≤ vec_capacity fields.new }
 {
     cells.reserve(count)?;
     let room = room_for_fields(cells.capacity());
@@ -591,7 +601,8 @@ fn grow_room<T, F: Drop>(
         // Where no field was ever set there is nothing to move, and the room stays untouched.
         *fields = Vec::with_capacity(*fields.allocator(), room)?;
     }
-    fields.reserve(cells.capacity() - fields.len())
+    fields.reserve(cells.capacity() - fields.len())?;
+    Ok(cells.capacity())
 }
 
 // For how many slots or vertices there is to be room for fields where there is room for so many slots or vertices. A

@@ -9,7 +9,7 @@ ghost use Rattle.sgb_graph.specs.Private.Link.{vertex_in};
 ghost use Rattle.sgb_graph.specs.Private.SameRows.{each_eq, row_eq};
 ghost use Rattle.sgb_graph.specs.Private.Vertices.{values_at, SameValues, PutsValues, row, unlinked, with_first, with_name, with_value};
 
-use super::arena::{is_zero, make_room};
+use super::arena::{grow_room, is_zero};
 use super::codes::Link;
 use super::honest::are_allowed;
 use super::new::six_zeros;
@@ -28,6 +28,8 @@ pub(crate) struct Vertices {
     // The fields of the first vertices: those of all others are Zero. There is room for those of all vertices, so
     // that a field can be set without memory.
     fields: Vec<[Util; 6]>,
+    // For how many vertices there is room, and for the fields of each.
+    room: usize,
     // What all others have.
     zeros: [Util; 6],
 }
@@ -43,7 +45,7 @@ impl Model for Vertices {
 
     ghost view = { λ a. rows a.labels.items (first_at a.firsts.items) (values_at a.fields.items) };
 
-    ghost invariant = { λ a. (vec_len a.firsts ≡ vec_len a.labels) × (vec_len a.fields ≤ vec_len a.labels) × (vec_len a.labels ≤ vec_capacity a.fields) × (a.zeros ≡ six_zeros) };
+    ghost invariant = { λ a. (vec_len a.firsts ≡ vec_len a.labels) × (vec_len a.fields ≤ vec_len a.labels) × (vec_len a.labels ≤ a.room) × (a.room ≤ vec_capacity a.labels) × (a.room ≤ vec_capacity a.firsts) × (a.room ≤ vec_capacity a.fields) × (a.zeros ≡ six_zeros) };
 }
 
 impl Vertices {
@@ -55,6 +57,7 @@ impl Vertices {
             labels: Vec::new(alloc),
             firsts: Vec::new(alloc),
             fields: Vec::new(alloc),
+            room: 0,
             zeros: six_zeros(),
         }
     }
@@ -67,13 +70,14 @@ impl Vertices {
         let mut firsts = Vec::with_capacity(alloc, n as usize)?;
         let fields = Vec::with_capacity(alloc, n as usize)?;
         for _i in 0..n {
-            labels.push(Label::empty())?;
-            firsts.push(Link::none())?;
+            labels.push_reserved(Label::empty());
+            firsts.push_reserved(Link::none());
         }
         Ok(Vertices {
             labels,
             firsts,
             fields,
+            room: n as usize,
             zeros: six_zeros(),
         })
     }
@@ -90,8 +94,13 @@ impl Vertices {
     pub fn reserve(&mut self, count: usize) -> Result<(), AllocError>
         ensures { self.new ≡ self.old }
     {
-        make_room(&mut self.labels, &mut self.fields, count)?;
-        self.firsts.reserve(count)
+        make_room(
+            &mut self.labels,
+            &mut self.firsts,
+            &mut self.fields,
+            &mut self.room,
+            count,
+        )
     }
 
     /// Adds a vertex without arcs, last.
@@ -100,8 +109,13 @@ impl Vertices {
         ensures ok { OnOk result (self.new ≡ self.old ++ unlinked label fields ∷ []) }
         ensures unchanged { OnErr result (self.new ≡ self.old) }
     {
-        make_room(&mut self.labels, &mut self.fields, 1)?;
-        self.firsts.reserve(1)?;
+        make_room(
+            &mut self.labels,
+            &mut self.firsts,
+            &mut self.fields,
+            &mut self.room,
+            1,
+        )?;
         put_last(&mut self.fields, self.labels.len(), fields);
         self.labels.push_reserved(label);
         self.firsts.push_reserved(Link::none());
@@ -114,8 +128,13 @@ impl Vertices {
         ensures ok { OnOk result (self.new ≡ self.old ++ unlinked label six_zeros ∷ []) }
         ensures unchanged { OnErr result (self.new ≡ self.old) }
     {
-        make_room(&mut self.labels, &mut self.fields, 1)?;
-        self.firsts.reserve(1)?;
+        make_room(
+            &mut self.labels,
+            &mut self.firsts,
+            &mut self.fields,
+            &mut self.room,
+            1,
+        )?;
         self.labels.push_reserved(label);
         self.firsts.push_reserved(Link::none());
         Ok(())
@@ -232,6 +251,42 @@ impl Vertices {
             other.firsts[index],
         )
     }
+}
+
+// Takes room for so many vertices more, for the first link of each, and for the fields of all.
+#[inline]
+fn make_room(
+    labels: &mut Vec<Label>,
+    firsts: &mut Vec<Link>,
+    fields: &mut Vec<[Util; 6]>,
+    room: &mut usize,
+    count: usize,
+) -> Result<(), AllocError>
+    requires few { vec_len fields.old ≤ vec_len labels.old }
+    requires len { vec_len labels.old ≤ room.old }
+    requires firsts { vec_len firsts.old ≡ vec_len labels.old }
+    requires labels_room { room.old ≤ vec_capacity labels.old }
+    requires firsts_room { room.old ≤ vec_capacity firsts.old }
+    requires fields_room { room.old ≤ vec_capacity fields.old }
+    ensures labels { labels.new.items ≡ labels.old.items }
+    ensures labels_len { vec_len labels.new ≡ vec_len labels.old }
+    ensures firsts { firsts.new.items ≡ firsts.old.items }
+    ensures firsts_len { vec_len firsts.new ≡ vec_len firsts.old }
+    ensures fields { fields.new.items ≡ fields.old.items }
+    ensures fields_len { vec_len fields.new ≡ vec_len fields.old }
+    ensures room { OnOk result (vec_len labels.new + count ≤ room.new) }
+    ensures len { vec_len labels.new ≤ room.new }
+    ensures labels_room { room.new ≤ vec_capacity labels.new }
+    ensures firsts_room { room.new ≤ vec_capacity firsts.new }
+    ensures fields_room { room.new ≤ vec_capacity fields.new }
+{
+    if *room - labels.len() >= count {
+        return Ok(());
+    }
+    let more = grow_room(labels, fields, count)?;
+    firsts.reserve(more - firsts.len())?;
+    *room = more;
+    Ok(())
 }
 
 fn is_row_same(
