@@ -1,0 +1,23 @@
+use Rattle.std.proofs.Common.{length, arith, false}
+use Rattle.std.proofs.lemmas.Result.{err_from_is_err_and}
+use Rattle.sgb_graph.proofs.Inserting.{from_start, from_some, from_refused, from_end, from_n}
+use Rattle.sgb_make.specs.Private.Link.{trip_from, trips}
+use Rattle.sgb_make.proofs.ride.insert_steps.Goals as goal
+
+pub loop-from-init : goal.loop-from-init
+unfolding trips
+loop-from-init c = from_start c.args.builder.now (trip_from c.args.table.now false) (length c.args.table.now)
+
+pub insert_step-requires-clause-count : goal.insert_step-requires-clause-count
+insert_step-requires-clause-count c = omega (arith, from_n c.loop-from.invariant)
+
+pub returns-in_err-insert_step : goal.returns-in_err-insert_step
+returns-in_err-insert_step c =
+    let p = err_from_is_err_and c.from_residual.result c.from_residual.ensures.1 in
+    rw (p.1, p.2) (from_refused (omega arith) c.loop-from.invariant c.in_err-insert_step.ensures)
+
+pub loop-from-preserved : goal.loop-from-preserved
+loop-from-preserved c = from_some (omega arith) c.loop-from.invariant c.in_ok-insert_step.ensures
+
+pub returns : goal.returns
+returns c = from_end (omega arith) c.loop-from.invariant
