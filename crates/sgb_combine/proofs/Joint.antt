@@ -3,10 +3,10 @@ use Rattle.std.proofs.Common.{◌≡◌, ℕ, List, [], ◌∷◌, ◌++◌, map
 use Rattle.std.specs.List.{flat_map, filter, list_all}
 use Rattle.std.proofs.lemmas.Bool.{cases_Bool, and_parts}
 use Rattle.sgb_graph.specs.Graph.{GraphOf}
-use Rattle.sgb_graph.specs.Builder.{Insertion}
-use Rattle.sgb_operand.specs.declared.spoke.Spoke.{Spoke}
+use Rattle.sgb_graph.specs.Builder.{along, Insertion}
+use Rattle.sgb_graph.specs.declared.spoke.Spoke.{Spoke}
 use Rattle.sgb_operand.specs.Operand.{spokes}
-use Rattle.sgb_combine.specs.Combined.{is_upward, along}
+use Rattle.sgb_combine.specs.Combined.{is_upward}
 use Rattle.sgb_combine.specs.Intersection.{firsts, longer, leading_to, joints, intersection_at}
 use Rattle.sgb_combine.specs.Lowest.{lowest, add_or_lower}
 use Rattle.sgb_combine.proofs.Joined.{leading-lowest}

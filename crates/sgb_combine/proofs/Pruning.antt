@@ -4,12 +4,11 @@ use Rattle.std.specs.List.{flat_map}
 use Rattle.std.proofs.lemmas.List.{map-append}
 use Rattle.sgb_graph.specs.declared.builder.Builder.{Builder}
 use Rattle.sgb_graph.specs.declared.refusal.Refusal.{Refusal}
-use Rattle.sgb_graph.specs.Builder.{Insertion, grown}
+use Rattle.sgb_graph.specs.Builder.{along, Insertion, grown}
 use Rattle.sgb_graph.proofs.Growing.{grown-nil, too_many-append}
 use Rattle.sgb_graph.proofs.Inserting.{RefusesInsertions}
-use Rattle.sgb_operand.specs.declared.spoke.Spoke.{Spoke}
+use Rattle.sgb_graph.specs.declared.spoke.Spoke.{Spoke}
 use Rattle.sgb_combine.specs.declared.spec.ProductSpec.{ProductSpec}
-use Rattle.sgb_combine.specs.Combined.{along}
 use Rattle.sgb_combine.specs.Product.{has_single, has_double, pair_number}
 use Rattle.sgb_combine.specs.Private.Pruned.{scaled, double_steps, inner, outer, singles, doubles, doubles_over, pruned}
 

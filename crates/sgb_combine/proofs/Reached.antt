@@ -1,12 +1,13 @@
 -- Lemmas on the spokes of vertices that a graph may lack, and on those that lead below a number.
 use Rattle.std.proofs.Common.{◌≡◌, ◌<◌, ◌≤◌, ℕ, pos, List, [], ◌++◌, get_or, map, Bool, true, false, All, sym, ap, subst, arith}
+use Rattle.std.specs.List.{filter}
 use Rattle.std.proofs.lemmas.Bool.{and_parts, ltb-true}
 use Rattle.std.proofs.lemmas.List.Elements.{filter_passes}
 use Rattle.sgb_graph.specs.Graph.{GraphOf, n_of}
 use Rattle.sgb_graph.specs.Edit.{entry_at}
 use Rattle.sgb_graph.specs.Paired.{walk, without_halves}
 use Rattle.sgb_graph.proofs.Graphs.{no_arcs_past}
-use Rattle.sgb_operand.specs.declared.spoke.Spoke.{Spoke}
+use Rattle.sgb_graph.specs.declared.spoke.Spoke.{Spoke}
 use Rattle.sgb_operand.specs.Operand.{spokes, spoke_of, IsWithin}
 use Rattle.sgb_combine.specs.Gunion.{candidates, is_candidate}
 
@@ -30,11 +31,13 @@ pub spokes_past : (directed : Bool) (g : GraphOf) (v : ℕ) → n_of g ≤ v →
 unfolding spokes
 spokes_past directed g v past = ap (map (λ k. spoke_of (entry_at g k))) (walk_past directed g v past)
 
+-- what a test of candidates passes
+pub passed_within : (directed : Bool) (n v : ℕ) (ss : List Spoke) → All (IsWithin n) (filter (is_candidate directed n v) ss)
+passed_within directed n v ss k d low = ltb-true _ n (and_parts _ _ (filter_passes (is_candidate directed n v) ss k d low)).0
+
 pub candidates_within : (directed : Bool) (g h : GraphOf) (v : ℕ) → All (IsWithin (n_of g)) (candidates directed g h v)
 unfolding candidates
-candidates_within directed g h v k d low =
-    let all = spokes directed g v ++ spokes directed h v in
-    ltb-true _ (n_of g) (and_parts _ _ (filter_passes (is_candidate directed (n_of g) v) all k d low)).0
+candidates_within directed g h v = passed_within directed (n_of g) v (spokes directed g v ++ spokes directed h v)
 
 -- a number below the count of a graph that is another's
 pub below_n : {w n : ℕ} {g h : GraphOf} → w < n → n ≡ n_of g → g ≡ h → w < n_of h

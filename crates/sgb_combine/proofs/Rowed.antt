@@ -6,7 +6,7 @@ use Rattle.std.proofs.lemmas.Bool.{cases_lt}
 use Rattle.std.proofs.lemmas.List.{length-append, length-drop, get_or_append_left, drop-append-le, take-append-le, take_all}
 use Rattle.std.proofs.lemmas.List.Elements.{All-filter}
 use Rattle.sgb_graph.specs.Graph.{GraphOf, IsGraph, n_of}
-use Rattle.sgb_operand.specs.declared.spoke.Spoke.{Spoke}
+use Rattle.sgb_graph.specs.declared.spoke.Spoke.{Spoke}
 use Rattle.sgb_operand.specs.Operand.{spokes, IsWithin}
 use Rattle.sgb_operand.proofs.Spokes.{spokes_within}
 use Rattle.sgb_combine.specs.declared.spec.ProductSpec.{ProductSpec}

@@ -8,7 +8,7 @@ use Rattle.sgb_graph.specs.declared.builder.Builder.{Builder}
 use Rattle.sgb_graph.specs.declared.refusal.Refusal.{Refusal}
 use Rattle.sgb_graph.specs.Builder.{Insertion, row}
 use Rattle.sgb_graph.proofs.Inserting.{RefusesInsertions, LeftFrom, from_start_at, left_refused, left_start, map-filter}
-use Rattle.sgb_operand.specs.declared.spoke.Spoke.{Spoke}
+use Rattle.sgb_graph.specs.declared.spoke.Spoke.{Spoke}
 use Rattle.sgb_combine.specs.declared.spec.ComplementSpec.{ComplementSpec}
 use Rattle.sgb_combine.specs.Complement.{leads_to, unit_step, wanted_steps}
 use Rattle.sgb_combine.specs.Private.Missing.{first_asked, next_asked, steps_between}

@@ -1,9 +1,9 @@
 -- Lemmas on unions.
 use Rattle.std.proofs.Common.{◌≡◌, ℕ, List, map, true, false, sym, ap, ◌∙◌}
 use Rattle.sgb_graph.specs.Graph.{GraphOf}
-use Rattle.sgb_operand.specs.declared.spoke.Spoke.{Spoke}
+use Rattle.sgb_graph.specs.declared.spoke.Spoke.{Spoke}
 use Rattle.sgb_combine.specs.declared.spec.GunionSpec.{GunionSpec}
-use Rattle.sgb_combine.specs.Combined.{along}
+use Rattle.sgb_graph.specs.Builder.{along}
 use Rattle.sgb_combine.specs.Gunion.{candidates, run_of, union_at}
 use Rattle.sgb_combine.specs.Lowest.{lowest}
 

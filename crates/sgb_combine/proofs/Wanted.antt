@@ -7,7 +7,7 @@ use Rattle.std.proofs.lemmas.List.FromFn.{length-range_with_len, get_or-range_wi
 use Rattle.std.proofs.lemmas.List.Elements.{All-map, All-filter, filter-append}
 use Rattle.std.proofs.lemmas.Map.Views.{any-filter_same}
 use Rattle.sgb_induced.proofs.Ranges.{numbers_more}
-use Rattle.sgb_operand.specs.declared.spoke.Spoke.{Spoke}
+use Rattle.sgb_graph.specs.declared.spoke.Spoke.{Spoke}
 use Rattle.sgb_operand.specs.Operand.{IsWithin}
 use Rattle.sgb_combine.specs.declared.spec.ComplementSpec.{ComplementSpec}
 use Rattle.sgb_combine.specs.Complement.{leads_to, is_wanted, unit_step, wanted_steps}

@@ -5,7 +5,7 @@ use Rattle.sgb_graph.specs.declared.refusal.Refusal.{Refusal}
 use Rattle.sgb_graph.specs.Graph.{GraphOf, n_of, label_of}
 use Rattle.sgb_graph.specs.New.{six_zeros}
 use Rattle.sgb_graph.specs.Builder.{Insertion, insertion}
-use Rattle.sgb_operand.specs.declared.spoke.Spoke.{Spoke}
+use Rattle.sgb_graph.specs.declared.spoke.Spoke.{Spoke}
 use Rattle.sgb_operand.specs.Operand.{refusal_of_operand}
 use Rattle.sgb_plan.specs.Plan.{Named}
 
@@ -27,7 +27,3 @@ vertices_of g = map (named_as g) (range_with_len 0 (n_of g))
 -- edges are inserted from their smaller end on
 abbrev pub is_upward : Bool → ℕ → Spoke → Bool
 is_upward directed v s = directed || nat_le v s.to
-
--- from v to where the spoke leads, as long as it is
-abbrev pub along : ℕ → Spoke → Insertion
-along v s = insertion v s.to s.len

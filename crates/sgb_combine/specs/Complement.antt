@@ -4,7 +4,7 @@ use Rattle.std.specs.List.{flat_map, filter, list_any, range_with_len}
 use Rattle.sgb_graph.specs.declared.refusal.Refusal.{Refusal}
 use Rattle.sgb_graph.specs.Graph.{GraphOf, n_of}
 use Rattle.sgb_graph.specs.Builder.{Insertion, insertion}
-use Rattle.sgb_operand.specs.declared.spoke.Spoke.{Spoke}
+use Rattle.sgb_graph.specs.declared.spoke.Spoke.{Spoke}
 use Rattle.sgb_operand.specs.Operand.{refusal_of_operand, spokes}
 use Rattle.sgb_plan.specs.Id.{id_of_one, flag_text}
 use Rattle.sgb_plan.specs.Plan.{Plan, plan_unless, no_letters}

@@ -4,12 +4,12 @@ use Rattle.std.specs.List.{flat_map, filter, range_with_len}
 use Rattle.std.specs.Int.{int_max}
 use Rattle.sgb_graph.specs.declared.refusal.Refusal.{Refusal}
 use Rattle.sgb_graph.specs.Graph.{GraphOf, n_of}
-use Rattle.sgb_graph.specs.Builder.{Insertion}
-use Rattle.sgb_operand.specs.declared.spoke.Spoke.{Spoke}
+use Rattle.sgb_graph.specs.Builder.{along, Insertion}
+use Rattle.sgb_graph.specs.declared.spoke.Spoke.{Spoke}
 use Rattle.sgb_operand.specs.Operand.{spokes}
 use Rattle.sgb_plan.specs.Id.{id_of_two, flag_text}
 use Rattle.sgb_plan.specs.Plan.{Plan, plan_unless, no_letters}
-use Rattle.sgb_combine.specs.Combined.{refusal_of_operands, vertices_of, is_upward, along}
+use Rattle.sgb_combine.specs.Combined.{refusal_of_operands, vertices_of, is_upward}
 use Rattle.sgb_combine.specs.Lowest.{lowest}
 
 -- for each vertex to which v is joined, the first and least arc, where edges are not looked at from their larger end

@@ -1,7 +1,7 @@
 -- Spokes to distinct vertices: of those to the same vertex the first, with the least of their lengths.
 use Rattle.std.specs.Prelude.{ℕ, ℤ, List, [], ◌∷◌, fold, Option, Some, None, ◌==◌, if◌then◌else◌}
 use Rattle.std.specs.Int.{int_min}
-use Rattle.sgb_operand.specs.declared.spoke.Spoke.{Spoke}
+use Rattle.sgb_graph.specs.declared.spoke.Spoke.{Spoke}
 
 -- the spoke, with the other's length where that is less
 abbrev pub lowered : Spoke → Spoke → Spoke

@@ -9,13 +9,13 @@ use Rattle.sgb_graph.specs.declared.refusal.Refusal.TheVariants.{BadSpecs, BadOp
 use Rattle.sgb_graph.specs.Graph.{GraphOf, n_of, label_of}
 use Rattle.sgb_graph.specs.New.{six_zeros}
 use Rattle.sgb_graph.specs.Edit.{refusal_unless}
-use Rattle.sgb_graph.specs.Builder.{Insertion}
-use Rattle.sgb_operand.specs.declared.spoke.Spoke.{Spoke}
+use Rattle.sgb_graph.specs.Builder.{along, Insertion}
+use Rattle.sgb_graph.specs.declared.spoke.Spoke.{Spoke}
 use Rattle.sgb_operand.specs.Operand.{spokes}
 use Rattle.sgb_plan.specs.Id.{id_of_two, flag_text}
 use Rattle.sgb_plan.specs.Plan.{Named, Plan, plan_unless, no_letters}
 use Rattle.sgb_combine.specs.declared.spec.ProductSpec.{ProductSpec}
-use Rattle.sgb_combine.specs.Combined.{first_refusal, refusal_of_operands, is_upward, along}
+use Rattle.sgb_combine.specs.Combined.{first_refusal, refusal_of_operands, is_upward}
 
 -- 0 is the cartesian product, 1 the direct one, 2 the strong one, which has the arcs of both
 abbrev pub is_kind : ℤ → Bool

@@ -96,7 +96,7 @@ fn hold_both(
 }
 
 // Adds what is sought of the arcs that are left of a list.
-fn hold_rest(
+pub(crate) fn hold_rest(
     into: &mut Vec<Spoke>,
     graph: &Graph,
     numbers: Walk<'_>,
@@ -114,7 +114,7 @@ fn hold_rest(
 
 // Adds the spoke of the next arc of a list, if there is one and its spoke is sought.
 #[inline(always)]
-fn hold_next(
+pub(crate) fn hold_next(
     into: &mut Vec<Spoke>,
     graph: &Graph,
     numbers: &mut Walk<'_>,

@@ -1,7 +1,7 @@
 //! Laws of combinations. Each function does nothing: its clauses are the law.
 ghost use Rattle.std.specs.Prelude.{◌≡◌, ◌≢◌, ℕ, List, [], ◌∷◌, ◌++◌, map, if◌then◌else◌};
 ghost use Rattle.std.specs.List.{AllPairs};
-ghost use Rattle.sgb_operand.specs.declared.spoke.Spoke.{Spoke};
+ghost use Rattle.sgb_graph.specs.declared.spoke.Spoke.{Spoke};
 ghost use Rattle.sgb_combine.specs.Complement.{leads_to};
 ghost use Rattle.sgb_combine.specs.Lowest.{lowest, least_to};
 

@@ -101,7 +101,7 @@ fn meet_both(
 }
 
 // Adds what is sought of the arcs that are left of a list.
-fn meet_rest(into: &mut Lowest, graph: &Graph, numbers: Walk<'_>, sought: Sought)
+pub(crate) fn meet_rest(into: &mut Lowest, graph: &Graph, numbers: Walk<'_>, sought: Sought)
     requires live { All (λ k. IsSome (arc_at graph.now k)) numbers }
     requires width { length into.old.places.items ≡ sought.n }
     ensures spokes { into.new.spokes.items ≡ fold add_or_lower into.old.spokes.items
@@ -131,7 +131,7 @@ fn meet_next(into: &mut Lowest, graph: &Graph, numbers: &mut Walk<'_>, sought: S
 
 // Adds the spoke of an arc, if it is sought.
 #[inline(always)]
-fn meet(into: &mut Lowest, graph: &Graph, number: ArcNo, sought: Sought)
+pub(crate) fn meet(into: &mut Lowest, graph: &Graph, number: ArcNo, sought: Sought)
     requires live { IsSome (arc_at graph.now number.0) }
     requires width { length into.old.places.items ≡ sought.n }
     ensures spokes { into.new.spokes.items ≡ fold add_or_lower into.old.spokes.items

@@ -2,9 +2,8 @@
 ghost use Rattle.std.specs.Prelude.{◌≡◌, ◌≤◌, ◌<◌, ◌+◌, ◌*◌, ◌^◌, length, map, All, OnOk, true};
 ghost use Rattle.std.specs.List.{flat_map, filter, range_with_len};
 ghost use Rattle.sgb_graph.specs.Graph.{n_of};
-ghost use Rattle.sgb_graph.specs.Builder.{Inserts};
+ghost use Rattle.sgb_graph.specs.Builder.{along, Inserts};
 ghost use Rattle.sgb_operand.specs.Operand.{IsWithin};
-ghost use Rattle.sgb_combine.specs.Combined.{along};
 ghost use Rattle.sgb_combine.specs.Product.{has_single, has_double, pair_number, product_at};
 ghost use Rattle.sgb_combine.specs.Private.Rows.{AreRows, row_of};
 ghost use Rattle.sgb_combine.specs.Private.Pruned.{IsRowWithin, is_above, scaled, double, double_steps, inner, outer, singles, doubles, doubles_over, pruned, pruned_at};

@@ -1,19 +1,20 @@
 //! Unions.
-ghost use Rattle.std.specs.Prelude.{◌≡◌, ◌<◌, length, OnOk};
-ghost use Rattle.std.specs.List.{flat_map, range_with_len};
+ghost use Rattle.std.specs.Prelude.{◌≡◌, ◌<◌, ◌++◌, length, fold, OnOk};
+ghost use Rattle.std.specs.List.{filter, flat_map, range_with_len};
 ghost use Rattle.sgb_graph.specs.Graph.{n_of};
 ghost use Rattle.sgb_graph.specs.Builder.{Inserts};
+ghost use Rattle.sgb_operand.specs.Operand.{spokes};
 ghost use Rattle.sgb_plan.specs.Plan.{IsMade};
-ghost use Rattle.sgb_combine.specs.Gunion.{candidates, union_at, plan_of_gunion};
-ghost use Rattle.sgb_combine.specs.Lowest.{lowest};
+ghost use Rattle.sgb_combine.specs.Gunion.{candidates, is_candidate, union_at, plan_of_gunion};
+ghost use Rattle.sgb_combine.specs.Lowest.{add_or_lower, lowest};
 
 use crate::GunionSpec;
 use crate::begin::{begin_as, room_of};
-use crate::both::{Both, Sought};
-use crate::met::Met;
-use crate::run::insert_spokes;
+use crate::both::{Both, Sought, hold_next, hold_rest};
+use crate::lowest::Lowest;
+use crate::met::{meet, meet_rest};
 use sgb_graph::{Builder, Graph, Refusal, VertexNo};
-use sgb_operand::check_operand;
+use sgb_operand::{Spoke, check_operand};
 use sgb_plan::{Part, id_of_two};
 use std::alloc::{AllocError, Global};
 
@@ -64,7 +65,7 @@ fn insert_unions(
     ensures { Inserts builder.old builder.new
         (flat_map (union_at spec first.now second.now) (range_with_len 0 (n_of first.now))) result }
 {
-    let mut met = Met::new(alloc, first.n(), first.n())?;
+    let mut met = Lowest::new(alloc, first.n())?;
     let mut both = Both::new(alloc);
     for v in 0..first.n() {
         insert_union(
@@ -83,7 +84,7 @@ fn insert_unions(
 // Inserts along the candidates of a vertex, or along the lowest of them.
 fn insert_union(
     builder: &mut Builder,
-    met: &mut Met,
+    met: &mut Lowest,
     both: &mut Both,
     first: &Graph,
     second: &Graph,
@@ -92,18 +93,16 @@ fn insert_union(
 ) -> Result<(), Refusal>
     requires n { n_of builder.old.graph ≡ n_of first.now }
     requires vertex { vertex.0 < n_of first.now }
-    requires mine { length met.old.mine.places.items ≡ n_of first.now }
-    requires theirs { length met.old.theirs.places.items ≡ n_of first.now }
+    requires width { length met.old.places.items ≡ n_of first.now }
     ensures inserts { Inserts builder.old builder.new (union_at spec first.now second.now vertex.0) result }
-    ensures mine { length met.new.mine.places.items ≡ length met.old.mine.places.items }
-    ensures theirs { length met.new.theirs.places.items ≡ length met.old.theirs.places.items }
+    ensures width { length met.new.places.items ≡ length met.old.places.items }
 {
     if spec.multi {
         read_candidates(both, first, second, vertex, spec.directed)?;
-        return insert_spokes(builder, vertex, &both.mine);
+        return builder.insert_along(vertex, &both.mine);
     }
-    read_lowest(met, first, second, vertex, spec.directed);
-    insert_spokes(builder, vertex, met.mine.spokes())
+    read_lowest(met, both, first, second, vertex, spec.directed)?;
+    builder.insert_along(vertex, met.spokes())
 }
 
 // What is sought of the lists of a vertex.
@@ -135,16 +134,56 @@ fn read_candidates(
     Ok(())
 }
 
-// Reads the lowest of the candidates of a vertex: of each graph by itself, and then of both.
-fn read_lowest(met: &mut Met, first: &Graph, second: &Graph, vertex: VertexNo, directed: bool)
+// Reads the lowest of the candidates of a vertex: those of the first graph at once, and behind them those of the second,
+// which wait in a buffer.
+fn read_lowest(
+    met: &mut Lowest,
+    both: &mut Both,
+    first: &Graph,
+    second: &Graph,
+    vertex: VertexNo,
+    directed: bool,
+) -> Result<(), AllocError>
     requires vertex { vertex.0 < n_of first.now }
-    requires mine { length met.old.mine.places.items ≡ n_of first.now }
-    requires theirs { length met.old.theirs.places.items ≡ n_of first.now }
-    ensures lowest { met.new.mine.spokes.items ≡ lowest (candidates directed first.now second.now vertex.0) }
-    ensures mine { length met.new.mine.places.items ≡ length met.old.mine.places.items }
-    ensures theirs { length met.new.theirs.places.items ≡ length met.old.theirs.places.items }
+    requires width { length met.old.places.items ≡ n_of first.now }
+    ensures lowest { OnOk result (met.new.spokes.items ≡ lowest (candidates directed first.now second.now vertex.0)) }
+    ensures width { length met.new.places.items ≡ length met.old.places.items }
 {
     let sought = sought_of(first, vertex, directed);
-    met.read(first, second, sought, sought);
-    met.mine.add_all(met.theirs.spokes());
+    met.clear();
+    both.theirs.clear();
+    if vertex.0 >= second.n() {
+        meet_rest(met, first, first.walk(vertex, directed), sought);
+        return Ok(());
+    }
+    meet_and_hold(met, &mut both.theirs, first, second, sought)?;
+    met.add_all(&both.theirs);
+    Ok(())
+}
+
+// Adds what is sought in the first graph to the lowest, and writes what is sought in the second behind the others. The
+// lists are walked side by side, as in `both`.
+#[inline(always)]
+fn meet_and_hold(
+    met: &mut Lowest,
+    theirs: &mut Vec<Spoke>,
+    first: &Graph,
+    second: &Graph,
+    sought: Sought,
+) -> Result<(), AllocError>
+    requires first { sought.vertex.0 < n_of first.now }
+    requires second { sought.vertex.0 < n_of second.now }
+    requires width { length met.old.places.items ≡ sought.n }
+    ensures lowest { OnOk result (met.new.spokes.items ≡ fold add_or_lower met.old.spokes.items
+        (filter (is_candidate sought.directed sought.n sought.vertex.0) (spokes sought.halves first.now sought.vertex.0))) }
+    ensures theirs { OnOk result (theirs.new.items ≡ theirs.old.items ++
+        filter (is_candidate sought.directed sought.n sought.vertex.0) (spokes sought.halves second.now sought.vertex.0)) }
+    ensures width { length met.new.places.items ≡ length met.old.places.items }
+{
+    let mut others = second.walk(sought.vertex, sought.halves);
+    for number in first.walk(sought.vertex, sought.halves) {
+        meet(met, first, number, sought);
+        hold_next(theirs, second, &mut others, sought)?;
+    }
+    hold_rest(theirs, second, others, sought)
 }

@@ -16,6 +16,7 @@ pub mod Halves
 pub mod Holes
 pub mod HonestLemmas
 pub mod InsertLemmas
+pub mod Joining
 pub mod Inserting
 pub mod Laid
 pub mod Laws

@@ -1,5 +1,5 @@
 -- Lemmas on rows: insertions from one vertex to each of a run of vertices.
-use Rattle.std.proofs.Common.{◌≡◌, ◌<◌, ◌≤◌, ◌+◌, ◌-◌, ◌*◌, ℕ, zero, suc, ℤ, List, [], ◌∷◌, ◌++◌, length, map, take, set, Option, Some, None, true, refl, sym, ap, subst, ◌∙◌, arith, FitsSigned, ◌⊎◌, inl, inr, false, Result, Ok, Err, OnOk, IfErr}
+use Rattle.std.proofs.Common.{◌≡◌, ◌<◌, ◌≤◌, ◌+◌, ◌-◌, ◌*◌, Bool, ℕ, zero, suc, ℤ, List, [], ◌∷◌, ◌++◌, length, map, take, set, Option, Some, None, true, refl, sym, ap, subst, ◌∙◌, arith, FitsSigned, ◌⊎◌, inl, inr, false, Result, Ok, Err, OnOk, IfErr}
 use Rattle.std.specs.Int.{w64}
 use Rattle.std.specs.List.{range_with_len}
 use Rattle.std.proofs.lemmas.List.{append-nil, append_assoc, length_push, get_or-set_same, set-set, set-get_or}
@@ -16,7 +16,7 @@ use Rattle.sgb_graph.specs.declared.refusal.Refusal.TheVariants.{NoRoom, TooLarg
 use Rattle.sgb_graph.specs.Graph.{GraphOf, n_of, made_of}
 use Rattle.sgb_graph.specs.Edit.{with_arc}
 use Rattle.sgb_graph.specs.Field.{arc_no}
-use Rattle.sgb_graph.specs.Builder.{Insertion, insertion, inserted, with_all, grown, row, Inserts, IsTooMany, IsBegun}
+use Rattle.sgb_graph.specs.Builder.{Insertion, insertion, inserted, with_all, grown, row, Inserts, IsTooMany}
 use Rattle.sgb_graph.specs.Private.Arena.{Slots, IsArena, graph_of}
 use Rattle.sgb_graph.specs.Private.Cells.{two_zeros, slot_with, zipped, new_cell}
 use Rattle.sgb_graph.specs.Private.Insert.{new_cut, new_slot, row_cells, last_link}
@@ -27,111 +27,28 @@ use Rattle.sgb_graph.proofs.Pushing.{arc_pushed}
 use Rattle.sgb_graph.proofs.Shows.{Opened, closed, closed_arena}
 
 -- ---- the insertions
-pub row_more : (u first to : ℕ) (z : ℤ) → first ≤ to → row u first (to + 1) z ≡ row u first to z ++ insertion u to z ∷ []
-row_more u first to z low =
-    let f : ℕ → Insertion = λ w. insertion u w z in
-    let more : (to + 1) - first ≡ (to - first) + 1 = omega arith in
-    ap (λ n. map f (range_with_len first n)) more ∙ map-range_with_len_more f first (to - first) to (omega arith)
-
-pub row_take : (u first to end : ℕ) (z : ℤ) → to - first ≤ end - first → row u first to z ≡ take (to - first) (row u first end z)
-row_take u first to end z few = sym (take-map-range_with_len (λ w. insertion u w z) first (end - first) (to - first) few)
-
 pub length-row : (u first end : ℕ) (z : ℤ) → length (row u first end z) ≡ end - first
 length-row u first end z = length-map-range_with_len (λ w. insertion u w z) first (end - first)
 
--- how many numbers there are after a row
-pub made-row : (b : Builder) (u first end : ℕ) (z : ℤ) → made_of (grown b (row u first end z)).graph ≡ made_of b.graph + (end - first) * numbers_each b.directed
-made-row b u first end z =
-    made-grown b (row u first end z) ∙ ap (λ n. made_of b.graph + n * numbers_each b.directed) (length-row u first end z)
-
--- one number more for each insertion, or two
-made_arcs : (b : Builder) (u first end : ℕ) (z : ℤ) → b.directed ≡ true → made_of (grown b (row u first end z)).graph ≡ made_of b.graph + (end - first)
-made_arcs b u first end z arcs =
-    let each : (end - first) * numbers_each b.directed ≡ (end - first) * 1 = ap (λ d. (end - first) * numbers_each d) arcs in
-    omega (arith, made-row b u first end z, each)
-
-made_edges : (b : Builder) (u first end : ℕ) (z : ℤ) → b.directed ≡ false → made_of (grown b (row u first end z)).graph ≡ made_of b.graph + 2 * (end - first)
-made_edges b u first end z edges =
-    let each : (end - first) * numbers_each b.directed ≡ (end - first) * 2 = ap (λ d. (end - first) * numbers_each d) edges in
-    omega (arith, made-row b u first end z, each)
-
--- ---- a row of arcs
-row_inserts : (a : Builder) (h : GraphOf) (u first end : ℕ) (z : ℤ) (r : Result (Unit {0}) Refusal) → a.directed ≡ true
-    → OnOk r (h ≡ with_all true a.graph (row u first end z)) → IfErr r (λ e. (e ≡ NoRoom) ⊎ ((e ≡ TooLarge) × (1000000 < made_of a.graph + (end - first))))
-    → Inserts a (record { graph = h; directed = a.directed }) (row u first end z) r
+-- ---- what a builder answers
+pub all_inserted : (a : Builder) (h : GraphOf) (directed : Bool) (es : List Insertion) (made : ℕ) (r : Result (Unit {0}) Refusal) → a.directed ≡ directed → made ≡ made_of a.graph + length es * numbers_each directed
+    → OnOk r (h ≡ with_all directed a.graph es) → IfErr r (λ e. (e ≡ NoRoom) ⊎ ((e ≡ TooLarge) × (1000000 < made))) → Inserts a (record { graph = h; directed = a.directed }) es r
 unfolding grown
-row_inserts a h u first end z (Ok x) arcs made refused =
-    let es = row u first end z in
-    ap (λ g. record { graph = g; directed = a.directed }) (made ∙ ap (λ d. with_all d a.graph es) (sym arcs))
-row_inserts a h u first end z (Err e) arcs made refused =
+all_inserted a h directed es made (Ok x) is count done refused =
+    ap (λ g. record { graph = g; directed = a.directed }) (done ∙ ap (λ d. with_all d a.graph es) (sym is))
+all_inserted a h directed es made (Err e) is count done refused =
     elim refused [
       | inl room ↦ inl room
-      | inr large ↦ inr (large.0, omega (arith, large.1, made_arcs a u first end z arcs))
+      | inr large ↦ inr (
+        large.0,
+        (let each : length es * numbers_each a.directed ≡ length es * numbers_each directed = ap (λ d. length es * numbers_each d) is in omega (arith, large.1, count, each, made-grown a es)),
+      )
     ]
 
-pub row_inserted : (a : Builder) (h : GraphOf) (u first end : ℕ) (z y : ℤ) (r : Result (Unit {0}) Refusal) → a.directed ≡ true → y ≡ z
-    → OnOk r (h ≡ with_all true a.graph (row u first end y)) → IfErr r (λ e. (e ≡ NoRoom) ⊎ ((e ≡ TooLarge) × (1000000 < made_of a.graph + (end - first))))
-    → Inserts a (record { graph = h; directed = a.directed }) (row u first end z) r
-row_inserted a h u first end z y r arcs same made refused =
-    row_inserts a h u first end z r arcs (subst (λ x. OnOk r (h ≡ with_all true a.graph (row u first end x))) same made) refused
-
-pub row_room : (a : Builder) (u first end : ℕ) (z : ℤ) → a.directed ≡ true → made_of a.graph + (end - first) ≤ 1000000 → made_of (grown a (row u first end z)).graph ≤ 1000000
-row_room a u first end z arcs few = omega (arith, few, made_arcs a u first end z arcs)
-
--- where nothing changed, none of the insertions is made
-pub begun_none : (a b : Builder) (es : List Insertion) → b ≡ a → IsBegun a b es
-begun_none a b es same = (0, same ∙ sym (grown-nil a))
-
--- ---- a row of edges, of which those to the vertices below `to` are made
-pub record RowMade (a b : Builder) (u first to end : ℕ) (z : ℤ) : Type 0 where
-  pub done : b ≡ grown a (row u first to z)
-  pub few : to - first ≤ end - first
-
-pub made_start : (a : Builder) (u first end : ℕ) (z : ℤ) → RowMade a a u first first end z
-made_start a u first end z =
-    let none : first - first ≡ 0 = omega arith in
-    record {
-      done = sym (grown-nil a) ∙ ap (λ n. grown a (map (λ w. insertion u w z) (range_with_len first n))) (sym none);
-      few = omega (arith, none);
-    }
-
-pub made_more : (a b c : Builder) (u first to end : ℕ) (z : ℤ) → RowMade a b u first to end z → first ≤ to → to < end → c ≡ grown b (insertion u to z ∷ []) → RowMade a c u first (to + 1) end z
-made_more a b c u first to end z made low high more =
-    let e : List Insertion = insertion u to z ∷ [] in
-    record {
-      done =
-          more
-          ∙ (ap (λ d. grown d e) made.done
-          ∙ (sym (grown-append a (row u first to z) e) ∙ ap (grown a) (sym (row_more u first to z low))));
-      few = omega (arith, low, high);
-    }
-
-pub made_end : (a b : Builder) (u first to end : ℕ) (z : ℤ) → RowMade a b u first to end z → end ≤ to → b ≡ grown a (row u first end z)
-made_end a b u first to end z made past =
-    let all : to - first ≡ end - first = omega (arith, made.few, past) in
-    made.done ∙ ap (λ n. grown a (map (λ w. insertion u w z) (range_with_len first n))) all
-
-pub made_n : (a b : Builder) (u first to end : ℕ) (z : ℤ) → RowMade a b u first to end z → n_of b.graph ≡ n_of a.graph
-made_n a b u first to end z made = ap (λ (d : Builder). n_of d.graph) made.done ∙ n-grown a (row u first to z)
-
-pub made_begun : (a b c : Builder) (u first to end : ℕ) (z : ℤ) → RowMade a b u first to end z → c ≡ b → IsBegun a c (row u first end z)
-made_begun a b c u first to end z made same =
-    (to - first, same ∙ (made.done ∙ ap (grown a) (row_take u first to end z made.few)))
-
--- no edge of the row is one too many
-pub made_refused : (a b : Builder) (u first to end : ℕ) (z : ℤ) (e : Refusal) → RowMade a b u first to end z → a.directed ≡ false → made_of a.graph + 2 * (end - first) ≤ 1000000 → first ≤ to → to < end
-    → (e ≡ NoRoom) ⊎ ((e ≡ TooLarge) × IsTooMany b (insertion u to z ∷ [])) → e ≡ NoRoom
-made_refused a b u first to end z e made edges few low high (inl room) = room
-made_refused a b u first to end z e made edges few low high (inr large) =
-    let es : List Insertion = insertion u to z ∷ [] in
-    let same : made_of (grown b es).graph ≡ made_of (grown a (row u first (to + 1) z)).graph = ap (λ (d : Builder). made_of d.graph) (made_more a b (grown b es) u first to end z made low high refl).done in
-    absurd (omega (arith, large.1, same, made_edges a u first (to + 1) z edges, few))
-
-pub edges_room : (a : Builder) (u first end : ℕ) (z : ℤ) → a.directed ≡ false → made_of a.graph + 2 * (end - first) ≤ 1000000 → made_of (grown a (row u first end z)).graph ≤ 1000000
-edges_room a u first end z edges few = omega (arith, few, made_edges a u first end z edges)
-
-pub edges_too_many : (a : Builder) (u first end : ℕ) (z : ℤ) → a.directed ≡ false → 1000000 < made_of a.graph + 2 * (end - first) → IsTooMany a (row u first end z)
-edges_too_many a u first end z edges many = omega (arith, many, made_edges a u first end z edges)
+pub all_room : (a : Builder) (directed : Bool) (es : List Insertion) → a.directed ≡ directed → made_of a.graph + length es * numbers_each directed ≤ 1000000 → made_of (grown a es).graph ≤ 1000000
+all_room a directed es is few =
+    let each : length es * numbers_each a.directed ≡ length es * numbers_each directed = ap (λ d. length es * numbers_each d) is in
+    omega (arith, few, each, made-grown a es)
 
 -- ---- the cells
 pub cells_none : (cs : List Cell) (owner : VertexNo) (z : ℤ) (k to end : ℕ) (link : Option ArcNo) → end ≤ to → cs ++ row_cells owner z k to (end - to) link ≡ cs
@@ -216,7 +133,7 @@ relinked_twice vs u link next low =
     ∙ set-set vs u v (record v { first = next })
 
 -- the first arc of a row
-row_first : (a : Inside) (g : GraphOf) (u : VertexNo) (z : ℤ) (k to : ℕ) (link : Option ArcNo) → Opened a g → u.0 < n_of g → to < n_of g → made_of g < 1000000 → FitsSigned w64 z → k ≡ length a.slots → link ≡ (vertex_in a.vertices u.0).first
+pub row_first : (a : Inside) (g : GraphOf) (u : VertexNo) (z : ℤ) (k to : ℕ) (link : Option ArcNo) → Opened a g → u.0 < n_of g → to < n_of g → made_of g < 1000000 → FitsSigned w64 z → k ≡ length a.slots → link ≡ (vertex_in a.vertices u.0).first
     → Opened (record a { slots = a.slots ++ Some (new_slot u (record { 0 = to }) link z) ∷ []; vertices = vertices_relinked a.vertices u.0 None (Some (arc_no k)); live = a.live + 1 }) (with_arc g u.0 to z)
 row_first a g u z k to link opened from below few fits number is =
     let v : VertexNo = record { 0 = to } in

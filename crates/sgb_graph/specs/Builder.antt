@@ -1,9 +1,10 @@
 -- Graphs built by insertions.
-use Rattle.std.specs.Prelude.{◌≡◌, ◌⊎◌, ◌<◌, ◌-◌, ℕ, ℤ, List, Bool, true, false, map, take, fold, Result, Ok, Err}
+use Rattle.std.specs.Prelude.{◌≡◌, ◌⊎◌, ◌<◌, ◌-◌, ℕ, ℤ, List, Bool, true, false, map, fold, Result, Ok, Err}
 use Rattle.std.specs.List.{range_with_len}
 use Rattle.sgb_graph.specs.declared.builder.Builder.{Builder}
 use Rattle.sgb_graph.specs.declared.refusal.Refusal.{Refusal}
 use Rattle.sgb_graph.specs.declared.refusal.Refusal.TheVariants.{NoRoom, TooLarge}
+use Rattle.sgb_graph.specs.declared.spoke.Spoke.{Spoke}
 use Rattle.sgb_graph.specs.Graph.{GraphOf, made_of}
 use Rattle.sgb_graph.specs.Edit.{with_arc, with_edge}
 
@@ -19,6 +20,10 @@ insertion from to len = record { from = from; to = to; len = len }
 -- from one vertex to each of those from `first` up to, but not including, `end`, in that order
 abbrev pub row : ℕ → ℕ → ℕ → ℤ → List Insertion
 row from first end len = map (λ to. insertion from to len) (range_with_len first (end - first))
+
+-- from one vertex along a spoke
+abbrev pub along : ℕ → Spoke → Insertion
+along from s = insertion from s.to s.len
 
 unfoldable pub inserted : Bool → GraphOf → Insertion → GraphOf
 inserted true g e = with_arc g e.from e.to e.len
@@ -39,7 +44,3 @@ IsTooMany b es = 1000000 < made_of (grown b es).graph
 abbrev pub Inserts : {T : Type 0} → Builder → Builder → List Insertion → Result T Refusal → Type 0
 Inserts old new es (Ok x) = new ≡ grown old es
 Inserts old new es (Err e) = (e ≡ NoRoom) ⊎ ((e ≡ TooLarge) × IsTooMany old es)
-
--- of the insertions the first ones are made, and no others
-abbrev pub IsBegun : Builder → Builder → List Insertion → Type 0
-IsBegun old new es = (k : ℕ) × (new ≡ grown old (take k es))

@@ -9,6 +9,7 @@ pub mod Exchange
 pub mod Fill
 pub mod Holes
 pub mod Insert
+pub mod Join
 pub mod Label
 pub mod Lay
 pub mod Link

@@ -10,6 +10,7 @@ mod fill;
 mod grow;
 mod honest;
 mod insert;
+mod join;
 mod lay;
 mod link;
 mod new;

@@ -9,7 +9,7 @@ use Rattle.sgb_graph.specs.Graph.{GraphOf, ArcOf, IsGraph, arc_at, arcs_of, has_
 use Rattle.sgb_graph.specs.Paired.{is_loop_pair, walk, without_halves}
 use Rattle.sgb_graph.proofs.Counts.{few_numbers}
 use Rattle.sgb_graph.proofs.Graphs.{no_arc_past}
-use Rattle.sgb_operand.specs.declared.spoke.Spoke.{Spoke}
+use Rattle.sgb_graph.specs.declared.spoke.Spoke.{Spoke}
 use Rattle.sgb_operand.specs.Operand.{spoke_of, spokes}
 use Rattle.sgb_induced.specs.declared.image.Image.{Image}
 use Rattle.sgb_induced.specs.Private.Run.{all_runs, image_at, is_run, run_at, runs_at}

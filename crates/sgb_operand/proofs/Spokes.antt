@@ -9,7 +9,7 @@ use Rattle.sgb_graph.specs.Graph.{GraphOf, ArcOf, IsGraph, IsArc, IsTip, n_of, m
 use Rattle.sgb_graph.specs.Edit.{entry_at, arc_or, no_arc}
 use Rattle.sgb_graph.specs.Paired.{walk}
 use Rattle.sgb_graph.proofs.Graphs.{no_arc_past}
-use Rattle.sgb_operand.specs.declared.spoke.Spoke.{Spoke}
+use Rattle.sgb_graph.specs.declared.spoke.Spoke.{Spoke}
 use Rattle.sgb_operand.specs.Operand.{tip_number, spoke_of, spokes, IsWithin}
 
 -- ---- where spokes lead

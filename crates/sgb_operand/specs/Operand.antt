@@ -8,7 +8,7 @@ use Rattle.sgb_graph.specs.declared.refusal.Refusal.TheVariants.{BadOperand}
 use Rattle.sgb_graph.specs.Graph.{GraphOf, ArcOf}
 use Rattle.sgb_graph.specs.Edit.{entry_at, refusal_unless}
 use Rattle.sgb_graph.specs.Paired.{walk}
-use Rattle.sgb_operand.specs.declared.spoke.Spoke.{Spoke}
+use Rattle.sgb_graph.specs.declared.spoke.Spoke.{Spoke}
 
 -- the tip is a vertex
 abbrev pub is_vertex_tip : Tip → Bool

@@ -4,9 +4,9 @@
 mod check;
 mod facts;
 mod read;
-mod spoke;
+
 
 pub use check::check_operand;
 pub use facts::spoke_law;
 pub use read::{read_spokes, spoke_at};
-pub use spoke::Spoke;
+pub use sgb_graph::Spoke;

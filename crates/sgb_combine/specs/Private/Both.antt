@@ -3,7 +3,7 @@ use Rattle.std.specs.Prelude.{ℕ, List, map, Bool}
 use Rattle.std.specs.List.{filter}
 use Rattle.sgb_graph.specs.Graph.{GraphOf}
 use Rattle.sgb_graph.specs.Edit.{entry_at}
-use Rattle.sgb_operand.specs.declared.spoke.Spoke.{Spoke}
+use Rattle.sgb_graph.specs.declared.spoke.Spoke.{Spoke}
 use Rattle.sgb_operand.specs.Operand.{spoke_of}
 
 -- the spokes of the arcs of these numbers, of those that pass

@@ -2,7 +2,7 @@
 use Rattle.std.specs.Prelude.{◌+◌, ◌-◌, ℕ, List, map, not, if◌then◌else◌}
 use Rattle.std.specs.List.{filter, range_with_len}
 use Rattle.sgb_graph.specs.Builder.{Insertion}
-use Rattle.sgb_operand.specs.declared.spoke.Spoke.{Spoke}
+use Rattle.sgb_graph.specs.declared.spoke.Spoke.{Spoke}
 use Rattle.sgb_combine.specs.declared.spec.ComplementSpec.{ComplementSpec}
 use Rattle.sgb_combine.specs.Complement.{leads_to, unit_step}
 

@@ -3,10 +3,9 @@ use Rattle.std.specs.Prelude.{◌≤◌, ◌+◌, ◌*◌, ◌==◌, ℕ, List, 
 use Rattle.std.specs.List.{flat_map}
 use Rattle.std.specs.Int.{int_min}
 use Rattle.sgb_graph.specs.Graph.{GraphOf, n_of}
-use Rattle.sgb_graph.specs.Builder.{Insertion}
-use Rattle.sgb_operand.specs.declared.spoke.Spoke.{Spoke}
+use Rattle.sgb_graph.specs.Builder.{along, Insertion}
+use Rattle.sgb_graph.specs.declared.spoke.Spoke.{Spoke}
 use Rattle.sgb_combine.specs.declared.spec.ProductSpec.{ProductSpec}
-use Rattle.sgb_combine.specs.Combined.{along}
 use Rattle.sgb_combine.specs.Product.{has_single, has_double, pair_number}
 use Rattle.sgb_combine.specs.Private.Rows.{row_of}
 

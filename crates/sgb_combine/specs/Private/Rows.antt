@@ -2,7 +2,7 @@
 use Rattle.std.specs.Prelude.{◌≡◌, ◌≤◌, ◌<◌, ◌+◌, ℕ, List, length, slice_index, Bool}
 use Rattle.std.specs.List.{filter, slice_range}
 use Rattle.sgb_graph.specs.Graph.{GraphOf}
-use Rattle.sgb_operand.specs.declared.spoke.Spoke.{Spoke}
+use Rattle.sgb_graph.specs.declared.spoke.Spoke.{Spoke}
 use Rattle.sgb_operand.specs.Operand.{spokes}
 use Rattle.sgb_combine.specs.Combined.{is_upward}
 

@@ -1,23 +1,28 @@
 //! The arcs of a graph by number.
-ghost use Rattle.std.specs.Prelude.{◌≡◌, ◌<◌, ◌≤◌, ◌^◌, ◌-◌, ◌+◌, ◌∷◌, ◌++◌, [], max, length, map, vec_len, vec_capacity, take, is_some, IsSome, None, Some, IfOk, OnOk, OnErr, slice_index_or, slice_set};
+ghost use Rattle.std.specs.Prelude.{◌≡◌, ◌<◌, ◌≤◌, ◌^◌, ◌-◌, ◌+◌, ◌*◌, ◌∷◌, ◌++◌, [], true, false, All, FitsSigned, max, length, map, vec_len, vec_capacity, take, is_some, IsSome, None, Some, IfOk, OnOk, OnErr, slice_index_or, slice_set};
 ghost use Rattle.std.specs.List.{list_all, zip};
+ghost use Rattle.std.specs.Int.{w64};
 ghost use Rattle.sgb_graph.specs.declared.field.Util.TheVariants as utils;
+ghost use Rattle.sgb_graph.specs.Builder.{along, row};
 ghost use Rattle.sgb_graph.specs.Honest.{are_allowed};
 ghost use Rattle.sgb_graph.specs.Private.Aim.{with_aim_in};
 ghost use Rattle.sgb_graph.specs.Private.Arena.{slot_at, next_at, owner_in, names_counted, view_in, len_in, with_len_in};
 ghost use Rattle.sgb_graph.specs.Private.Cells.{two_zeros, slot_with, kept_at, SameFields, PutsFields, new_cell, unnamed_slot, owned_allowed, is_zero};
 ghost use Rattle.sgb_graph.specs.Private.Exchange.{fields_in, with_field};
 ghost use Rattle.sgb_graph.specs.Private.Insert.{new_slot, row_cells, last_link};
+ghost use Rattle.sgb_graph.specs.Private.Join.{both, all_joined};
 ghost use Rattle.sgb_graph.specs.Private.Link.{slots_relinked, slots_gaining, slots_losing, IsCounted};
 ghost use Rattle.sgb_graph.specs.Private.SameRows.{each_eq, slot_eq};
 ghost use Rattle.sgb_graph.specs.Private.Walk.{is_loop_in};
 
 use super::codes::{Link, OwnerCode, TipCode};
 use super::honest::are_allowed;
+use super::join::{push_arcs_along, push_edges, push_edges_along};
 use super::paired::is_vertex;
 use super::read::ArcView;
 use super::same::{is_link_same, is_tip_same};
-use crate::{ArcNo, Tip, Util, VertexNo};
+use super::vertices::Vertices;
+use crate::{ArcNo, Spoke, Tip, Util, VertexNo};
 use std::alloc::{AllocError, Global};
 use std::marker::Model;
 use std::mem;
@@ -177,6 +182,90 @@ impl Arena {
         let count = end.saturating_sub(first);
         make_room(&mut self.cells, &mut self.fields, &mut self.room, count as usize)?;
         Ok(push_row(&mut self.cells, from, first, end, next, len))
+    }
+
+    /// Adds edges from one vertex to each of the vertices from `first` up to `end`, last, each arc first in the list of
+    /// its owner.
+    pub fn push_edges(
+        &mut self,
+        vertices: &mut Vertices,
+        from: VertexNo,
+        first: u32,
+        end: u32,
+        len: i64,
+    ) -> Result<(), AllocError>
+        requires from { from.0 < length vertices.old }
+        requires end { end ≤ length vertices.old }
+        requires vertices { length vertices.old ≤ 65535 }
+        requires few { length self.old + 2 * (end - first) ≤ 1000000 }
+        ensures joined { OnOk result
+            (both vertices.new self.new ≡ all_joined false (both vertices.old self.old) (row from.0 first end len)) }
+        ensures unchanged { OnErr result (self.new ≡ self.old) }
+        ensures vertices { OnErr result (vertices.new ≡ vertices.old) }
+    {
+        let count = 2 * end.saturating_sub(first);
+        make_room(
+            &mut self.cells,
+            &mut self.fields,
+            &mut self.room,
+            count as usize,
+        )?;
+        push_edges(&mut self.cells, vertices, from, first, end, len);
+        Ok(())
+    }
+
+    /// Adds arcs from one vertex along each of the spokes, last, each first in the list of the vertex.
+    pub fn push_arcs_along(
+        &mut self,
+        vertices: &mut Vertices,
+        from: VertexNo,
+        spokes: &[Spoke],
+    ) -> Result<(), AllocError>
+        requires from { from.0 < length vertices.old }
+        requires to { All (λ s. s.to < length vertices.old) spokes.now }
+        requires vertices { length vertices.old ≤ 65535 }
+        requires few { length self.old + length spokes.now ≤ 1000000 }
+        ensures joined { OnOk result
+            (both vertices.new self.new ≡ all_joined true (both vertices.old self.old) (map (along from.0) spokes.now)) }
+        ensures fits { OnOk result (All (λ s. FitsSigned w64 s.len) spokes.now) }
+        ensures unchanged { OnErr result (self.new ≡ self.old) }
+        ensures vertices { OnErr result (vertices.new ≡ vertices.old) }
+    {
+        make_room(
+            &mut self.cells,
+            &mut self.fields,
+            &mut self.room,
+            spokes.len(),
+        )?;
+        push_arcs_along(&mut self.cells, vertices, from, spokes);
+        Ok(())
+    }
+
+    /// Adds edges from one vertex along each of the spokes, last, each arc first in the list of its owner.
+    pub fn push_edges_along(
+        &mut self,
+        vertices: &mut Vertices,
+        from: VertexNo,
+        spokes: &[Spoke],
+    ) -> Result<(), AllocError>
+        requires from { from.0 < length vertices.old }
+        requires to { All (λ s. s.to < length vertices.old) spokes.now }
+        requires vertices { length vertices.old ≤ 65535 }
+        requires few { length self.old + 2 * length spokes.now ≤ 1000000 }
+        ensures joined { OnOk result
+            (both vertices.new self.new ≡ all_joined false (both vertices.old self.old) (map (along from.0) spokes.now)) }
+        ensures fits { OnOk result (All (λ s. FitsSigned w64 s.len) spokes.now) }
+        ensures unchanged { OnErr result (self.new ≡ self.old) }
+        ensures vertices { OnErr result (vertices.new ≡ vertices.old) }
+    {
+        make_room(
+            &mut self.cells,
+            &mut self.fields,
+            &mut self.room,
+            2 * spokes.len(),
+        )?;
+        push_edges_along(&mut self.cells, vertices, from, spokes);
+        Ok(())
     }
 
     /// Takes back all slots but the first ones.
@@ -501,7 +590,7 @@ fn hole() -> Cell
 }
 
 #[inline]
-fn new_cell(owner: VertexNo, to: VertexNo, next: Link, len: i64) -> Cell
+pub(super) fn new_cell(owner: VertexNo, to: VertexNo, next: Link, len: i64) -> Cell
     requires owner { owner.0 < 65535 }
     requires to { to.0 < 65535 }
     ensures { result ≡ new_cell owner to next len }

@@ -1,7 +1,7 @@
 //! New arcs and edges.
-ghost use Rattle.std.specs.Prelude.{◌≡◌, ◌⊎◌, ◌∷◌, ◌++◌, ◌+◌, ◌-◌, ◌<◌, ◌≤◌, ◌&&◌, [], length, vec_len, vec_capacity, IfOk, IfErr, OnOk, OnErr, None, Some, true};
+ghost use Rattle.std.specs.Prelude.{◌≡◌, ◌⊎◌, ◌∷◌, ◌++◌, ◌+◌, ◌-◌, ◌*◌, ◌<◌, ◌≤◌, ◌&&◌, [], length, map, vec_len, vec_capacity, All, IfOk, IfErr, OnOk, OnErr, None, Some, true, false};
 ghost use Rattle.std.specs.Result.{IsErrOf};
-ghost use Rattle.sgb_graph.specs.Builder.{row, with_all};
+ghost use Rattle.sgb_graph.specs.Builder.{along, row, with_all};
 ghost use Rattle.sgb_graph.specs.Graph.{IsGraph, has_vertex, n_of, made_of};
 ghost use Rattle.sgb_graph.specs.Edit.{with_arc, with_edge, refusal_of_arc, refusal_of_edge};
 ghost use Rattle.sgb_graph.specs.Delta.{LeftBy};
@@ -10,7 +10,7 @@ ghost use Rattle.sgb_graph.specs.Private.Insert.{first_behind};
 ghost use Rattle.sgb_graph.specs.Private.Link.{vertex_in, vertices_relinked};
 
 use super::{Graph, Link, MOST_ARCS, Vertices};
-use crate::{ArcNo, GraphDelta, Refusal, VertexNo};
+use crate::{ArcNo, GraphDelta, Refusal, Spoke, VertexNo};
 
 impl Graph {
     /// A new arc from one vertex to another, first in the list of the first (Knuth's `gb_new_arc`).
@@ -170,6 +170,75 @@ impl Graph {
         self.live += count;
         Ok(())
     }
+
+    // New edges from one vertex to each of the vertices from `first` up to, but not including, `end`, in that order. Room
+    // is taken for all of them at once.
+    pub(crate) fn add_edges(
+        &mut self,
+        from: VertexNo,
+        first: u32,
+        end: u32,
+        len: i64,
+    ) -> Result<(), Refusal>
+        requires from { from.0 < n_of self.old }
+        requires end { end ≤ n_of self.old }
+        ensures graph { OnOk result (self.new ≡ with_all false self.old (row from.0 first end len)) }
+        ensures err { IfErr result (λ e. (e ≡ Refusal.NoRoom) ⊎ ((e ≡ Refusal.TooLarge) × (1000000 < made_of self.old + 2 * (end - first)))) }
+        ensures room { IsErrOf result Refusal.NoRoom → made_of self.old + 2 * (end - first) ≤ 1000000 }
+        ensures unchanged { OnErr result (self.new ≡ self.old) }
+    {
+        let _ = self.n();
+        let count = 2 * end.saturating_sub(first);
+        if self.made() + count > MOST_ARCS {
+            return Err(Refusal::TooLarge);
+        }
+        self.slots
+            .push_edges(&mut self.vertices, from, first, end, len)?;
+        self.live += count;
+        Ok(())
+    }
+
+    // New arcs from one vertex along each of the spokes, in that order. Room is taken for all of them at once.
+    pub(crate) fn add_arcs_along(&mut self, from: VertexNo, spokes: &[Spoke]) -> Result<(), Refusal>
+        requires from { from.0 < n_of self.old }
+        requires to { All (λ s. s.to < n_of self.old) spokes.now }
+        ensures graph { OnOk result (self.new ≡ with_all true self.old (map (along from.0) spokes.now)) }
+        ensures err { IfErr result (λ e. (e ≡ Refusal.NoRoom) ⊎ ((e ≡ Refusal.TooLarge) × (1000000 < made_of self.old + length spokes.now))) }
+        ensures room { IsErrOf result Refusal.NoRoom → made_of self.old + length spokes.now ≤ 1000000 }
+        ensures unchanged { OnErr result (self.new ≡ self.old) }
+    {
+        let _ = self.n();
+        if spokes.len() > (MOST_ARCS - self.made()) as usize {
+            return Err(Refusal::TooLarge);
+        }
+        self.slots
+            .push_arcs_along(&mut self.vertices, from, spokes)?;
+        self.live += spokes.len() as u32;
+        Ok(())
+    }
+
+    // New edges from one vertex along each of the spokes, in that order. Room is taken for all of them at once.
+    pub(crate) fn add_edges_along(
+        &mut self,
+        from: VertexNo,
+        spokes: &[Spoke],
+    ) -> Result<(), Refusal>
+        requires from { from.0 < n_of self.old }
+        requires to { All (λ s. s.to < n_of self.old) spokes.now }
+        ensures graph { OnOk result (self.new ≡ with_all false self.old (map (along from.0) spokes.now)) }
+        ensures err { IfErr result (λ e. (e ≡ Refusal.NoRoom) ⊎ ((e ≡ Refusal.TooLarge) × (1000000 < made_of self.old + 2 * length spokes.now))) }
+        ensures room { IsErrOf result Refusal.NoRoom → made_of self.old + 2 * length spokes.now ≤ 1000000 }
+        ensures unchanged { OnErr result (self.new ≡ self.old) }
+    {
+        let _ = self.n();
+        if spokes.len() > ((MOST_ARCS - self.made()) / 2) as usize {
+            return Err(Refusal::TooLarge);
+        }
+        self.slots
+            .push_edges_along(&mut self.vertices, from, spokes)?;
+        self.live += 2 * spokes.len() as u32;
+        Ok(())
+    }
 }
 
 // The first link of a vertex.
@@ -183,7 +252,7 @@ fn first_of(vertices: &Vertices, vertex: VertexNo) -> Link
 
 // What follows the first arc of a new edge in its list: of a loop its second arc.
 #[inline]
-fn after_first(vertices: &Vertices, number: ArcNo, low: VertexNo, high: VertexNo) -> Link
+pub(super) fn after_first(vertices: &Vertices, number: ArcNo, low: VertexNo, high: VertexNo) -> Link
     requires low { low.0 < length vertices.now }
     requires number { number.0 + 1 < 1000000 }
     ensures { result ≡ first_behind vertices.now number.0 low.0 high.0 }
@@ -216,7 +285,7 @@ fn relink_first(vertices: &mut Vertices, owner: VertexNo, link: Link)
 
 // Makes the arcs of a new edge first in the lists of their owners, the second before the first.
 #[inline]
-fn link_both(vertices: &mut Vertices, number: ArcNo, low: VertexNo, high: VertexNo)
+pub(super) fn link_both(vertices: &mut Vertices, number: ArcNo, low: VertexNo, high: VertexNo)
     requires low { low.0 < length vertices.old }
     requires high { high.0 < length vertices.old }
     requires number { number.0 + 1 < 1000000 }

@@ -2,10 +2,9 @@ use Rattle.std.proofs.Common.{map, arith, ap, subst, ◌∙◌}
 use Rattle.std.proofs.lemmas.Result.{err_from_is_err_and}
 use Rattle.sgb_graph.specs.declared.builder.Builder.{Builder}
 use Rattle.sgb_graph.specs.Graph.{n_of}
-use Rattle.sgb_graph.specs.Builder.{Inserts, grown}
+use Rattle.sgb_graph.specs.Builder.{along, Inserts, grown}
 use Rattle.sgb_graph.proofs.Growing.{n-grown, Inserts-append}
 use Rattle.sgb_graph.proofs.Inserting.{RefusesInsertions}
-use Rattle.sgb_combine.specs.Combined.{along}
 use Rattle.sgb_combine.specs.Product.{has_single, has_double, pair_number}
 use Rattle.sgb_combine.specs.Private.Pruned.{singles, doubles}
 use Rattle.sgb_combine.proofs.Pruning.{refused_first, pruned_two}

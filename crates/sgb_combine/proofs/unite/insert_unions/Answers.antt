@@ -14,8 +14,7 @@ returns-in_err-insert_union c =
 pub loop-v-preserved : goal.loop-v-preserved
 loop-v-preserved c = record {
   left = from_some (omega arith) c.loop-v.invariant.left c.in_ok-insert_union.ensures.inserts;
-  mine = c.in_ok-insert_union.ensures.mine ∙ c.loop-v.invariant.mine;
-  theirs = c.in_ok-insert_union.ensures.theirs ∙ c.loop-v.invariant.theirs;
+  width = c.in_ok-insert_union.ensures.width ∙ c.loop-v.invariant.width;
 }
 
 pub returns : goal.returns

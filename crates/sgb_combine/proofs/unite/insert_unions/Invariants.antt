@@ -8,6 +8,5 @@ use Rattle.sgb_combine.proofs.unite.insert_unions.Given as goal
 abbrev pub invariant-loop-v : goal.invariant-loop-v
 invariant-loop-v l = record {
   left : LeftFrom l.initial.builder (flat_map (union_at l.spec l.first l.second) (range_with_len 0 (n_of l.first))) l.builder (union_at l.spec l.first l.second) l.v (n_of l.first);
-  mine : length l.met.mine.places.items ≡ n_of l.first;
-  theirs : length l.met.theirs.places.items ≡ n_of l.first;
+  width : length l.met.places.items ≡ n_of l.first;
 }

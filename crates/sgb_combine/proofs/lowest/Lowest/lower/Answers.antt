@@ -1,5 +1,5 @@
 use Rattle.std.proofs.Common.{sym, ap, ◌∙◌}
-use Rattle.sgb_operand.specs.declared.spoke.Spoke.{Spoke}
+use Rattle.sgb_graph.specs.declared.spoke.Spoke.{Spoke}
 use Rattle.sgb_combine.proofs.Least.{marked_lowered, marked_kept, marked_set, lowered_is}
 use Rattle.sgb_combine.proofs.lowest.Lowest.lower.Goals as goal
 

@@ -1,4 +1,4 @@
-//! Spokes: what a combination reads of an arc.
+//! Spokes: what an arc is without its owner.
 
 /// Where an arc leads, as the number of a vertex, and its length.
 #[derive(Clone, Copy, Debug, PartialEq, Eq)]
