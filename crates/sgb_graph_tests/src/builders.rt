@@ -1,7 +1,7 @@
 //! Graphs that are built by insertions.
 
 use crate::looks::{has_counts, has_id, has_label, is_arc};
-use sgb_graph::{Builder, Graph, Label, Refusal, Text, Types, Util, VertexNo};
+use sgb_graph::{Builder, Graph, Label, Refusal, Spoke, Text, Types, Util, VertexNo};
 use std::alloc::Global;
 use std::process::Abort;
 use std::test::Fail;
@@ -115,4 +115,36 @@ fn expect_row(rt: &impl Abort, graph: &Graph, count: u32, number: u32) {
     assert!(rt; has_counts(graph, count, count));
     assert!(rt; is_arc(graph, 0, 0, 1, 4));
     assert!(rt; is_arc(graph, number, 0, 2, 4));
+}
+
+fn insert_along(builder: &mut Builder) -> Result<(), Refusal> {
+    if builder.graph().n() < 3 {
+        return Err(Refusal::BadOperand);
+    }
+    let spokes = [Spoke { to: 1, len: 4 }, Spoke { to: 2, len: 4 }];
+    builder.insert_along(VertexNo(0), &spokes)
+}
+
+// Three vertices, and insertions from the first along two spokes.
+fn three_along(alloc: Global, directed: bool) -> Result<Graph, Refusal> {
+    let mut builder = begun(alloc, directed)?;
+    push_vertex(alloc, &mut builder, b"")?;
+    push_vertex(alloc, &mut builder, b"")?;
+    push_vertex(alloc, &mut builder, b"")?;
+    insert_along(&mut builder)?;
+    Ok(builder.finish())
+}
+
+#[test]
+fn arcs_are_inserted_along_spokes(rt: HostRuntime) -> Result<(), Fail> {
+    let graph = three_along(rt.alloc(), true)?;
+    expect_row(&rt, &graph, 2, 1);
+    Ok(())
+}
+
+#[test]
+fn edges_are_inserted_along_spokes(rt: HostRuntime) -> Result<(), Fail> {
+    let graph = three_along(rt.alloc(), false)?;
+    expect_row(&rt, &graph, 4, 2);
+    Ok(())
 }
