@@ -4,7 +4,6 @@ use Rattle.std.specs.List.{range_with_len}
 use Rattle.sgb_graph.specs.declared.refusal.Refusal.{Refusal}
 use Rattle.sgb_graph.specs.Graph.{GraphOf, n_of, label_of}
 use Rattle.sgb_graph.specs.New.{six_zeros}
-use Rattle.sgb_graph.specs.Builder.{Insertion, insertion}
 use Rattle.sgb_graph.specs.declared.spoke.Spoke.{Spoke}
 use Rattle.sgb_operand.specs.Operand.{refusal_of_operand}
 use Rattle.sgb_plan.specs.Plan.{Named}

@@ -128,8 +128,8 @@ one_more_fits ss i j d e h before here low =
     elim (cases_lt j i) [
       | inl less ↦ before j d less
       | inr more ↦
-        let same : j ≡ i = omega (arith, h, more) in
-        subst (λ k. FitsSigned w64 (get_or ss k d).len) (sym same) (subst (λ (r : Spoke). FitsSigned w64 r.len) (get_or_default ss i e d low) here)
+          let same : j ≡ i = omega (arith, h, more) in
+          subst (λ k. FitsSigned w64 (get_or ss k d).len) (sym same) (subst (λ (r : Spoke). FitsSigned w64 r.len) (get_or_default ss i e d low) here)
     ]
 
 -- ---- the graph

@@ -1,9 +1,9 @@
 -- Lemmas on rows: insertions from one vertex to each of a run of vertices.
-use Rattle.std.proofs.Common.{◌≡◌, ◌<◌, ◌≤◌, ◌+◌, ◌-◌, ◌*◌, Bool, ℕ, zero, suc, ℤ, List, [], ◌∷◌, ◌++◌, length, map, take, set, Option, Some, None, true, refl, sym, ap, subst, ◌∙◌, arith, FitsSigned, ◌⊎◌, inl, inr, false, Result, Ok, Err, OnOk, IfErr}
+use Rattle.std.proofs.Common.{◌≡◌, ◌<◌, ◌≤◌, ◌+◌, ◌-◌, ◌*◌, Bool, ℕ, zero, suc, ℤ, List, [], ◌∷◌, ◌++◌, length, map, set, Option, Some, None, true, refl, sym, ap, ◌∙◌, arith, FitsSigned, ◌⊎◌, inl, inr, Result, Ok, Err, OnOk, IfErr}
 use Rattle.std.specs.Int.{w64}
 use Rattle.std.specs.List.{range_with_len}
 use Rattle.std.proofs.lemmas.List.{append-nil, append_assoc, length_push, get_or-set_same, set-set, set-get_or}
-use Rattle.std.proofs.lemmas.List.FromFn.{length-map-range_with_len, take-map-range_with_len, map-range_with_len_more}
+use Rattle.std.proofs.lemmas.List.FromFn.{length-map-range_with_len}
 use Rattle.sgb_graph.specs.declared.builder.Builder.{Builder}
 use Rattle.sgb_graph.specs.declared.field.VertexNo.{VertexNo}
 use Rattle.sgb_graph.specs.declared.field.ArcNo.{ArcNo}
@@ -16,12 +16,12 @@ use Rattle.sgb_graph.specs.declared.refusal.Refusal.TheVariants.{NoRoom, TooLarg
 use Rattle.sgb_graph.specs.Graph.{GraphOf, n_of, made_of}
 use Rattle.sgb_graph.specs.Edit.{with_arc}
 use Rattle.sgb_graph.specs.Field.{arc_no}
-use Rattle.sgb_graph.specs.Builder.{Insertion, insertion, inserted, with_all, grown, row, Inserts, IsTooMany}
+use Rattle.sgb_graph.specs.Builder.{Insertion, insertion, inserted, with_all, grown, row, Inserts}
 use Rattle.sgb_graph.specs.Private.Arena.{Slots, IsArena, graph_of}
 use Rattle.sgb_graph.specs.Private.Cells.{two_zeros, slot_with, zipped, new_cell}
 use Rattle.sgb_graph.specs.Private.Insert.{new_cut, new_slot, row_cells, last_link}
 use Rattle.sgb_graph.specs.Private.Link.{any_vertex, vertex_in, vertices_relinked}
-use Rattle.sgb_graph.proofs.Growing.{grown-nil, grown-append, n-grown, made-grown, numbers_each, made-with_arc, n-with_arc}
+use Rattle.sgb_graph.proofs.Growing.{made-grown, numbers_each, made-with_arc, n-with_arc}
 use Rattle.sgb_graph.proofs.InsertLemmas.{SameOwn, NewArcCan, new_arc_after}
 use Rattle.sgb_graph.proofs.Pushing.{arc_pushed}
 use Rattle.sgb_graph.proofs.Shows.{Opened, closed, closed_arena}

@@ -5,7 +5,6 @@ mod check;
 mod facts;
 mod read;
 
-
 pub use check::check_operand;
 pub use facts::spoke_law;
 pub use read::{read_spokes, spoke_at};

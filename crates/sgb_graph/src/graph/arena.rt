@@ -180,7 +180,12 @@ impl Arena {
         ensures unchanged { OnErr result (self.new ≡ self.old) }
     {
         let count = end.saturating_sub(first);
-        make_room(&mut self.cells, &mut self.fields, &mut self.room, count as usize)?;
+        make_room(
+            &mut self.cells,
+            &mut self.fields,
+            &mut self.room,
+            count as usize,
+        )?;
         Ok(push_row(&mut self.cells, from, first, end, next, len))
     }
 

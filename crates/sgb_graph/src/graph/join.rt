@@ -13,13 +13,7 @@ use std::mem;
 
 // An arc more, first in the list of its owner.
 #[inline(always)]
-fn push_arc(
-    cells: &mut Vec<Cell>,
-    vertices: &mut Vertices,
-    from: VertexNo,
-    to: VertexNo,
-    len: i64,
-)
+fn push_arc(cells: &mut Vec<Cell>, vertices: &mut Vertices, from: VertexNo, to: VertexNo, len: i64)
     requires from { from.0 < length vertices.old }
     requires to { to.0 < length vertices.old }
     requires vertices { length vertices.old ≤ 65535 }
@@ -37,13 +31,7 @@ fn push_arc(
 
 // An edge more, each arc first in the list of its owner.
 #[inline(always)]
-fn push_edge(
-    cells: &mut Vec<Cell>,
-    vertices: &mut Vertices,
-    from: VertexNo,
-    to: VertexNo,
-    len: i64,
-)
+fn push_edge(cells: &mut Vec<Cell>, vertices: &mut Vertices, from: VertexNo, to: VertexNo, len: i64)
     requires from { from.0 < length vertices.old }
     requires to { to.0 < length vertices.old }
     requires vertices { length vertices.old ≤ 65535 }

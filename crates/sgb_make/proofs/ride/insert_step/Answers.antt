@@ -1,4 +1,4 @@
-use Rattle.std.proofs.Common.{length, arith, false, subst, List}
+use Rattle.std.proofs.Common.{arith, false, subst, List}
 use Rattle.sgb_graph.specs.Builder.{Insertion, Inserts}
 use Rattle.sgb_make.proofs.Trips.{one_step, no_trip}
 use Rattle.sgb_make.proofs.ride.insert_step.Goals as goal

@@ -1,4 +1,4 @@
-use Rattle.std.proofs.Common.{◌≡◌, ◌<◌, ◌+◌, ◌*◌, ℕ, get_or, FitsSigned, map, drop, vec_len, vec_capacity, true}
+use Rattle.std.proofs.Common.{◌≡◌, ◌<◌, ◌+◌, ℕ, get_or, FitsSigned, map, drop, vec_len, vec_capacity, true}
 use Rattle.std.specs.Int.{w64}
 use Rattle.sgb_graph.specs.declared.spoke.Spoke.{Spoke}
 use Rattle.sgb_graph.specs.Builder.{along}

@@ -1,7 +1,6 @@
-use Rattle.std.proofs.Common.{◌≡◌, ◌∙◌, ap, subst, refl, arith, false, length, vec_len, vec_capacity, to_z, of_z}
+use Rattle.std.proofs.Common.{◌∙◌, ap, subst, refl, arith, false, vec_len, vec_capacity, to_z, of_z}
 use Rattle.std.specs.Int.{w64}
 use Rattle.std.proofs.lemmas.Int.{to_z-of_z}
-use Rattle.sgb_graph.specs.declared.graph.arena.Cell.{Cell}
 use Rattle.sgb_graph.specs.Builder.{row}
 use Rattle.sgb_graph.specs.Private.Join.{Joins}
 use Rattle.sgb_graph.proofs.Joining.{join_start, join_more, join_end, row-cons, row-nil}

@@ -1,6 +1,5 @@
-use Rattle.std.proofs.Common.{◌≡◌, ◌∙◌, ap, subst, refl, arith, false, length, map, vec_len, vec_capacity}
+use Rattle.std.proofs.Common.{◌∙◌, ap, subst, refl, arith, false, map, vec_len, vec_capacity}
 use Rattle.std.proofs.lemmas.List.{get_or_default}
-use Rattle.sgb_graph.specs.declared.graph.arena.Cell.{Cell}
 use Rattle.sgb_graph.specs.Builder.{along}
 use Rattle.sgb_graph.specs.Private.Join.{Joins}
 use Rattle.sgb_graph.proofs.Joining.{join_start, join_more, join_end, along-cons, along-nil, one_more_fits, spoke_in, no_spoke}
