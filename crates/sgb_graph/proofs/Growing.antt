@@ -51,7 +51,7 @@ made-with_edge g u v len =
     let b = Some (arc_to (min u v) len) in
     omega (arith, length_push g.entries a, length_push (g.entries ++ a ∷ []) b)
 
-n-inserted : (d : Bool) (g : GraphOf) (e : Insertion) → n_of (inserted d g e) ≡ n_of g
+pub n-inserted : (d : Bool) (g : GraphOf) (e : Insertion) → n_of (inserted d g e) ≡ n_of g
 unfolding inserted
 n-inserted true g e = n-with_arc g e.from e.to e.len
 n-inserted false g e = n-with_edge g e.from e.to e.len
@@ -70,7 +70,7 @@ abbrev pub numbers_each : Bool → ℕ
 numbers_each true = 1
 numbers_each false = 2
 
-made-inserted : (d : Bool) (g : GraphOf) (e : Insertion) → made_of (inserted d g e) ≡ made_of g + numbers_each d
+pub made-inserted : (d : Bool) (g : GraphOf) (e : Insertion) → made_of (inserted d g e) ≡ made_of g + numbers_each d
 unfolding inserted
 made-inserted true g e = made-with_arc g e.from e.to e.len
 made-inserted false g e = made-with_edge g e.from e.to e.len

@@ -2,7 +2,7 @@
 use Rattle.std.proofs.Common.{◌≡◌, ◌<◌, ◌≤◌, ◌+◌, ◌-◌, ◌*◌, ℕ, suc, ℤ, pos, List, [], ◌∷◌, ◌++◌, length, drop, map, get_or, All, Bool, true, false, None, Some, min, max, refl, sym, ap, ap₂, subst, ◌∙◌, arith, FitsSigned, inl, inr}
 use Rattle.std.specs.Int.{w64}
 use Rattle.std.specs.List.{range_with_len}
-use Rattle.std.proofs.lemmas.List.{length_push, length-set, at_drop_more, at_drop_all, get_or_default, length-map}
+use Rattle.std.proofs.lemmas.List.{length_push, at_drop_more, at_drop_all, get_or_default, length-map}
 use Rattle.std.proofs.lemmas.List.Elements.{All-map}
 use Rattle.std.proofs.lemmas.List.FromFn.{get_or-map-range_with_len}
 use Rattle.std.proofs.lemmas.Bool.{cases_lt}
@@ -22,7 +22,7 @@ use Rattle.sgb_graph.specs.Private.Insert.{new_cut, new_slot, first_behind, Puts
 use Rattle.sgb_graph.specs.Private.Join.{Both, both, vertex_no, with_new_arc, with_new_edge, relinked_both, joined, all_joined, Joins}
 use Rattle.sgb_graph.specs.Private.Link.{vertex_in, vertices_relinked}
 use Rattle.sgb_graph.proofs.Cells.{length-zipped, slot_pushed}
-use Rattle.sgb_graph.proofs.Growing.{numbers_each, n-with_arc, n-with_edge, made-with_arc, made-with_edge}
+use Rattle.sgb_graph.proofs.Growing.{numbers_each, n-inserted, made-inserted}
 use Rattle.sgb_graph.proofs.InsertLemmas.{SameOwn, NewEdgeCan, new_edge_after}
 use Rattle.sgb_graph.proofs.Pushing.{edge_pushed}
 use Rattle.sgb_graph.proofs.Rows.{row_first, length-row}
@@ -57,9 +57,6 @@ edge_joins vs ws cs bs ds u v low high z k a b number low_is high_is ws_is a_is 
     ap₂ both ws_is two
     ∙ (ap (λ j. form j low high) same
     ∙ (ap (λ x. form (length ss) x high) low_is ∙ ap (form (length ss) (min u v)) high_is))
-
-pub n-relinked : (vs : List Vertex) (u : ℕ) (w : Vertex) (ws : List Vertex) → ws ≡ vertices_relinked vs u None w.first → length ws ≡ length vs
-n-relinked vs u w ws is = ap length is ∙ length-set vs u _
 
 -- ---- what is left of a run while a loop makes it
 pub record JoinLeft (directed : Bool) (vs : List Vertex) (cs : List Cell) (all : List Insertion) (ws : List Vertex) (ds : List Cell) (rest : List Insertion) : Type 0 where
@@ -182,16 +179,6 @@ unfolding joined inserted with_new_arc
 one_joined true a g e o can few = row_first a g (vertex_no e.from) e.len (length a.slots) e.to (vertex_in a.vertices e.from).first o can.from can.to (omega (arith, few)) can.fits refl refl
 one_joined false a g e o can few = edge_first a g e o can (omega (arith, few))
 
-n-inserted_one : (directed : Bool) (g : GraphOf) (e : Insertion) → n_of (inserted directed g e) ≡ n_of g
-unfolding inserted
-n-inserted_one true g e = n-with_arc g e.from e.to e.len
-n-inserted_one false g e = n-with_edge g e.from e.to e.len
-
-made-inserted_one : (directed : Bool) (g : GraphOf) (e : Insertion) → made_of (inserted directed g e) ≡ made_of g + numbers_each directed
-unfolding inserted
-made-inserted_one true g e = made-with_arc g e.from e.to e.len
-made-inserted_one false g e = made-with_edge g e.from e.to e.len
-
 -- all of them
 all_after : (directed : Bool) (es : List Insertion) (a b : Inside) (g : GraphOf) → Opened a g → All (CanJoin (n_of g)) es → made_of g + length es * numbers_each directed ≤ 1000000
     → both b.vertices b.slots ≡ all_joined directed (both a.vertices a.slots) es → b.live ≡ a.live + length es * numbers_each directed → SameOwn a b → Opened b (with_all directed g es)
@@ -211,8 +198,8 @@ all_after directed (e ∷ es) a b g o can few is live own =
     let x = joined directed (both a.vertices a.slots) e in
     let a' : Inside = record a { vertices = x.vertices; slots = x.slots; live = a.live + numbers_each directed } in
     let first : Opened a' (inserted directed g e) = one_joined directed a g e o (can 0 e (omega arith)) (omega (arith, few)) in
-    let rest : All (CanJoin (n_of (inserted directed g e))) es = λ i d h. subst (λ n. CanJoin n (get_or es i d)) (sym (n-inserted_one directed g e)) (can (suc i) d (omega (arith, h))) in
-    all_after directed es a' b (inserted directed g e) first rest (omega (arith, few, made-inserted_one directed g e)) is (omega (arith, live)) (record { id = own.id; types = own.types; fields = own.fields })
+    let rest : All (CanJoin (n_of (inserted directed g e))) es = λ i d h. subst (λ n. CanJoin n (get_or es i d)) (sym (n-inserted directed g e)) (can (suc i) d (omega (arith, h))) in
+    all_after directed es a' b (inserted directed g e) first rest (omega (arith, few, made-inserted directed g e)) is (omega (arith, live)) (record { id = own.id; types = own.types; fields = own.fields })
 
 -- what is left, clause by clause
 pub record AllDone (directed : Bool) (b : Inside) (g : GraphOf) (es : List Insertion) : Type 0 where
