@@ -67,6 +67,10 @@ length-zipped [] fs = refl
 length-zipped (c ∷ cs) [] = ap suc (length-zipped cs [])
 length-zipped (c ∷ cs) (us ∷ fs) = ap suc (length-zipped cs fs)
 
+-- how many slots there are
+pub many_slots : (cs : List Cell) (fs : List (List Util)) {now : Slots} {n : ℕ} → zipped cs fs ≡ now → n ≡ length cs → n ≡ length now
+many_slots cs fs view is = is ∙ (sym (length-zipped cs fs) ∙ ap length view)
+
 pub slot_at-zipped : (cs : List Cell) (fs : List (List Util)) (k : ℕ) (d : Cell) → k < length cs → slot_at (zipped cs fs) k ≡ slot_with (kept_at fs k) (get_or cs k d)
 slot_at-zipped [] fs k d low = absurd (omega arith)
 slot_at-zipped (c ∷ cs) [] zero d low = refl

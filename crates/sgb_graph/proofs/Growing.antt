@@ -1,14 +1,14 @@
 -- Lemmas on graphs that are built by insertions.
-use Rattle.std.proofs.Common.{◌≡◌, ◌<◌, ◌≤◌, ◌+◌, ◌*◌, ℕ, ℤ, List, [], ◌∷◌, ◌++◌, length, Bool, true, false, Result, Ok, Err, None, Some, ◌⊎◌, inl, inr, refl, sym, ap, ◌∙◌, arith, set, nat_le, ◌&&◌, min, max}
+use Rattle.std.proofs.Common.{◌≡◌, ◌≤◌, ◌+◌, ◌*◌, ℕ, ℤ, List, [], ◌∷◌, ◌++◌, length, Bool, true, false, Result, Ok, Err, IfErr, IsErrOf, Some, ◌⊎◌, inl, inr, refl, sym, ap, ◌∙◌, arith, set, min, max}
 use Rattle.std.proofs.lemmas.List.{length-set, length_push}
 use Rattle.std.proofs.lemmas.List.Sums.{fold-append}
-use Rattle.std.proofs.lemmas.Bool.{cases_Bool, lt-ltb, leb-false, leb-true, and_from}
 use Rattle.sgb_graph.specs.declared.builder.Builder.{Builder}
 use Rattle.sgb_graph.specs.declared.refusal.Refusal.{Refusal}
-use Rattle.sgb_graph.specs.declared.refusal.Refusal.TheVariants.{NoRoom, TooLarge, BadOperand}
-use Rattle.sgb_graph.specs.Graph.{GraphOf, n_of, made_of, has_vertex}
-use Rattle.sgb_graph.specs.Edit.{with_arc, with_edge, with_listed, with_entry_last, arc_to, refusal_of_arc, refusal_of_edge, refusal_unless}
+use Rattle.sgb_graph.specs.declared.refusal.Refusal.TheVariants.{NoRoom, TooLarge}
+use Rattle.sgb_graph.specs.Graph.{GraphOf, n_of, made_of}
+use Rattle.sgb_graph.specs.Edit.{with_arc, with_edge, with_listed, with_entry_last, arc_to}
 use Rattle.sgb_graph.specs.Builder.{Insertion, inserted, with_all, grown, IsTooMany, Inserts}
+use Rattle.sgb_graph.specs.Private.Insert.{IsRefusedAt}
 
 pub grown-nil : (b : Builder) → grown b [] ≡ b
 unfolding grown with_all
@@ -111,49 +111,22 @@ Inserts-err T S a b c es fs e refused =
       | inr large ↦ inr (large.0, too_many-append a es fs large.1)
     ]
 
--- what a refused arc or edge tells
-pub arc_too_many : (b : Builder) (e : Insertion) (r : Refusal) → b.directed ≡ true → e.from < n_of b.graph → e.to < n_of b.graph → (r ≡ NoRoom) ⊎ (refusal_of_arc b.graph e.from e.to ≡ Some r) → (r ≡ NoRoom) ⊎ ((r ≡ TooLarge) × IsTooMany b (e ∷ []))
-arc_too_many b e r is from to (inl room) = inl room
-arc_too_many b e r is from to (inr refused) =
-    let both : (has_vertex b.graph e.from && has_vertex b.graph e.to) ≡ true = and_from (has_vertex b.graph e.from) (has_vertex b.graph e.to) (lt-ltb e.from (n_of b.graph) from) (lt-ltb e.to (n_of b.graph) to) in
-    let now : refusal_unless (nat_le (made_of b.graph + 1) 1000000) TooLarge None ≡ Some r =
-    ap (λ t. refusal_unless t BadOperand (refusal_unless (nat_le (made_of b.graph + 1) 1000000) TooLarge None)) (sym both) ∙ refused in
-    elim (cases_Bool (nat_le (made_of b.graph + 1) 1000000)) [
-      | inl few ↦ absurd (let none = ap (λ t. refusal_unless t TooLarge None) few in cc)
-      | inr many ↦
-          let large : Some TooLarge ≡ Some r = sym (ap (λ t. refusal_unless t TooLarge None) many) ∙ now in
-          let same : made_of (grown b (e ∷ [])).graph ≡ made_of b.graph + 1 = ap (λ (c : Builder). made_of c.graph) (grown_arc b e is) ∙ made-with_arc b.graph e.from e.to e.len in
-          inr (cc, omega (arith, same, leb-false (made_of b.graph + 1) 1000000 many))
-    ]
+-- what a refusal tells
+pub few_at : (made : ℕ) (e : Refusal) → IsRefusedAt made e → e ≡ NoRoom → made ≤ 1000000
+few_at made e (inl room) is = room.1
+few_at made e (inr large) is = absurd (let no : NoRoom ≡ TooLarge = sym is ∙ large.0 in cc)
 
-pub edge_too_many : (b : Builder) (e : Insertion) (r : Refusal) → b.directed ≡ false → e.from < n_of b.graph → e.to < n_of b.graph → (r ≡ NoRoom) ⊎ (refusal_of_edge b.graph e.from e.to ≡ Some r) → (r ≡ NoRoom) ⊎ ((r ≡ TooLarge) × IsTooMany b (e ∷ []))
-edge_too_many b e r is from to (inl room) = inl room
-edge_too_many b e r is from to (inr refused) =
-    let both : (has_vertex b.graph e.from && has_vertex b.graph e.to) ≡ true = and_from (has_vertex b.graph e.from) (has_vertex b.graph e.to) (lt-ltb e.from (n_of b.graph) from) (lt-ltb e.to (n_of b.graph) to) in
-    let now : refusal_unless (nat_le (made_of b.graph + 2) 1000000) TooLarge None ≡ Some r =
-    ap (λ t. refusal_unless t BadOperand (refusal_unless (nat_le (made_of b.graph + 2) 1000000) TooLarge None)) (sym both) ∙ refused in
-    elim (cases_Bool (nat_le (made_of b.graph + 2) 1000000)) [
-      | inl few ↦ absurd (let none = ap (λ t. refusal_unless t TooLarge None) few in cc)
-      | inr many ↦
-          let large : Some TooLarge ≡ Some r = sym (ap (λ t. refusal_unless t TooLarge None) many) ∙ now in
-          let same : made_of (grown b (e ∷ [])).graph ≡ made_of b.graph + 2 = ap (λ (c : Builder). made_of c.graph) (grown_edge b e is) ∙ made-with_edge b.graph e.from e.to e.len in
-          inr (cc, omega (arith, same, leb-false (made_of b.graph + 2) 1000000 many))
-    ]
+pub few_when : {T : Type 0} (made : ℕ) (r : Result T Refusal) → IfErr r (IsRefusedAt made) → IsErrOf r NoRoom → made ≤ 1000000
+few_when made (Ok x) refused is = absurd cc
+few_when made (Err e) refused is = few_at made e refused cc
 
--- an insertion that is not refused gives out no number too many
-unrefused : (both few : Bool) → refusal_unless both BadOperand (refusal_unless few TooLarge None) ≡ None → few ≡ true
-unrefused false few is = absurd cc
-unrefused true false is = absurd cc
-unrefused true true is = refl
+pub refused_all : (b : Builder) (directed : Bool) (es : List Insertion) (e : Refusal) → b.directed ≡ directed → IsRefusedAt (made_of b.graph + length es * numbers_each directed) e → (e ≡ NoRoom) ⊎ ((e ≡ TooLarge) × IsTooMany b es)
+refused_all b directed es e is (inl room) = inl room.0
+refused_all b directed es e is (inr large) =
+    let each : length es * numbers_each b.directed ≡ length es * numbers_each directed = ap (λ d. length es * numbers_each d) is in
+    inr (large.0, omega (arith, large.1, each, made-grown b es))
 
-pub arc_room : (b : Builder) (e : Insertion) → b.directed ≡ true → refusal_of_arc b.graph e.from e.to ≡ None → made_of (grown b (e ∷ [])).graph ≤ 1000000
-arc_room b e is accepted =
-    let few = unrefused (has_vertex b.graph e.from && has_vertex b.graph e.to) (nat_le (made_of b.graph + 1) 1000000) accepted in
-    let same : made_of (grown b (e ∷ [])).graph ≡ made_of b.graph + 1 = ap (λ (c : Builder). made_of c.graph) (grown_arc b e is) ∙ made-with_arc b.graph e.from e.to e.len in
-    omega (arith, same, leb-true (made_of b.graph + 1) 1000000 few)
-
-pub edge_room : (b : Builder) (e : Insertion) → b.directed ≡ false → refusal_of_edge b.graph e.from e.to ≡ None → made_of (grown b (e ∷ [])).graph ≤ 1000000
-edge_room b e is accepted =
-    let few = unrefused (has_vertex b.graph e.from && has_vertex b.graph e.to) (nat_le (made_of b.graph + 2) 1000000) accepted in
-    let same : made_of (grown b (e ∷ [])).graph ≡ made_of b.graph + 2 = ap (λ (c : Builder). made_of c.graph) (grown_edge b e is) ∙ made-with_edge b.graph e.from e.to e.len in
-    omega (arith, same, leb-true (made_of b.graph + 2) 1000000 few)
+pub all_room : (b : Builder) (directed : Bool) (es : List Insertion) → b.directed ≡ directed → made_of b.graph + length es * numbers_each directed ≤ 1000000 → made_of (grown b es).graph ≤ 1000000
+all_room b directed es is few =
+    let each : length es * numbers_each b.directed ≡ length es * numbers_each directed = ap (λ d. length es * numbers_each d) is in
+    omega (arith, few, each, made-grown b es)

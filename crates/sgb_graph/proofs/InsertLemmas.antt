@@ -1,7 +1,6 @@
 -- Lemmas on what a new arc or edge leaves of the fields.
-use Rattle.std.proofs.Common.{◌≡◌, ◌<◌, ◌+◌, ℕ, ℤ, List, [], ◌∷◌, ◌++◌, None, sym, ap, subst, ◌∙◌, arith, min, max, FitsSigned, to_z, of_z}
+use Rattle.std.proofs.Common.{◌≡◌, ◌<◌, ◌+◌, ℤ, List, [], ◌∷◌, ◌++◌, None, sym, ap, subst, ◌∙◌, arith, min, max, FitsSigned}
 use Rattle.std.specs.Int.{w64}
-use Rattle.std.proofs.lemmas.Int.{to_z-of_z}
 use Rattle.sgb_graph.specs.declared.field.VertexNo.{VertexNo}
 use Rattle.sgb_graph.specs.declared.field.ArcNo.{ArcNo}
 use Rattle.sgb_graph.specs.declared.graph.Vertex.{Vertex}
@@ -38,19 +37,6 @@ put_after b h c sound can shows live id types fields =
       types = types;
       fields = fields;
     }
-
-pub new_cut_is : (u v : VertexNo) (z : ℤ) {c : CutArc} {n m : ℕ} → FitsSigned w64 z → c ≡ new_cut (arc_no n) u v (to_z w64 (of_z w64 z)) → n ≡ m → c ≡ new_cut (arc_no m) u v z
-new_cut_is u v z fits is same = is ∙ (ap (new_cut (arc_no _) u v) (to_z-of_z w64 z fits) ∙ ap (λ k. new_cut (arc_no k) u v z) same)
-
-abbrev cut_at : ℕ → ℕ → ℕ → ℤ → CutArc
-cut_at n u v z = new_cut (arc_no n) (record { 0 = u }) (record { 0 = v }) z
-
-pub new_cut_at : (z : ℤ) (c : CutArc) (n m u x v y : ℕ) → FitsSigned w64 z → c ≡ cut_at n u v (to_z w64 (of_z w64 z)) → n ≡ m → u ≡ x → v ≡ y → c ≡ cut_at m x y z
-new_cut_at z c n m u x v y fits is same from to =
-    is
-    ∙ (ap (cut_at n u v) (to_z-of_z w64 z fits)
-    ∙ (ap (λ k. cut_at k u v z) same
-    ∙ (ap (λ k. cut_at m k v z) from ∙ ap (λ k. cut_at m x k z) to)))
 
 -- what `new_arc` knows before it links the arc
 pub record NewArcCan (a : Inside) (g : GraphOf) (u v : VertexNo) (z : ℤ) (c : CutArc) (vs : List Vertex) (ss : Slots) : Type 0 where
@@ -89,10 +75,9 @@ pub record NewArcDone (b : Inside) (g : GraphOf) (u v : VertexNo) (z : ℤ) (num
   pub left : LeftByArc g number (graph_of b)
   pub sound : IsGraph (graph_of b)
 
-pub new_arc_done : (a b : Inside) (g : GraphOf) (u v : VertexNo) (z : ℤ) (c : CutArc) (vs ws : List Vertex) (ss ts : Slots) (number : ArcNo) → NewArcCan a g u v z c vs ss
-    → PutsBack vs ss c ws ts → b.vertices ≡ ws → b.slots ≡ ts → b.live ≡ a.live + 1 → SameOwn a b → number ≡ arc_no (made_of g) → NewArcDone b g u v z number
-new_arc_done a b g u v z c vs ws ss ts number k puts vertices slots live own is =
-    let o = new_arc_after a b g u v z c vs ws ss ts k puts vertices slots live own in
+pub arc_done : (b : Inside) (g : GraphOf) (u v : VertexNo) (z : ℤ) (number : ArcNo) → IsGraph g → u.0 < n_of g → v.0 < n_of g → made_of g < 1000000 → FitsSigned w64 z → number ≡ arc_no (made_of g)
+    → Opened b (with_arc g u.0 v.0 z) → NewArcDone b g u v z number
+arc_done b g u v z number sound from to few fits is o =
     let arena = closed_arena b (with_arc g u.0 v.0 z) o in
     record {
       arena = arena;
@@ -101,9 +86,9 @@ new_arc_done a b g u v z c vs ws ss ts number k puts vertices slots live own is 
         from = u.0;
         to = v.0;
         len = z;
-        graph = k.opened.graph;
-        accepted = arc_accepted g u.0 v.0 k.from k.to k.few;
-        fits = k.fits;
+        graph = sound;
+        accepted = arc_accepted g u.0 v.0 from to few;
+        fits = fits;
         number = is;
         left = closed b (with_arc g u.0 v.0 z) o;
       };
@@ -166,10 +151,9 @@ pub record NewEdgeDone (b : Inside) (g : GraphOf) (u v : VertexNo) (z : ℤ) (nu
   pub left : LeftByEdge g number (graph_of b)
   pub sound : IsGraph (graph_of b)
 
-pub new_edge_done : (a b : Inside) (g : GraphOf) (u v : VertexNo) (z : ℤ) (c d : CutArc) (vs ws : List Vertex) (ss ts : Slots) (number : ArcNo) → NewEdgeCan a g u v z c d vs ss
-    → PutsBoth vs ss c d ws ts → b.vertices ≡ ws → b.slots ≡ ts → b.live ≡ a.live + 2 → SameOwn a b → number ≡ arc_no (made_of g) → NewEdgeDone b g u v z number
-new_edge_done a b g u v z c d vs ws ss ts number k puts vertices slots live own is =
-    let o = new_edge_after a b g u v z c d vs ws ss ts k puts vertices slots live own in
+pub edge_done : (b : Inside) (g : GraphOf) (u v : VertexNo) (z : ℤ) (number : ArcNo) → IsGraph g → u.0 < n_of g → v.0 < n_of g → made_of g + 1 < 1000000 → FitsSigned w64 z → number ≡ arc_no (made_of g)
+    → Opened b (with_edge g u.0 v.0 z) → NewEdgeDone b g u v z number
+edge_done b g u v z number sound from to few fits is o =
     let arena = closed_arena b (with_edge g u.0 v.0 z) o in
     record {
       arena = arena;
@@ -178,9 +162,9 @@ new_edge_done a b g u v z c d vs ws ss ts number k puts vertices slots live own 
         from = u.0;
         to = v.0;
         len = z;
-        graph = k.opened.graph;
-        accepted = edge_accepted g u.0 v.0 k.from k.to k.few;
-        fits = k.fits;
+        graph = sound;
+        accepted = edge_accepted g u.0 v.0 from to few;
+        fits = fits;
         number = is;
         left = closed b (with_edge g u.0 v.0 z) o;
       };

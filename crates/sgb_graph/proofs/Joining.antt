@@ -3,10 +3,11 @@ use Rattle.std.proofs.Common.{◌≡◌, ◌<◌, ◌≤◌, ◌+◌, ◌-◌, �
 use Rattle.std.specs.Int.{w64}
 use Rattle.std.specs.List.{range_with_len}
 use Rattle.std.proofs.lemmas.List.{length_push, at_drop_more, at_drop_all, get_or_default, length-map}
-use Rattle.std.proofs.lemmas.List.Elements.{All-map}
+use Rattle.std.proofs.lemmas.List.Elements.{All-map, All-nil, All-cons}
 use Rattle.std.proofs.lemmas.List.FromFn.{get_or-map-range_with_len}
 use Rattle.std.proofs.lemmas.Bool.{cases_lt}
 use Rattle.sgb_graph.specs.declared.field.VertexNo.{VertexNo}
+use Rattle.sgb_graph.specs.declared.field.ArcNo.{ArcNo}
 use Rattle.sgb_graph.specs.declared.field.Util.{Util}
 use Rattle.sgb_graph.specs.declared.spoke.Spoke.{Spoke}
 use Rattle.sgb_graph.specs.declared.graph.Vertex.{Vertex}
@@ -23,7 +24,7 @@ use Rattle.sgb_graph.specs.Private.Join.{Both, both, vertex_no, with_new_arc, wi
 use Rattle.sgb_graph.specs.Private.Link.{vertex_in, vertices_relinked}
 use Rattle.sgb_graph.proofs.Cells.{length-zipped, slot_pushed}
 use Rattle.sgb_graph.proofs.Growing.{numbers_each, n-inserted, made-inserted}
-use Rattle.sgb_graph.proofs.InsertLemmas.{SameOwn, NewEdgeCan, new_edge_after}
+use Rattle.sgb_graph.proofs.InsertLemmas.{SameOwn, NewArcDone, NewEdgeCan, NewEdgeDone, arc_done, edge_done, new_edge_after}
 use Rattle.sgb_graph.proofs.Pushing.{edge_pushed}
 use Rattle.sgb_graph.proofs.Rows.{row_first, length-row}
 use Rattle.sgb_graph.proofs.Shows.{Opened, closed, closed_arena}
@@ -223,18 +224,40 @@ row_can n u first end z from high fits =
 along_can : (n u : ℕ) (ss : List Spoke) → u < n → All (λ s. s.to < n) ss → All (λ s. FitsSigned w64 s.len) ss → All (CanJoin n) (map (along u) ss)
 along_can n u ss from to fits = All-map (CanJoin n) (along u) ss (λ i d h. record { from = from; to = to i d h; fits = fits i d h })
 
-pub row_joined : (a b : Inside) (g : GraphOf) (u first end count : ℕ) (z y : ℤ) → Opened a g → u < n_of g → end ≤ n_of g → FitsSigned w64 z → y ≡ z → count ≡ 2 * (end - first) → made_of g + count ≤ 1000000
+pub row_joined : (a b : Inside) (g : GraphOf) (u first end count : ℕ) (z y : ℤ) → Opened a g → u < n_of g → end ≤ n_of g → FitsSigned w64 z → y ≡ z → count ≡ 2 * (end - first) → length a.slots + count ≤ 1000000
     → both b.vertices b.slots ≡ all_joined false (both a.vertices a.slots) (row u first end y) → b.live ≡ a.live + count → SameOwn a b → AllDone false b g (row u first end z)
 row_joined a b g u first end count z y o from high fits same count_is few is live own =
     let es = row u first end z in
     let long : length es ≡ end - first = length-row u first end z in
-    all_done false es a b g o (row_can (n_of g) u first end z from high fits) (omega (arith, few, count_is, long))
+    all_done false es a b g o (row_can (n_of g) u first end z from high fits) (omega (arith, few, o.shows.made, count_is, long))
     (subst (λ x. both b.vertices b.slots ≡ all_joined false (both a.vertices a.slots) (row u first end x)) same is) (omega (arith, live, count_is, long)) own
 
 pub along_joined : (directed : Bool) (a b : Inside) (g : GraphOf) (u : ℕ) (ss : List Spoke) → Opened a g → u < n_of g → All (λ s. s.to < n_of g) ss → All (λ s. FitsSigned w64 s.len) ss
-    → made_of g + length ss * numbers_each directed ≤ 1000000 → both b.vertices b.slots ≡ all_joined directed (both a.vertices a.slots) (map (along u) ss) → b.live ≡ a.live + length ss * numbers_each directed
+    → length a.slots + length ss * numbers_each directed ≤ 1000000 → both b.vertices b.slots ≡ all_joined directed (both a.vertices a.slots) (map (along u) ss) → b.live ≡ a.live + length ss * numbers_each directed
     → SameOwn a b → AllDone directed b g (map (along u) ss)
 along_joined directed a b g u ss o from to fits few is live own =
     let long : length (map (along u) ss) ≡ length ss = length-map ss (along u) in
     let all : length (map (along u) ss) * numbers_each directed ≡ length ss * numbers_each directed = ap (λ n. n * numbers_each directed) long in
-    all_done directed (map (along u) ss) a b g o (along_can (n_of g) u ss from to fits) (omega (arith, few, all)) is (omega (arith, live, all)) own
+    all_done directed (map (along u) ss) a b g o (along_can (n_of g) u ss from to fits) (omega (arith, few, o.shows.made, all)) is (omega (arith, live, all)) own
+
+-- a single one
+one_can : (n u v : ℕ) (z : ℤ) → u < n → v < n → FitsSigned w64 z → All (CanJoin n) (insertion u v z ∷ [])
+one_can n u v z from to fits = All-cons (CanJoin n) (insertion u v z) [] (record { from = from; to = to; fits = fits }) (All-nil (CanJoin n))
+
+pub arc_joined : (a b : Inside) (g : GraphOf) (u v : VertexNo) (z y : ℤ) (number : ArcNo) → Opened a g → u.0 < n_of g → v.0 < n_of g → FitsSigned w64 z → y ≡ z → length a.slots + 1 ≤ 1000000
+    → both b.vertices b.slots ≡ all_joined true (both a.vertices a.slots) (insertion u.0 v.0 y ∷ []) → b.live ≡ a.live + 1 → SameOwn a b → number ≡ arc_no (made_of g) → NewArcDone b g u v z number
+unfolding with_all inserted
+arc_joined a b g u v z y number o from to fits same few is live own number_is =
+    let less : made_of g < 1000000 = omega (arith, few, o.shows.made) in
+    arc_done b g u v z number o.graph from to less fits number_is
+    (all_after true (insertion u.0 v.0 z ∷ []) a b g o (one_can (n_of g) u.0 v.0 z from to fits) (omega (arith, less))
+    (subst (λ x. both b.vertices b.slots ≡ all_joined true (both a.vertices a.slots) (insertion u.0 v.0 x ∷ [])) same is) live own)
+
+pub edge_joined : (a b : Inside) (g : GraphOf) (u v : VertexNo) (z y : ℤ) (number : ArcNo) → Opened a g → u.0 < n_of g → v.0 < n_of g → FitsSigned w64 z → y ≡ z → length a.slots + 2 ≤ 1000000
+    → both b.vertices b.slots ≡ all_joined false (both a.vertices a.slots) (insertion u.0 v.0 y ∷ []) → b.live ≡ a.live + 2 → SameOwn a b → number ≡ arc_no (made_of g) → NewEdgeDone b g u v z number
+unfolding with_all inserted
+edge_joined a b g u v z y number o from to fits same few is live own number_is =
+    let less : made_of g + 1 < 1000000 = omega (arith, few, o.shows.made) in
+    edge_done b g u v z number o.graph from to less fits number_is
+    (all_after false (insertion u.0 v.0 z ∷ []) a b g o (one_can (n_of g) u.0 v.0 z from to fits) (omega (arith, less))
+    (subst (λ x. both b.vertices b.slots ≡ all_joined false (both a.vertices a.slots) (insertion u.0 v.0 x ∷ [])) same is) live own)

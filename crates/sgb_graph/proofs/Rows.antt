@@ -1,5 +1,5 @@
 -- Lemmas on rows: insertions from one vertex to each of a run of vertices.
-use Rattle.std.proofs.Common.{◌≡◌, ◌<◌, ◌≤◌, ◌+◌, ◌-◌, ◌*◌, Bool, ℕ, zero, suc, ℤ, List, [], ◌∷◌, ◌++◌, length, map, set, Option, Some, None, true, refl, sym, ap, ◌∙◌, arith, FitsSigned, ◌⊎◌, inl, inr, Result, Ok, Err, OnOk, IfErr}
+use Rattle.std.proofs.Common.{◌≡◌, ◌<◌, ◌≤◌, ◌+◌, ◌-◌, ◌*◌, Bool, ℕ, zero, suc, ℤ, List, [], ◌∷◌, ◌++◌, length, map, set, Option, Some, None, true, refl, sym, ap, subst, ◌∙◌, arith, FitsSigned, Result, Ok, Err, OnOk, IfErr}
 use Rattle.std.specs.Int.{w64}
 use Rattle.std.specs.List.{range_with_len}
 use Rattle.std.proofs.lemmas.List.{append-nil, append_assoc, length_push, get_or-set_same, set-set, set-get_or}
@@ -12,16 +12,15 @@ use Rattle.sgb_graph.specs.declared.graph.Vertex.{Vertex}
 use Rattle.sgb_graph.specs.declared.graph.arena.Cell.{Cell}
 use Rattle.sgb_graph.specs.declared.graph.Graph.TheInside.{Inside}
 use Rattle.sgb_graph.specs.declared.refusal.Refusal.{Refusal}
-use Rattle.sgb_graph.specs.declared.refusal.Refusal.TheVariants.{NoRoom, TooLarge}
 use Rattle.sgb_graph.specs.Graph.{GraphOf, n_of, made_of}
 use Rattle.sgb_graph.specs.Edit.{with_arc}
 use Rattle.sgb_graph.specs.Field.{arc_no}
 use Rattle.sgb_graph.specs.Builder.{Insertion, insertion, inserted, with_all, grown, row, Inserts}
 use Rattle.sgb_graph.specs.Private.Arena.{Slots, IsArena, graph_of}
 use Rattle.sgb_graph.specs.Private.Cells.{two_zeros, slot_with, zipped, new_cell}
-use Rattle.sgb_graph.specs.Private.Insert.{new_cut, new_slot, row_cells, last_link}
+use Rattle.sgb_graph.specs.Private.Insert.{IsRefusedAt, new_cut, new_slot, row_cells, last_link}
 use Rattle.sgb_graph.specs.Private.Link.{any_vertex, vertex_in, vertices_relinked}
-use Rattle.sgb_graph.proofs.Growing.{made-grown, numbers_each, made-with_arc, n-with_arc}
+use Rattle.sgb_graph.proofs.Growing.{refused_all, numbers_each, made-with_arc, n-with_arc}
 use Rattle.sgb_graph.proofs.InsertLemmas.{SameOwn, NewArcCan, new_arc_after}
 use Rattle.sgb_graph.proofs.Pushing.{arc_pushed}
 use Rattle.sgb_graph.proofs.Shows.{Opened, closed, closed_arena}
@@ -32,23 +31,11 @@ length-row u first end z = length-map-range_with_len (λ w. insertion u w z) fir
 
 -- ---- what a builder answers
 pub all_inserted : (a : Builder) (h : GraphOf) (directed : Bool) (es : List Insertion) (made : ℕ) (r : Result (Unit {0}) Refusal) → a.directed ≡ directed → made ≡ made_of a.graph + length es * numbers_each directed
-    → OnOk r (h ≡ with_all directed a.graph es) → IfErr r (λ e. (e ≡ NoRoom) ⊎ ((e ≡ TooLarge) × (1000000 < made))) → Inserts a (record { graph = h; directed = a.directed }) es r
+    → OnOk r (h ≡ with_all directed a.graph es) → IfErr r (IsRefusedAt made) → Inserts a (record { graph = h; directed = a.directed }) es r
 unfolding grown
 all_inserted a h directed es made (Ok x) is count done refused =
     ap (λ g. record { graph = g; directed = a.directed }) (done ∙ ap (λ d. with_all d a.graph es) (sym is))
-all_inserted a h directed es made (Err e) is count done refused =
-    elim refused [
-      | inl room ↦ inl room
-      | inr large ↦ inr (
-        large.0,
-        (let each : length es * numbers_each a.directed ≡ length es * numbers_each directed = ap (λ d. length es * numbers_each d) is in omega (arith, large.1, count, each, made-grown a es)),
-      )
-    ]
-
-pub all_room : (a : Builder) (directed : Bool) (es : List Insertion) → a.directed ≡ directed → made_of a.graph + length es * numbers_each directed ≤ 1000000 → made_of (grown a es).graph ≤ 1000000
-all_room a directed es is few =
-    let each : length es * numbers_each a.directed ≡ length es * numbers_each directed = ap (λ d. length es * numbers_each d) is in
-    omega (arith, few, each, made-grown a es)
+all_inserted a h directed es made (Err e) is count done refused = refused_all a directed es e is (subst (λ n. IsRefusedAt n e) count refused)
 
 -- ---- the cells
 pub cells_none : (cs : List Cell) (owner : VertexNo) (z : ℤ) (k to end : ℕ) (link : Option ArcNo) → end ≤ to → cs ++ row_cells owner z k to (end - to) link ≡ cs

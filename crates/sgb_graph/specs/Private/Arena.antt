@@ -2,6 +2,7 @@
 use Rattle.std.specs.Prelude.{◌≡◌, ◌<◌, ℕ, ℤ, pos, List, [], map, length, Option, Some, None, IfSome, IsSome, All, slice_index_or}
 use Rattle.sgb_graph.specs.declared.field.VertexNo.{VertexNo}
 use Rattle.sgb_graph.specs.declared.field.ArcNo.{ArcNo}
+use Rattle.sgb_graph.specs.declared.field.Tip.{Tip}
 use Rattle.sgb_graph.specs.declared.graph.Vertex.{Vertex}
 use Rattle.sgb_graph.specs.declared.graph.arena.Slot.{Slot}
 use Rattle.sgb_graph.specs.declared.graph.read.ArcView.{ArcView}
@@ -81,6 +82,11 @@ pub record IsArena (a : Inside) : Type 0 where
 abbrev pub view_in : Option Slot → Option ArcView
 view_in None = None
 view_in (Some s) = Some (record { owner = s.owner; tip = s.tip; len = s.len })
+
+-- the tip of the arc in a slot
+abbrev pub tip_in : Option Slot → Option Tip
+tip_in None = None
+tip_in (Some s) = Some s.tip
 
 -- the length in a slot, and the slot with another one
 abbrev pub len_in : Option Slot → ℤ

@@ -1,10 +1,12 @@
 -- New arcs, as they are linked into a graph.
-use Rattle.std.specs.Prelude.{◌+◌, ℕ, zero, suc, ℤ, List, [], ◌∷◌, Option, Some, None}
+use Rattle.std.specs.Prelude.{◌≡◌, ◌≤◌, ◌<◌, ◌⊎◌, ◌+◌, ℕ, zero, suc, ℤ, List, [], ◌∷◌, Option, Some, None}
 use Rattle.sgb_graph.specs.declared.field.VertexNo.{VertexNo}
 use Rattle.sgb_graph.specs.declared.field.ArcNo.{ArcNo}
 use Rattle.sgb_graph.specs.declared.field.Tip.TheVariants.{To}
 use Rattle.sgb_graph.specs.declared.field.Util.TheVariants.{Zero}
 use Rattle.sgb_graph.specs.declared.delta.CutArc.{CutArc}
+use Rattle.sgb_graph.specs.declared.refusal.Refusal.{Refusal}
+use Rattle.sgb_graph.specs.declared.refusal.Refusal.TheVariants.{NoRoom, TooLarge}
 use Rattle.sgb_graph.specs.declared.graph.Vertex as vertex
 use Rattle.sgb_graph.specs.declared.graph.arena.Cell.{Cell}
 use Rattle.sgb_graph.specs.declared.graph.arena.Slot.{Slot}
@@ -33,6 +35,10 @@ first_behind vs number low high = (vertex_in (vertices_relinked vs high None (So
 abbrev pub PutsBoth : List vertex.Vertex → Slots → CutArc → CutArc → List vertex.Vertex → Slots → Type 0
 PutsBoth vs ss c d ws ts =
     (g : GraphOf) → Shows vs ss g → IsGraph g → CanPutBack g c → CanPutBack (with_cut_arc g c) d → Shows ws ts (with_cut_arc (with_cut_arc g c) d)
+
+-- so many numbers are refused: for want of memory, or where they are more than a graph gives out, for that
+abbrev pub IsRefusedAt : ℕ → Refusal → Type 0
+IsRefusedAt made e = ((e ≡ NoRoom) × (made ≤ 1000000)) ⊎ ((e ≡ TooLarge) × (1000000 < made))
 
 -- the cells of new arcs of one vertex, numbered from k on, to this many vertices from `to` on: each is followed by the one
 -- before it, and the first by what the link names

@@ -1,28 +1,29 @@
 //! The arcs of a graph by number.
-ghost use Rattle.std.specs.Prelude.{◌≡◌, ◌<◌, ◌≤◌, ◌^◌, ◌-◌, ◌+◌, ◌*◌, ◌∷◌, ◌++◌, [], true, false, All, FitsSigned, max, length, map, vec_len, vec_capacity, take, is_some, IsSome, None, Some, IfOk, OnOk, OnErr, slice_index_or, slice_set};
+ghost use Rattle.std.specs.Prelude.{◌≡◌, ◌<◌, ◌≤◌, ◌^◌, ◌-◌, ◌+◌, ◌*◌, ◌∷◌, ◌++◌, [], true, false, All, FitsSigned, max, length, map, vec_len, vec_capacity, take, is_some, IsSome, None, Some, IfOk, IfErr, OnOk, OnErr, slice_index_or, slice_set};
 ghost use Rattle.std.specs.List.{list_all, zip};
 ghost use Rattle.std.specs.Int.{w64};
 ghost use Rattle.sgb_graph.specs.declared.field.Util.TheVariants as utils;
-ghost use Rattle.sgb_graph.specs.Builder.{along, row};
+ghost use Rattle.sgb_graph.specs.Builder.{along, insertion, row};
 ghost use Rattle.sgb_graph.specs.Honest.{are_allowed};
 ghost use Rattle.sgb_graph.specs.Private.Aim.{with_aim_in};
-ghost use Rattle.sgb_graph.specs.Private.Arena.{slot_at, next_at, owner_in, names_counted, view_in, len_in, with_len_in};
+ghost use Rattle.sgb_graph.specs.Private.Arena.{slot_at, next_at, owner_in, tip_in, names_counted, view_in, len_in, with_len_in};
 ghost use Rattle.sgb_graph.specs.Private.Cells.{two_zeros, slot_with, kept_at, SameFields, PutsFields, new_cell, unnamed_slot, owned_allowed, is_zero};
 ghost use Rattle.sgb_graph.specs.Private.Exchange.{fields_in, with_field};
-ghost use Rattle.sgb_graph.specs.Private.Insert.{new_slot, row_cells, last_link};
+ghost use Rattle.sgb_graph.specs.Private.Insert.{IsRefusedAt, row_cells, last_link};
 ghost use Rattle.sgb_graph.specs.Private.Join.{both, all_joined};
 ghost use Rattle.sgb_graph.specs.Private.Link.{slots_relinked, slots_gaining, slots_losing, IsCounted};
 ghost use Rattle.sgb_graph.specs.Private.SameRows.{each_eq, slot_eq};
 ghost use Rattle.sgb_graph.specs.Private.Walk.{is_loop_in};
 
+use super::MOST_ARCS;
 use super::codes::{Link, OwnerCode, TipCode};
 use super::honest::are_allowed;
-use super::join::{push_arcs_along, push_edges, push_edges_along};
+use super::join::{push_arc, push_arcs_along, push_edge, push_edges, push_edges_along};
 use super::paired::is_vertex;
 use super::read::ArcView;
 use super::same::{is_link_same, is_tip_same};
 use super::vertices::Vertices;
-use crate::{ArcNo, Spoke, Tip, Util, VertexNo};
+use crate::{ArcNo, Refusal, Spoke, Tip, Util, VertexNo};
 use std::alloc::{AllocError, Global};
 use std::marker::Model;
 use std::mem;
@@ -79,7 +80,7 @@ impl Model for Arena {
 
     ghost view = { λ a. zipped a.cells.items a.fields.items };
 
-    ghost invariant = { λ a. (vec_len a.fields ≤ vec_len a.cells) × (vec_len a.cells ≤ a.room) × (a.room ≤ vec_capacity a.cells) × (a.room ≤ vec_capacity a.fields) × (a.zeros ≡ two_zeros) };
+    ghost invariant = { λ a. (vec_len a.fields ≤ vec_len a.cells) × (vec_len a.cells ≤ a.room) × (a.room ≤ vec_capacity a.cells) × (a.room ≤ vec_capacity a.fields) × (a.zeros ≡ two_zeros) × (a.room ≤ 1000000) };
 }
 
 impl Arena {
@@ -103,15 +104,17 @@ impl Arena {
     }
 
     /// Takes room for so many slots more.
-    pub fn reserve(&mut self, count: usize) -> Result<(), AllocError>
-        ensures { self.new ≡ self.old }
+    pub fn reserve(&mut self, count: usize) -> Result<(), Refusal>
+        ensures same { self.new ≡ self.old }
+        ensures err { IfErr result (IsRefusedAt (length self.old + count)) }
     {
         make_room(&mut self.cells, &mut self.fields, &mut self.room, count)
     }
 
     /// Adds a hole, last.
-    pub fn push_hole(&mut self) -> Result<(), AllocError>
+    pub fn push_hole(&mut self) -> Result<(), Refusal>
         ensures ok { OnOk result (self.new ≡ self.old ++ None ∷ []) }
+        ensures err { IfErr result (IsRefusedAt (length self.old + 1)) }
         ensures unchanged { OnErr result (self.new ≡ self.old) }
     {
         make_room(&mut self.cells, &mut self.fields, &mut self.room, 1)?;
@@ -119,45 +122,51 @@ impl Arena {
         Ok(())
     }
 
-    /// Adds a new arc, last.
-    #[inline]
-    pub fn push(
+    /// Adds a new arc, last, first in the list of its owner.
+    #[inline(always)]
+    pub fn push_arc(
         &mut self,
+        vertices: &mut Vertices,
         from: VertexNo,
         to: VertexNo,
-        next: Link,
         len: i64,
-    ) -> Result<(), AllocError>
-        requires from { from.0 < 65535 }
-        requires to { to.0 < 65535 }
-        ensures ok { OnOk result (self.new ≡ self.old ++ Some (new_slot from to next len) ∷ []) }
+    ) -> Result<(), Refusal>
+        requires from { from.0 < length vertices.old }
+        requires to { to.0 < length vertices.old }
+        requires vertices { length vertices.old ≤ 65535 }
+        ensures joined { OnOk result
+            (both vertices.new self.new ≡ all_joined true (both vertices.old self.old) (insertion from.0 to.0 len ∷ [])) }
+        ensures few { OnOk result (length self.old + 1 ≤ 1000000) }
+        ensures err { IfErr result (IsRefusedAt (length self.old + 1)) }
         ensures unchanged { OnErr result (self.new ≡ self.old) }
+        ensures vertices { OnErr result (vertices.new ≡ vertices.old) }
     {
         make_room(&mut self.cells, &mut self.fields, &mut self.room, 1)?;
-        self.cells.push_reserved(new_cell(from, to, next, len));
+        push_arc(&mut self.cells, vertices, from, to, len);
         Ok(())
     }
 
-    /// Adds the two arcs of a new edge, last.
-    #[inline]
-    pub fn push_both(
+    /// Adds the two arcs of a new edge, last, each first in the list of its owner.
+    #[inline(always)]
+    pub fn push_edge(
         &mut self,
-        low: VertexNo,
-        high: VertexNo,
-        after_low: Link,
-        after_high: Link,
+        vertices: &mut Vertices,
+        from: VertexNo,
+        to: VertexNo,
         len: i64,
-    ) -> Result<(), AllocError>
-        requires low { low.0 < 65535 }
-        requires high { high.0 < 65535 }
-        ensures ok { OnOk result (self.new ≡ self.old ++ Some (new_slot low high after_low len) ∷ [] ++ Some (new_slot high low after_high len) ∷ []) }
+    ) -> Result<(), Refusal>
+        requires from { from.0 < length vertices.old }
+        requires to { to.0 < length vertices.old }
+        requires vertices { length vertices.old ≤ 65535 }
+        ensures joined { OnOk result
+            (both vertices.new self.new ≡ all_joined false (both vertices.old self.old) (insertion from.0 to.0 len ∷ [])) }
+        ensures few { OnOk result (length self.old + 2 ≤ 1000000) }
+        ensures err { IfErr result (IsRefusedAt (length self.old + 2)) }
         ensures unchanged { OnErr result (self.new ≡ self.old) }
+        ensures vertices { OnErr result (vertices.new ≡ vertices.old) }
     {
         make_room(&mut self.cells, &mut self.fields, &mut self.room, 2)?;
-        self.cells
-            .push_reserved(new_cell(low, high, after_low, len));
-        self.cells
-            .push_reserved(new_cell(high, low, after_high, len));
+        push_edge(&mut self.cells, vertices, from, to, len);
         Ok(())
     }
 
@@ -171,12 +180,13 @@ impl Arena {
         end: u32,
         next: Link,
         len: i64,
-    ) -> Result<Link, AllocError>
+    ) -> Result<Link, Refusal>
         requires from { from.0 < 65535 }
         requires end { end ≤ 65535 }
-        requires few { length self.old + (end - first) ≤ 1000000 }
         ensures slots { OnOk result (self.new ≡ self.old ++ map (slot_with two_zeros) (row_cells from len (length self.old) first (end - first) next)) }
         ensures link { IfOk result (λ link. link ≡ last_link (length self.old) (end - first) next) }
+        ensures few { OnOk result (length self.old + (end - first) ≤ 1000000) }
+        ensures err { IfErr result (IsRefusedAt (length self.old + (end - first))) }
         ensures unchanged { OnErr result (self.new ≡ self.old) }
     {
         let count = end.saturating_sub(first);
@@ -198,13 +208,14 @@ impl Arena {
         first: u32,
         end: u32,
         len: i64,
-    ) -> Result<(), AllocError>
+    ) -> Result<(), Refusal>
         requires from { from.0 < length vertices.old }
         requires end { end ≤ length vertices.old }
         requires vertices { length vertices.old ≤ 65535 }
-        requires few { length self.old + 2 * (end - first) ≤ 1000000 }
         ensures joined { OnOk result
             (both vertices.new self.new ≡ all_joined false (both vertices.old self.old) (row from.0 first end len)) }
+        ensures few { OnOk result (length self.old + 2 * (end - first) ≤ 1000000) }
+        ensures err { IfErr result (IsRefusedAt (length self.old + 2 * (end - first))) }
         ensures unchanged { OnErr result (self.new ≡ self.old) }
         ensures vertices { OnErr result (vertices.new ≡ vertices.old) }
     {
@@ -225,14 +236,15 @@ impl Arena {
         vertices: &mut Vertices,
         from: VertexNo,
         spokes: &[Spoke],
-    ) -> Result<(), AllocError>
+    ) -> Result<(), Refusal>
         requires from { from.0 < length vertices.old }
         requires to { All (λ s. s.to < length vertices.old) spokes.now }
         requires vertices { length vertices.old ≤ 65535 }
-        requires few { length self.old + length spokes.now ≤ 1000000 }
         ensures joined { OnOk result
             (both vertices.new self.new ≡ all_joined true (both vertices.old self.old) (map (along from.0) spokes.now)) }
         ensures fits { OnOk result (All (λ s. FitsSigned w64 s.len) spokes.now) }
+        ensures few { OnOk result (length self.old + length spokes.now ≤ 1000000) }
+        ensures err { IfErr result (IsRefusedAt (length self.old + length spokes.now)) }
         ensures unchanged { OnErr result (self.new ≡ self.old) }
         ensures vertices { OnErr result (vertices.new ≡ vertices.old) }
     {
@@ -252,14 +264,15 @@ impl Arena {
         vertices: &mut Vertices,
         from: VertexNo,
         spokes: &[Spoke],
-    ) -> Result<(), AllocError>
+    ) -> Result<(), Refusal>
         requires from { from.0 < length vertices.old }
         requires to { All (λ s. s.to < length vertices.old) spokes.now }
         requires vertices { length vertices.old ≤ 65535 }
-        requires few { length self.old + 2 * length spokes.now ≤ 1000000 }
         ensures joined { OnOk result
             (both vertices.new self.new ≡ all_joined false (both vertices.old self.old) (map (along from.0) spokes.now)) }
         ensures fits { OnOk result (All (λ s. FitsSigned w64 s.len) spokes.now) }
+        ensures few { OnOk result (length self.old + 2 * length spokes.now ≤ 1000000) }
+        ensures err { IfErr result (IsRefusedAt (length self.old + 2 * length spokes.now)) }
         ensures unchanged { OnErr result (self.new ≡ self.old) }
         ensures vertices { OnErr result (vertices.new ≡ vertices.old) }
     {
@@ -377,6 +390,24 @@ impl Arena {
             }),
             None => None,
         }
+    }
+
+    /// The tip of a live arc.
+    #[inline]
+    pub fn tip(&self, number: ArcNo) -> Tip
+        requires { IsSome (slot_at self.now number.0) }
+        ensures { tip_in (slot_at self.now number.0) ≡ Some result }
+    {
+        self.cell(number.0 as usize).tip.get()
+    }
+
+    /// The length of a live arc.
+    #[inline]
+    pub fn length(&self, number: ArcNo) -> i64
+        requires { IsSome (slot_at self.now number.0) }
+        ensures { result ≡ len_in (slot_at self.now number.0) }
+    {
+        self.cell(number.0 as usize).len
     }
 
     /// The owner of a live arc.
@@ -642,18 +673,20 @@ fn push_row(
     link
 }
 
-// Takes room for so many slots more, and for the fields of all.
+// Takes room for so many slots more, and for the fields of all. There is never room for more than a graph gives out, so
+// where there is room nothing else is asked.
 #[inline]
 fn make_room(
     cells: &mut Vec<Cell>,
     fields: &mut Vec<[Util; 2]>,
     room: &mut usize,
     count: usize,
-) -> Result<(), AllocError>
+) -> Result<(), Refusal>
     requires few { vec_len fields.old ≤ vec_len cells.old }
     requires len { vec_len cells.old ≤ room.old }
     requires cells_room { room.old ≤ vec_capacity cells.old }
     requires fields_room { room.old ≤ vec_capacity fields.old }
+    requires most { room.old ≤ 1000000 }
     ensures cells { cells.new.items ≡ cells.old.items }
     ensures cells_len { vec_len cells.new ≡ vec_len cells.old }
     ensures fields { fields.new.items ≡ fields.old.items }
@@ -662,12 +695,44 @@ fn make_room(
     ensures len { vec_len cells.new ≤ room.new }
     ensures cells_room { room.new ≤ vec_capacity cells.new }
     ensures fields_room { room.new ≤ vec_capacity fields.new }
+    ensures most { room.new ≤ 1000000 }
+    ensures err { IfErr result (IsRefusedAt (vec_len cells.old + count)) }
 {
     if *room - cells.len() >= count {
         return Ok(());
     }
-    *room = grow_room(cells, fields, count)?;
+    *room = grow_slots(cells, fields, count)?;
     Ok(())
+}
+
+// Takes more memory for so many slots more, as far as a graph gives out so many. Answers for how many there is room.
+#[cold]
+#[inline(never)]
+fn grow_slots(
+    cells: &mut Vec<Cell>,
+    fields: &mut Vec<[Util; 2]>,
+    count: usize,
+) -> Result<usize, Refusal>
+    requires few { vec_len fields.old ≤ vec_len cells.old }
+    requires most { vec_len cells.old ≤ 1000000 }
+    ensures cells { cells.new.items ≡ cells.old.items }
+    ensures cells_len { vec_len cells.new ≡ vec_len cells.old }
+    ensures fields { fields.new.items ≡ fields.old.items }
+    ensures fields_len { vec_len fields.new ≡ vec_len fields.old }
+    ensures room { IfOk result (λ room. vec_len cells.new + count ≤ room) }
+    ensures cells_room { IfOk result (λ room. room ≤ vec_capacity cells.new) }
+    ensures fields_room { IfOk result (λ room. room ≤ vec_capacity fields.new) }
+    ensures most { IfOk result (λ room. room ≤ 1000000) }
+    ensures cells_capacity { vec_capacity cells.old ≤ vec_capacity cells.new }
+    ensures fields_capacity { vec_capacity fields.old ≤ vec_capacity fields.new }
+    ensures err { IfErr result (IsRefusedAt (vec_len cells.old + count)) }
+{
+    let most = MOST_ARCS as usize;
+    if count > most - cells.len() {
+        return Err(Refusal::TooLarge);
+    }
+    let room = grow_room(cells, fields, count)?;
+    Ok(room.min(most))
 }
 
 // Takes more memory for so many slots or vertices more, and for the fields of all. Answers for how many there is room.

@@ -6,10 +6,9 @@ ghost use Rattle.sgb_graph.specs.Graph.{IsGraph, has_vertex, n_of, made_of};
 ghost use Rattle.sgb_graph.specs.Edit.{with_arc, with_edge, refusal_of_arc, refusal_of_edge};
 ghost use Rattle.sgb_graph.specs.Delta.{LeftBy};
 ghost use Rattle.sgb_graph.specs.Field.{arc_no};
-ghost use Rattle.sgb_graph.specs.Private.Insert.{first_behind};
-ghost use Rattle.sgb_graph.specs.Private.Link.{vertex_in, vertices_relinked};
+ghost use Rattle.sgb_graph.specs.Private.Insert.{IsRefusedAt};
 
-use super::{Graph, Link, MOST_ARCS, Vertices};
+use super::Graph;
 use crate::{ArcNo, GraphDelta, Refusal, Spoke, VertexNo};
 
 impl Graph {
@@ -92,19 +91,13 @@ impl Graph {
         ensures number { IfOk result (λ k. k ≡ arc_no (made_of self.old)) }
         ensures graph { OnOk result (self.new ≡ with_arc self.old from.0 to.0 len) }
         ensures left { IfOk result (λ k. LeftBy self.old (GraphDelta.NewArc k) self.new) }
-        ensures err { IfErr result (λ e. (e ≡ Refusal.NoRoom) ⊎ (refusal_of_arc self.old from.0 to.0 ≡ Some e)) }
-        ensures room { IsErrOf result Refusal.NoRoom → refusal_of_arc self.old from.0 to.0 ≡ None }
+        ensures err { IfErr result (IsRefusedAt (made_of self.old + 1)) }
         ensures unchanged { OnErr result (self.new ≡ self.old) }
         ensures sound { IsGraph self.new }
     {
         let _ = self.n();
-        if self.made() >= MOST_ARCS {
-            return Err(Refusal::TooLarge);
-        }
         let number = ArcNo(self.made());
-        let next = first_of(&self.vertices, from);
-        self.slots.push(from, to, next, len)?;
-        link_first(&mut self.vertices, from, number);
+        self.slots.push_arc(&mut self.vertices, from, to, len)?;
         self.live += 1;
         Ok(number)
     }
@@ -123,22 +116,13 @@ impl Graph {
         ensures number { IfOk result (λ k. k ≡ arc_no (made_of self.old)) }
         ensures graph { OnOk result (self.new ≡ with_edge self.old from.0 to.0 len) }
         ensures left { IfOk result (λ k. LeftBy self.old (GraphDelta.NewEdge k) self.new) }
-        ensures err { IfErr result (λ e. (e ≡ Refusal.NoRoom) ⊎ (refusal_of_edge self.old from.0 to.0 ≡ Some e)) }
-        ensures room { IsErrOf result Refusal.NoRoom → refusal_of_edge self.old from.0 to.0 ≡ None }
+        ensures err { IfErr result (IsRefusedAt (made_of self.old + 2)) }
         ensures unchanged { OnErr result (self.new ≡ self.old) }
         ensures sound { IsGraph self.new }
     {
         let _ = self.n();
-        if self.made() + 2 > MOST_ARCS {
-            return Err(Refusal::TooLarge);
-        }
         let number = ArcNo(self.made());
-        let low = VertexNo(from.0.min(to.0));
-        let high = VertexNo(from.0.max(to.0));
-        let after_high = first_of(&self.vertices, high);
-        let after_low = after_first(&self.vertices, number, low, high);
-        self.slots.push_both(low, high, after_low, after_high, len)?;
-        link_both(&mut self.vertices, number, low, high);
+        self.slots.push_edge(&mut self.vertices, from, to, len)?;
         self.live += 2;
         Ok(number)
     }
@@ -155,19 +139,15 @@ impl Graph {
         requires from { from.0 < n_of self.old }
         requires end { end ≤ n_of self.old }
         ensures graph { OnOk result (self.new ≡ with_all true self.old (row from.0 first end len)) }
-        ensures err { IfErr result (λ e. (e ≡ Refusal.NoRoom) ⊎ ((e ≡ Refusal.TooLarge) × (1000000 < made_of self.old + (end - first)))) }
-        ensures room { IsErrOf result Refusal.NoRoom → made_of self.old + (end - first) ≤ 1000000 }
+        ensures err { IfErr result (IsRefusedAt (made_of self.old + (end - first))) }
         ensures unchanged { OnErr result (self.new ≡ self.old) }
     {
         let _ = self.n();
-        let count = end.saturating_sub(first);
-        if self.made() + count > MOST_ARCS {
-            return Err(Refusal::TooLarge);
-        }
-        let next = first_of(&self.vertices, from);
+        let _ = self.made();
+        let next = self.vertices.first(from);
         let link = self.slots.push_row(from, first, end, next, len)?;
-        relink_first(&mut self.vertices, from, link);
-        self.live += count;
+        self.vertices.replace_first(from, link);
+        self.live += end.saturating_sub(first);
         Ok(())
     }
 
@@ -183,18 +163,14 @@ impl Graph {
         requires from { from.0 < n_of self.old }
         requires end { end ≤ n_of self.old }
         ensures graph { OnOk result (self.new ≡ with_all false self.old (row from.0 first end len)) }
-        ensures err { IfErr result (λ e. (e ≡ Refusal.NoRoom) ⊎ ((e ≡ Refusal.TooLarge) × (1000000 < made_of self.old + 2 * (end - first)))) }
-        ensures room { IsErrOf result Refusal.NoRoom → made_of self.old + 2 * (end - first) ≤ 1000000 }
+        ensures err { IfErr result (IsRefusedAt (made_of self.old + 2 * (end - first))) }
         ensures unchanged { OnErr result (self.new ≡ self.old) }
     {
         let _ = self.n();
-        let count = 2 * end.saturating_sub(first);
-        if self.made() + count > MOST_ARCS {
-            return Err(Refusal::TooLarge);
-        }
+        let _ = self.made();
         self.slots
             .push_edges(&mut self.vertices, from, first, end, len)?;
-        self.live += count;
+        self.live += 2 * end.saturating_sub(first);
         Ok(())
     }
 
@@ -203,14 +179,11 @@ impl Graph {
         requires from { from.0 < n_of self.old }
         requires to { All (λ s. s.to < n_of self.old) spokes.now }
         ensures graph { OnOk result (self.new ≡ with_all true self.old (map (along from.0) spokes.now)) }
-        ensures err { IfErr result (λ e. (e ≡ Refusal.NoRoom) ⊎ ((e ≡ Refusal.TooLarge) × (1000000 < made_of self.old + length spokes.now))) }
-        ensures room { IsErrOf result Refusal.NoRoom → made_of self.old + length spokes.now ≤ 1000000 }
+        ensures err { IfErr result (IsRefusedAt (made_of self.old + length spokes.now)) }
         ensures unchanged { OnErr result (self.new ≡ self.old) }
     {
         let _ = self.n();
-        if spokes.len() > (MOST_ARCS - self.made()) as usize {
-            return Err(Refusal::TooLarge);
-        }
+        let _ = self.made();
         self.slots
             .push_arcs_along(&mut self.vertices, from, spokes)?;
         self.live += spokes.len() as u32;
@@ -226,71 +199,14 @@ impl Graph {
         requires from { from.0 < n_of self.old }
         requires to { All (λ s. s.to < n_of self.old) spokes.now }
         ensures graph { OnOk result (self.new ≡ with_all false self.old (map (along from.0) spokes.now)) }
-        ensures err { IfErr result (λ e. (e ≡ Refusal.NoRoom) ⊎ ((e ≡ Refusal.TooLarge) × (1000000 < made_of self.old + 2 * length spokes.now))) }
-        ensures room { IsErrOf result Refusal.NoRoom → made_of self.old + 2 * length spokes.now ≤ 1000000 }
+        ensures err { IfErr result (IsRefusedAt (made_of self.old + 2 * length spokes.now)) }
         ensures unchanged { OnErr result (self.new ≡ self.old) }
     {
         let _ = self.n();
-        if spokes.len() > ((MOST_ARCS - self.made()) / 2) as usize {
-            return Err(Refusal::TooLarge);
-        }
+        let _ = self.made();
         self.slots
             .push_edges_along(&mut self.vertices, from, spokes)?;
         self.live += 2 * spokes.len() as u32;
         Ok(())
     }
-}
-
-// The first link of a vertex.
-#[inline]
-fn first_of(vertices: &Vertices, vertex: VertexNo) -> Link
-    requires { vertex.0 < length vertices.now }
-    ensures { result ≡ (vertex_in vertices.now vertex.0).first }
-{
-    vertices.first(vertex)
-}
-
-// What follows the first arc of a new edge in its list: of a loop its second arc.
-#[inline]
-pub(super) fn after_first(vertices: &Vertices, number: ArcNo, low: VertexNo, high: VertexNo) -> Link
-    requires low { low.0 < length vertices.now }
-    requires number { number.0 + 1 < 1000000 }
-    ensures { result ≡ first_behind vertices.now number.0 low.0 high.0 }
-{
-    if low.0 == high.0 {
-        Link::to(ArcNo(number.0 + 1))
-    } else {
-        first_of(vertices, low)
-    }
-}
-
-// Makes the arc first in the list of its owner.
-#[inline]
-fn link_first(vertices: &mut Vertices, owner: VertexNo, number: ArcNo)
-    requires owner { owner.0 < length vertices.old }
-    requires number { number.0 < 1000000 }
-    ensures { vertices.new ≡ vertices_relinked vertices.old owner.0 None (Some number) }
-{
-    relink_first(vertices, owner, Link::to(number));
-}
-
-// Lets the list of a vertex begin where the link leads.
-#[inline]
-fn relink_first(vertices: &mut Vertices, owner: VertexNo, link: Link)
-    requires { owner.0 < length vertices.old }
-    ensures { vertices.new ≡ vertices_relinked vertices.old owner.0 None link }
-{
-    vertices.replace_first(owner, link);
-}
-
-// Makes the arcs of a new edge first in the lists of their owners, the second before the first.
-#[inline]
-pub(super) fn link_both(vertices: &mut Vertices, number: ArcNo, low: VertexNo, high: VertexNo)
-    requires low { low.0 < length vertices.old }
-    requires high { high.0 < length vertices.old }
-    requires number { number.0 + 1 < 1000000 }
-    ensures { vertices.new ≡ vertices_relinked (vertices_relinked vertices.old high.0 None (Some (arc_no (number.0 + 1)))) low.0 None (Some number) }
-{
-    link_first(vertices, high, ArcNo(number.0 + 1));
-    link_first(vertices, low, number);
 }

@@ -6,14 +6,19 @@ ghost use Rattle.sgb_graph.specs.Private.Join.{Joins};
 
 use super::arena::{Cell, new_cell};
 use super::codes::Link;
-use super::insert::{after_first, link_both};
 use super::vertices::Vertices;
 use crate::{ArcNo, Spoke, VertexNo};
 use std::mem;
 
 // An arc more, first in the list of its owner.
 #[inline(always)]
-fn push_arc(cells: &mut Vec<Cell>, vertices: &mut Vertices, from: VertexNo, to: VertexNo, len: i64)
+pub(super) fn push_arc(
+    cells: &mut Vec<Cell>,
+    vertices: &mut Vertices,
+    from: VertexNo,
+    to: VertexNo,
+    len: i64,
+)
     requires from { from.0 < length vertices.old }
     requires to { to.0 < length vertices.old }
     requires vertices { length vertices.old ≤ 65535 }
@@ -29,9 +34,16 @@ fn push_arc(cells: &mut Vec<Cell>, vertices: &mut Vertices, from: VertexNo, to: 
     cells.push_reserved(new_cell(from, to, next, len));
 }
 
-// An edge more, each arc first in the list of its owner.
+// An edge more, each arc first in the list of its owner. The second arc is linked first, so that of a loop the first
+// stands before it.
 #[inline(always)]
-fn push_edge(cells: &mut Vec<Cell>, vertices: &mut Vertices, from: VertexNo, to: VertexNo, len: i64)
+pub(super) fn push_edge(
+    cells: &mut Vec<Cell>,
+    vertices: &mut Vertices,
+    from: VertexNo,
+    to: VertexNo,
+    len: i64,
+)
     requires from { from.0 < length vertices.old }
     requires to { to.0 < length vertices.old }
     requires vertices { length vertices.old ≤ 65535 }
@@ -45,11 +57,10 @@ fn push_edge(cells: &mut Vec<Cell>, vertices: &mut Vertices, from: VertexNo, to:
     let number = ArcNo(cells.len() as u32);
     let low = VertexNo(from.0.min(to.0));
     let high = VertexNo(from.0.max(to.0));
-    let after_high = vertices.first(high);
-    let after_low = after_first(vertices, number, low, high);
+    let after_high = vertices.replace_first(high, Link::to(ArcNo(number.0 + 1)));
+    let after_low = vertices.replace_first(low, Link::to(number));
     cells.push_reserved(new_cell(low, high, after_low, len));
     cells.push_reserved(new_cell(high, low, after_high, len));
-    link_both(vertices, number, low, high);
 }
 
 // An arc more, along a spoke.

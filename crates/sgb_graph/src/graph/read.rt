@@ -119,6 +119,24 @@ impl Graph {
         self.slots.arc(number)
     }
 
+    /// The tip of a live arc.
+    #[inline]
+    pub fn arc_tip(&self, number: ArcNo) -> Tip
+        requires { IsSome (arc_at self.now number.0) }
+        ensures { result ≡ (entry_at self.now number.0).tip }
+    {
+        self.slots.tip(number)
+    }
+
+    /// The length of a live arc.
+    #[inline]
+    pub fn arc_len(&self, number: ArcNo) -> i64
+        requires { IsSome (arc_at self.now number.0) }
+        ensures { result ≡ (entry_at self.now number.0).len }
+    {
+        self.slots.length(number)
+    }
+
     /// The arc that follows a live one in its owner's list.
     #[inline]
     pub fn next_of(&self, number: ArcNo) -> Option<ArcNo>

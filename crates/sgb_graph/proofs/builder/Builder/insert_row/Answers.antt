@@ -3,7 +3,8 @@ use Rattle.std.specs.Int.{w64}
 use Rattle.std.proofs.lemmas.Int.{to_z-of_z}
 use Rattle.sgb_graph.specs.Builder.{Insertion, row, with_all}
 use Rattle.sgb_graph.specs.Graph.{made_of}
-use Rattle.sgb_graph.proofs.Rows.{length-row, all_inserted, all_room}
+use Rattle.sgb_graph.proofs.Growing.{few_when, all_room}
+use Rattle.sgb_graph.proofs.Rows.{length-row, all_inserted}
 use Rattle.sgb_graph.proofs.builder.Builder.insert_row.Goals as goal
 
 pub returns-then-self-clause-value : goal.returns-then-self-clause-value
@@ -18,7 +19,7 @@ pub returns-then-self-clause-room : goal.returns-then-self-clause-room
 returns-then-self-clause-room c =
     let es = row c.args.from.0 c.args.first c.args.end c.args.len in
     let long : length es ≡ c.args.end - c.args.first = length-row c.args.from.0 c.args.first c.args.end c.args.len in
-    λ is. all_room c.args.self.now true es c.if-self.true (omega (arith, c.add_row.ensures.room is, long))
+    λ is. all_room c.args.self.now true es c.if-self.true (omega (arith, few_when (made_of c.args.self.now.graph + (c.args.end - c.args.first)) c.add_row.result c.add_row.ensures.err is, long))
 
 pub returns-else-self-clause-value : goal.returns-else-self-clause-value
 returns-else-self-clause-value c =
@@ -32,4 +33,4 @@ pub returns-else-self-clause-room : goal.returns-else-self-clause-room
 returns-else-self-clause-room c =
     let es = row c.args.from.0 c.args.first c.args.end c.args.len in
     let long : length es ≡ c.args.end - c.args.first = length-row c.args.from.0 c.args.first c.args.end c.args.len in
-    λ is. all_room c.args.self.now false es c.if-self.false (omega (arith, c.add_edges.ensures.room is, long))
+    λ is. all_room c.args.self.now false es c.if-self.false (omega (arith, few_when (made_of c.args.self.now.graph + 2 * (c.args.end - c.args.first)) c.add_edges.result c.add_edges.ensures.err is, long))

@@ -1,15 +1,22 @@
-use Rattle.std.proofs.Common.{arith, ap, length, map, false}
+use Rattle.std.proofs.Common.{arith, length, map, false, ◌+◌, ◌*◌, subst}
+use Rattle.std.proofs.lemmas.Result.{err_from_is_err_and}
 use Rattle.sgb_graph.specs.Builder.{along}
-use Rattle.sgb_graph.proofs.Cells.{length-zipped}
+use Rattle.sgb_graph.specs.Private.Insert.{IsRefusedAt}
+use Rattle.sgb_graph.proofs.Cells.{many_slots}
 use Rattle.sgb_graph.proofs.Joining.{joined_now}
 use Rattle.sgb_graph.proofs.graph.arena.Arena.push_edges_along.Goals as goal
-
-pub push_edges_along-requires-clause-few : goal.push_edges_along-requires-clause-few
-push_edges_along-requires-clause-few c =
-    let a = c.self.inside in
-    omega (arith, c.requires.few, c.make_room.ensures.cells_len, a.cells.ok.0, length-zipped a.cells.items a.fields.items, ap length c.self.view_is)
 
 pub returns-clause-joined : goal.returns-clause-joined
 returns-clause-joined c =
     let a = c.self.inside in
     joined_now false c.args.vertices.now (map (along c.args.from.0) c.args.spokes.now) c.push_edges_along.new.cells.items c.self.view_is (omega (arith, c.self.invariant.0, a.cells.ok.0, a.fields.ok.0)) c.make_room.ensures.cells c.make_room.ensures.fields c.push_edges_along.ensures.joins
+
+pub returns-in_err-make_room-clause-err : goal.returns-in_err-make_room-clause-err
+returns-in_err-make_room-clause-err c =
+    let p = err_from_is_err_and c.from_residual.result c.from_residual.ensures.1 in
+    rw (p.1, p.2) (subst (λ n. IsRefusedAt (n + 2 * length c.args.spokes.now) c.in_err-make_room.field-0.0) (many_slots c.self.inside.cells.items c.self.inside.fields.items c.self.view_is c.self.inside.cells.ok.0) c.in_err-make_room.ensures.err)
+
+pub returns-clause-few : goal.returns-clause-few
+returns-clause-few c =
+    let a = c.self.inside in
+    omega (arith, c.in_ok-make_room.ensures.room, c.make_room.ensures.most, c.make_room.ensures.cells_len, many_slots c.self.inside.cells.items c.self.inside.fields.items c.self.view_is a.cells.ok.0)
