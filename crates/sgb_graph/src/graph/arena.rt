@@ -701,38 +701,41 @@ fn make_room(
     if *room - cells.len() >= count {
         return Ok(());
     }
-    *room = grow_slots(cells, fields, count)?;
-    Ok(())
+    grow_slots(cells, fields, room, count)
 }
 
-// Takes more memory for so many slots more, as far as a graph gives out so many. Answers for how many there is room.
+// Takes more memory for so many slots more, as far as a graph gives out so many.
 #[cold]
 #[inline(never)]
 fn grow_slots(
     cells: &mut Vec<Cell>,
     fields: &mut Vec<[Util; 2]>,
+    room: &mut usize,
     count: usize,
-) -> Result<usize, Refusal>
+) -> Result<(), Refusal>
     requires few { vec_len fields.old ≤ vec_len cells.old }
-    requires most { vec_len cells.old ≤ 1000000 }
+    requires len { vec_len cells.old ≤ room.old }
+    requires cells_room { room.old ≤ vec_capacity cells.old }
+    requires fields_room { room.old ≤ vec_capacity fields.old }
+    requires most { room.old ≤ 1000000 }
     ensures cells { cells.new.items ≡ cells.old.items }
     ensures cells_len { vec_len cells.new ≡ vec_len cells.old }
     ensures fields { fields.new.items ≡ fields.old.items }
     ensures fields_len { vec_len fields.new ≡ vec_len fields.old }
-    ensures room { IfOk result (λ room. vec_len cells.new + count ≤ room) }
-    ensures cells_room { IfOk result (λ room. room ≤ vec_capacity cells.new) }
-    ensures fields_room { IfOk result (λ room. room ≤ vec_capacity fields.new) }
-    ensures most { IfOk result (λ room. room ≤ 1000000) }
-    ensures cells_capacity { vec_capacity cells.old ≤ vec_capacity cells.new }
-    ensures fields_capacity { vec_capacity fields.old ≤ vec_capacity fields.new }
+    ensures room { OnOk result (vec_len cells.new + count ≤ room.new) }
+    ensures len { vec_len cells.new ≤ room.new }
+    ensures cells_room { room.new ≤ vec_capacity cells.new }
+    ensures fields_room { room.new ≤ vec_capacity fields.new }
+    ensures most { room.new ≤ 1000000 }
     ensures err { IfErr result (IsRefusedAt (vec_len cells.old + count)) }
 {
     let most = MOST_ARCS as usize;
     if count > most - cells.len() {
         return Err(Refusal::TooLarge);
     }
-    let room = grow_room(cells, fields, count)?;
-    Ok(room.min(most))
+    let grown = grow_room(cells, fields, count)?;
+    *room = grown.min(most);
+    Ok(())
 }
 
 // Takes more memory for so many slots or vertices more, and for the fields of all. Answers for how many there is room.
