@@ -27,7 +27,10 @@ pub fn is_arc(graph: &Graph, number: u32, owner: u32, tip: u32, len: i64) -> boo
         tip: Tip::To(VertexNo(tip)),
         len,
     };
-    graph.arc(ArcNo(number)) == Some(want)
+    graph.arc(ArcNo(number)).is_some()
+        && graph.arc(ArcNo(number)) == Some(want)
+        && graph.arc_tip(ArcNo(number)) == want.tip
+        && graph.arc_len(ArcNo(number)) == len
 }
 
 /// Whether the number was given out, and its arc was cut.
