@@ -34,7 +34,7 @@ runs_step directed g is v i {rs} {ts} found some so written =
     ∙ sym (flat_map_range_more (runs_at directed g is) v ∙ ap (λ ps. flat_map (runs_at directed g is) (range_with_len 0 v) ++ ps) here))
 
 -- the runs of these arcs of v
-abbrev runs_along : Bool → GraphOf → List Image → ℕ → List ℕ → List Run
+abbrev pub runs_along : Bool → GraphOf → List Image → ℕ → List ℕ → List Run
 runs_along directed g is v ks = map (run_at is v) (filter (is_run directed is v) (map (λ k. spoke_of (entry_at g k)) ks))
 
 -- the runs of v are to stand behind the start; some of them do, and `rest` is still to be looked at
@@ -47,7 +47,7 @@ unfolding spokes
 gathered_start {directed} {g} {is} {v} {start} {rest} whole live =
     record { same = ap (λ ks. start ++ runs_along directed g is v ks) whole; live = live }
 
-live_on : (g : GraphOf) {rest on : List ℕ} {k : ℕ} → rest ≡ k ∷ on → All (λ j. IsSome (arc_at g j)) rest → All (λ j. IsSome (arc_at g j)) on
+pub live_on : (g : GraphOf) {rest on : List ℕ} {k : ℕ} → rest ≡ k ∷ on → All (λ j. IsSome (arc_at g j)) rest → All (λ j. IsSome (arc_at g j)) on
 live_on g {rest} {on} {k} steps live =
     All-tail (λ j. IsSome (arc_at g j)) k on (subst (All (λ j. IsSome (arc_at g j))) steps live)
 
@@ -83,7 +83,7 @@ gathered_end {directed} {g} {is} {v} {start} {into} {rest} none x =
     sym (append-nil into) ∙ (ap (λ ks. into ++ runs_along directed g is v ks) (sym none) ∙ x.same)
 
 -- ---- all ends are below a number
-at_below : (directed : Bool) (g : GraphOf) (is : List Image) (n v : ℕ) → IsAbove n is → All (IsBelow n) (runs_at directed g is v)
+pub at_below : (directed : Bool) (g : GraphOf) (is : List Image) (n v : ℕ) → IsAbove n is → All (IsBelow n) (runs_at directed g is v)
 unfolding runs_at
 at_below directed g is n v above =
     elim (cases_Bool ((image_at is v).count == 0)) [

@@ -5,6 +5,7 @@ pub mod Twins
 pub mod Positions
 pub mod Expanding
 pub mod Fating
+pub mod Fanning
 pub mod Few
 pub mod Firsts
 pub mod Gathering
@@ -17,3 +18,4 @@ pub mod Naming
 pub mod Placing
 pub mod Planned
 pub mod Expansion
+pub mod Staging

@@ -1,2 +1,3 @@
+pub mod Fan
 pub mod Run
 pub mod Twin

@@ -1,11 +1,13 @@
 //! The runs that the arcs of a graph ask for.
-ghost use Rattle.std.specs.Prelude.{◌≡◌, ◌<◌, ◌≤◌, ◌==◌, ◌++◌, ◌&&◌, not, length, map, IfOk, OnOk};
+ghost use Rattle.std.specs.Prelude.{◌≡◌, ◌<◌, ◌≤◌, ◌^◌, ◌==◌, ◌++◌, ◌&&◌, not, length, map, IfOk, OnOk};
 ghost use Rattle.std.specs.List.{filter};
 ghost use Rattle.sgb_graph.specs.Graph.{n_of};
 ghost use Rattle.sgb_operand.specs.Operand.{spokes};
 ghost use Rattle.sgb_induced.specs.Induced.{is_met};
+ghost use Rattle.sgb_induced.specs.Private.Fan.{all_fans};
 ghost use Rattle.sgb_induced.specs.Private.Run.{IsAbove, all_runs, is_run, run_at, runs_of};
 
+use crate::fan::Fan;
 use crate::image::{Image, image_at};
 use crate::run::Run;
 use crate::twin::merge_runs;
@@ -23,23 +25,46 @@ pub(crate) fn gather_runs(
 ) -> Result<Vec<Run>, AllocError>
     ensures { IfOk result (λ rs. rs.items ≡ runs_of multi directed graph.now images.now) }
 {
-    let runs = read_runs(alloc, graph, images, directed)?;
     if multi {
-        Ok(runs)
-    } else {
-        merge_runs(alloc, &runs, width_of(images), directed)
+        return read_runs(alloc, graph, images, directed);
     }
+    let width = width_of(images);
+    let runs = read_fans(alloc, graph, images, width, directed)?;
+    merge_runs(alloc, &runs, width, directed)
 }
 
 // A number above the vertices in whose place images stand.
 fn width_of(images: &[Image]) -> usize
-    ensures { IsAbove result images.now }
+    ensures above { IsAbove result images.now }
+    ensures limit { result ≤ 2 ^ 32 }
 {
     let mut width = 1usize;
     for image in images {
         width = width.max(image.leader as usize + 1);
     }
     width
+}
+
+// The runs of all vertices, of those from one vertex to each other only the first, with the least length.
+fn read_fans(
+    alloc: Global,
+    graph: &Graph,
+    images: &[Image],
+    width: usize,
+    directed: bool,
+) -> Result<Vec<Run>, AllocError>
+    requires above { IsAbove width images.now }
+    requires limit { width ≤ 2 ^ 32 }
+    ensures runs { IfOk result (λ rs. rs.items ≡ all_fans directed graph.now images.now) }
+    ensures few { IfOk result (λ rs. length rs.items ≤ 1000000) }
+{
+    let mut fan = Fan::new(alloc, width)?;
+    let mut runs = Vec::new(alloc);
+    for v in 0..graph.n() {
+        fan.read(graph, images, v, directed);
+        runs.extend_from_slice(fan.runs())?;
+    }
+    Ok(runs)
 }
 
 // The runs of all vertices.
@@ -50,7 +75,6 @@ fn read_runs(
     directed: bool,
 ) -> Result<Vec<Run>, AllocError>
     ensures runs { IfOk result (λ rs. rs.items ≡ all_runs directed graph.now images.now) }
-    ensures few { IfOk result (λ rs. length rs.items ≤ 1000000) }
 {
     let mut runs = Vec::with_capacity(alloc, graph.m() as usize)?;
     for v in 0..graph.n() {
@@ -93,7 +117,7 @@ fn append_runs(
 
 // A spoke of v that counts, to a vertex with this image.
 #[inline]
-fn is_run(v: u32, spoke: Spoke, image: Image, directed: bool) -> bool
+pub(crate) fn is_run(v: u32, spoke: Spoke, image: Image, directed: bool) -> bool
     ensures { result ≡ (is_met directed v spoke && not (image.count == 0)) }
 {
     (directed || v <= spoke.to) && image.count != 0

@@ -3,6 +3,7 @@
 
 mod expand;
 mod facts;
+mod fan;
 mod fate;
 mod gather;
 mod image;

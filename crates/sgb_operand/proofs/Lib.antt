@@ -1,2 +1,3 @@
 pub mod Leading
+pub mod Places
 pub mod Spokes
