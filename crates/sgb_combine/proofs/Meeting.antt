@@ -1,5 +1,5 @@
 -- Lemmas on spokes that are read as the arcs of vertices are walked.
-use Rattle.std.proofs.Common.{◌≡◌, ◌≤◌, ◌&&◌, ℕ, List, [], ◌∷◌, ◌++◌, map, cond, Bool, true, false, nat_lt, All, inl, inr, refl, sym, ap, ap₂, ◌∙◌}
+use Rattle.std.proofs.Common.{◌≡◌, ◌<◌, ◌≤◌, ◌&&◌, ℕ, List, [], ◌∷◌, ◌++◌, map, cond, Bool, true, false, nat_lt, All, inl, inr, refl, sym, ap, ap₂, ◌∙◌}
 use Rattle.std.specs.List.{filter}
 use Rattle.std.proofs.lemmas.Bool.{cases_Bool, lt-ltb, and_parts, ltb-true, ltb-false}
 use Rattle.std.proofs.lemmas.List.{append_assoc, append-nil}
@@ -79,10 +79,13 @@ both_candidates directed g h v n rs ss ts is mine theirs joined =
     ∙ ap (λ m. filter (is_candidate directed m v) (gs ++ hs)) is))
 
 -- ---- one graph, whose spokes all lead to one of n vertices
+pub own_candidate : (directed : Bool) (n v : ℕ) (s : Spoke) → s.to < n → is_candidate directed n v s ≡ is_upward directed v s
+own_candidate directed n v s low = ap (λ b. b && is_upward directed v s) (lt-ltb s.to n low)
+
 within_upward : (directed : Bool) (n v : ℕ) (ss : List Spoke) → All (IsWithin n) ss → filter (is_candidate directed n v) ss ≡ filter (is_upward directed v) ss
 within_upward directed n v [] all = refl
 within_upward directed n v (s ∷ ss) all =
-    let here : is_candidate directed n v s ≡ is_upward directed v s = ap (λ b. b && is_upward directed v s) (lt-ltb s.to n (All-head (IsWithin n) s ss all)) in
+    let here : is_candidate directed n v s ≡ is_upward directed v s = own_candidate directed n v s (All-head (IsWithin n) s ss all) in
     ap₂ (λ b ts. cond b (s ∷ ts) ts) here (within_upward directed n v ss (All-tail (IsWithin n) s ss all))
 
 pub upward_candidates : (directed : Bool) (g : GraphOf) (v n : ℕ) → IsGraph g → n ≡ n_of g → filter (is_candidate directed n v) (spokes true g v) ≡ filter (is_upward directed v) (spokes true g v)

@@ -3,15 +3,15 @@ ghost use Rattle.std.specs.Prelude.{◌≡◌, ◌≤◌, ◌<◌, ◌∷◌, []
 ghost use Rattle.std.specs.List.{filter};
 ghost use Rattle.sgb_graph.specs.Graph.{n_of, arc_at};
 ghost use Rattle.sgb_operand.specs.Operand.{spokes};
+ghost use Rattle.sgb_combine.specs.Combined.{is_upward};
 ghost use Rattle.sgb_combine.specs.Gunion.{is_candidate};
 ghost use Rattle.sgb_combine.specs.Lowest.{add_or_lower};
 ghost use Rattle.sgb_combine.specs.Private.Both.{passing};
 
 use crate::both::Sought;
 use crate::lowest::Lowest;
-use crate::run::is_candidate;
 use sgb_graph::{ArcNo, Graph, VertexNo, Walk};
-use sgb_operand::spoke_at;
+use sgb_operand::{Spoke, spoke_at};
 use std::alloc::{AllocError, Global};
 
 // The lowest spokes of a vertex in each of two graphs.
@@ -44,6 +44,8 @@ impl Met {
     #[inline(always)]
     pub(crate) fn read(&mut self, first: &Graph, second: &Graph, sought: Sought, other: Sought)
         requires vertex { sought.vertex.0 < n_of first.now }
+        requires own { sought.n ≡ n_of first.now }
+        requires other { other.n ≡ n_of second.now }
         requires mine { length self.old.mine.places.items ≡ sought.n }
         requires theirs { length self.old.theirs.places.items ≡ other.n }
         ensures mine { self.new.mine.spokes.items ≡
@@ -83,6 +85,8 @@ fn meet_both(
 )
     requires first { sought.vertex.0 < n_of first.now }
     requires second { other.vertex.0 < n_of second.now }
+    requires own { sought.n ≡ n_of first.now }
+    requires other { other.n ≡ n_of second.now }
     requires mine { length mine.old.places.items ≡ sought.n }
     requires theirs { length theirs.old.places.items ≡ other.n }
     ensures mine { mine.new.spokes.items ≡ fold add_or_lower mine.old.spokes.items
@@ -103,6 +107,8 @@ fn meet_both(
 // Adds what is sought of the arcs that are left of a list.
 pub(crate) fn meet_rest(into: &mut Lowest, graph: &Graph, numbers: Walk<'_>, sought: Sought)
     requires live { All (λ k. IsSome (arc_at graph.now k)) numbers }
+    requires own { sought.n ≡ n_of graph.now }
+    requires vertex { sought.vertex.0 < n_of graph.now }
     requires width { length into.old.places.items ≡ sought.n }
     ensures spokes { into.new.spokes.items ≡ fold add_or_lower into.old.spokes.items
         (passing graph.now (is_candidate sought.directed sought.n sought.vertex.0) numbers.entry) }
@@ -117,6 +123,8 @@ pub(crate) fn meet_rest(into: &mut Lowest, graph: &Graph, numbers: Walk<'_>, sou
 #[inline(always)]
 fn meet_next(into: &mut Lowest, graph: &Graph, numbers: &mut Walk<'_>, sought: Sought)
     requires live { All (λ k. IsSome (arc_at graph.now k)) numbers.old }
+    requires own { sought.n ≡ n_of graph.now }
+    requires vertex { sought.vertex.0 < n_of graph.now }
     requires width { length into.old.places.items ≡ sought.n }
     ensures spokes { fold add_or_lower into.new.spokes.items (passing graph.now (is_candidate sought.directed sought.n sought.vertex.0) numbers.new) ≡
         fold add_or_lower into.old.spokes.items (passing graph.now (is_candidate sought.directed sought.n sought.vertex.0) numbers.old) }
@@ -129,18 +137,31 @@ fn meet_next(into: &mut Lowest, graph: &Graph, numbers: &mut Walk<'_>, sought: S
     meet(into, graph, number, sought);
 }
 
-// Adds the spoke of an arc, if it is sought.
+// Adds the spoke of an arc, if it is sought. It leads to one of the graph's own vertices.
 #[inline(always)]
 pub(crate) fn meet(into: &mut Lowest, graph: &Graph, number: ArcNo, sought: Sought)
     requires live { IsSome (arc_at graph.now number.0) }
+    requires own { sought.n ≡ n_of graph.now }
+    requires vertex { sought.vertex.0 < n_of graph.now }
     requires width { length into.old.places.items ≡ sought.n }
     ensures spokes { into.new.spokes.items ≡ fold add_or_lower into.old.spokes.items
         (passing graph.now (is_candidate sought.directed sought.n sought.vertex.0) (number.0 ∷ [])) }
     ensures width { length into.new.places.items ≡ length into.old.places.items }
 {
+    // It tells that the graph is sound.
+    let _ = graph.n();
     let spoke = spoke_at(graph, number);
-    if !is_candidate(sought.directed, sought.n, sought.vertex, spoke) {
+    if !is_upward(sought.directed, sought.vertex, spoke) {
         return;
     }
     into.add(spoke);
+}
+
+// It does not lead below the vertex where edges are made.
+#[inline]
+fn is_upward(directed: bool, vertex: VertexNo, spoke: Spoke) -> bool
+    ensures { result ≡ is_upward directed vertex.0 spoke }
+{
+    let low = if directed { 0 } else { vertex.0 };
+    low <= spoke.to
 }

@@ -173,6 +173,7 @@ fn meet_and_hold(
 ) -> Result<(), AllocError>
     requires first { sought.vertex.0 < n_of first.now }
     requires second { sought.vertex.0 < n_of second.now }
+    requires own { sought.n ≡ n_of first.now }
     requires width { length met.old.places.items ≡ sought.n }
     ensures lowest { OnOk result (met.new.spokes.items ≡ fold add_or_lower met.old.spokes.items
         (filter (is_candidate sought.directed sought.n sought.vertex.0) (spokes sought.halves first.now sought.vertex.0))) }

@@ -22,7 +22,7 @@ arc_within : (n : ℕ) (es : List (Option ArcOf)) (o : Option ArcOf) → 0 < n �
 arc_within n es None some is = some
 arc_within n es (Some e) some is = tip_within n e.tip some is.tip
 
-entry_within : (g : GraphOf) (k : ℕ) → IsGraph g → 0 < n_of g → tip_number (entry_at g k).tip < n_of g
+pub entry_within : (g : GraphOf) (k : ℕ) → IsGraph g → 0 < n_of g → tip_number (entry_at g k).tip < n_of g
 entry_within g k sound some =
     elim (cases_lt k (made_of g)) [
       | inl made ↦ arc_within (n_of g) g.entries (arc_at g k) some (sound.arcs k None made)

@@ -35,12 +35,9 @@ pub fn spoke_at(graph: &Graph, number: ArcNo) -> Spoke
     requires { IsSome (arc_at graph.now number.0) }
     ensures { result ≡ spoke_of (entry_at graph.now number.0) }
 {
-    match graph.arc(number) {
-        Some(arc) => Spoke {
-            to: tip_number(arc.tip),
-            len: arc.len,
-        },
-        None => unreachable!(),
+    Spoke {
+        to: tip_number(graph.arc_tip(number)),
+        len: graph.arc_len(number),
     }
 }
 
