@@ -1,3 +1,4 @@
+mod Asking
 mod Blocks
 mod Digits
 mod Names

@@ -16,6 +16,9 @@ use Rattle.sgb_script.specs.declared.command.Command.TheVariants as commands
 use Rattle.sgb_script.specs.declared.command.Edit.TheVariants.{Arc, Edge, Cut, Len, Set, Types, Label, Id}
 use Rattle.sgb_script.specs.declared.command.Maker.TheVariants as makers
 use Rattle.sgb_script.specs.declared.command.Query.TheVariants as queries
+use Rattle.sgb_script.specs.declared.command.Asked.{Asked}
+use Rattle.sgb_script.specs.declared.command.Asked.TheVariants as asks
+use Rattle.sgb_script.specs.declared.command.Command.{Command}
 use Rattle.sgb_script.specs.declared.command.Line.{Line}
 use Rattle.sgb_script.specs.declared.command.Line.TheVariants.{Nothing, Change, Undo, Redo, Ask, Load, Group, End}
 
@@ -119,6 +122,17 @@ unfoldable pub line_of : List ℕ → Option Line
 line_of line =
     if nat_lt 8192 (length line) || not (list_all is_printable_byte line) then None
     else (if slice_index line 0 == 35 then Some Nothing else option_and_then asked_of (words_of line))
+
+-- the line whose command, where it has one, stands in a place of its own
+abbrev pub line_with : Command → Asked → Line
+line_with c asks.Nothing = Nothing
+line_with c asks.Change = Change c
+line_with c asks.Undo = Undo
+line_with c asks.Redo = Redo
+line_with c (asks.Ask query) = Ask query
+line_with c (asks.Load name rule) = Load name rule
+line_with c asks.Group = Group
+line_with c asks.End = End
 
 -- ---- memory
 

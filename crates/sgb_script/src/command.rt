@@ -113,3 +113,24 @@ pub enum Line {
     /// `end`: the group of commands ends.
     End,
 }
+
+/// What a line asks for, where its command stands in a place of its own. Everything else is that of [`Line`].
+#[derive(Clone, Copy, Debug, PartialEq, Eq)]
+pub enum Asked {
+    /// An empty line, a line of spaces or a comment.
+    Nothing,
+    /// The command that was written to the place.
+    Change,
+    /// `undo`.
+    Undo,
+    /// `redo`.
+    Redo,
+    /// A question.
+    Ask(Query),
+    /// `load NAME check` or `load NAME any`.
+    Load(Name, CheckRule),
+    /// `group`.
+    Group,
+    /// `end`.
+    End,
+}

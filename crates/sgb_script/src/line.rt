@@ -4,16 +4,16 @@ ghost use Rattle.std.specs.Option.{option_and_then};
 ghost use Rattle.std.specs.Str.{bytes_eq};
 ghost use Rattle.sgb_script.specs.Words.{words_of};
 ghost use Rattle.sgb_script.specs.Arguments.{the_value};
-ghost use Rattle.sgb_script.specs.Line.{line_of, asked_of, line_after, keyword_of, step_of, whole_of, takes_memory};
+ghost use Rattle.sgb_script.specs.Line.{line_of, line_with, asked_of, line_after, keyword_of, step_of, whole_of, takes_memory};
 ghost use Rattle.sgb_script.specs.Private.Words.{seen, AreTexts, HasTexts};
-ghost use Rattle.sgb_script.specs.Private.Reading.{is_text, Begins, Reads};
+ghost use Rattle.sgb_script.specs.Private.Reading.{is_text, Begins, Asks};
 ghost use Rattle.sgb_script.specs.declared.refusal.ShellRefusal.TheVariants.{NoRoom, ScriptSyntax};
 ghost use Rattle.sgb_script.specs.declared.line.Keyword.TheVariants as keywords;
 
 use crate::arguments::{
     the_arc, the_letters, the_name, the_number, the_place, the_rule, the_text, the_vertex, value_in,
 };
-use crate::command::{Command, Edit, Line, Query};
+use crate::command::{Asked, Command, Edit, Line, Query};
 use crate::makers::{Kind, drawn, make};
 use crate::printable::is_printable;
 use crate::refusal::ShellRefusal;
@@ -66,30 +66,60 @@ enum Front<'a> {
 
 /// Reads one line of a script, without its newline. Refused 100 where it is no line of the language. Memory is taken
 /// for a text alone, once the line is known to be one.
-// A line is large: inlined, and read by one match, it is written where the caller keeps it and not handed up.
-#[inline(always)]
 pub fn parse(alloc: Global, line: &[u8]) -> Result<Line, ShellRefusal>
     ensures ok { IfOk result (λ l. line_of line.now ≡ Some l) }
     ensures err { IfErr result (λ e. ((e ≡ ScriptSyntax) × (line_of line.now ≡ None))
         ⊎ ((e ≡ NoRoom) × IsTrue (takes_memory (line_of line.now)))) }
 {
+    let mut command = Command::Next;
+    match parse_onto(alloc, line, &mut command) {
+        Ok(asked) => Ok(line_with(command, asked)),
+        Err(refusal) => Err(refusal),
+    }
+}
+
+// The line of a command that stands in a place of its own.
+fn line_with(command: Command, asked: Asked) -> Line
+    ensures { result ≡ line_with command asked }
+{
+    match asked {
+        Asked::Nothing => Line::Nothing,
+        Asked::Change => Line::Change(command),
+        Asked::Undo => Line::Undo,
+        Asked::Redo => Line::Redo,
+        Asked::Ask(query) => Line::Ask(query),
+        Asked::Load(name, rule) => Line::Load(name, rule),
+        Asked::Group => Line::Group,
+        Asked::End => Line::End,
+    }
+}
+
+/// Reads one line of a script as [`parse`] does, and writes the command of a line that changes the session where another
+/// stood. Of any other line that place tells nothing.
+// A command is large: so it is written once, where the caller keeps it, and not handed up from call to call.
+#[inline(always)]
+pub fn parse_onto(alloc: Global, line: &[u8], command: &mut Command) -> Result<Asked, ShellRefusal>
+    ensures ok { IfOk result (λ asked. line_of line.now ≡ Some (line_with command.new asked)) }
+    ensures err { IfErr result (λ e. ((e ≡ ScriptSyntax) × (line_of line.now ≡ None))
+        ⊎ ((e ≡ NoRoom) × IsTrue (takes_memory (line_of line.now)))) }
+{
     match front_of(line) {
-        Front::Nothing => Ok(Line::Nothing),
+        Front::Nothing => Ok(Asked::Nothing),
         Front::Other => Err(ShellRefusal::ScriptSyntax),
-        Front::Asks(Keyword::Seed, rest) => seed(rest),
-        Front::Asks(Keyword::Next, rest) => next(rest),
-        Front::Asks(Keyword::Unif, rest) => unif(rest),
-        Front::Asks(Keyword::Make(kind), rest) => make(alloc, kind, rest),
-        Front::Asks(Keyword::Arc, rest) => arc(rest),
-        Front::Asks(Keyword::Edge, rest) => edge(rest),
-        Front::Asks(Keyword::Cut, rest) => cut(rest),
-        Front::Asks(Keyword::Len, rest) => len(rest),
-        Front::Asks(Keyword::Set, rest) => set(alloc, rest),
-        Front::Asks(Keyword::Types, rest) => types(rest),
-        Front::Asks(Keyword::Label, rest) => label(alloc, rest),
-        Front::Asks(Keyword::Id, rest) => id(alloc, rest),
-        Front::Asks(Keyword::Lengths, rest) => lengths(rest),
-        Front::Asks(Keyword::Drop, rest) => drop_graph(rest),
+        Front::Asks(Keyword::Seed, rest) => seed(rest, command),
+        Front::Asks(Keyword::Next, rest) => next(rest, command),
+        Front::Asks(Keyword::Unif, rest) => unif(rest, command),
+        Front::Asks(Keyword::Make(kind), rest) => make(alloc, kind, rest, command),
+        Front::Asks(Keyword::Arc, rest) => arc(rest, command),
+        Front::Asks(Keyword::Edge, rest) => edge(rest, command),
+        Front::Asks(Keyword::Cut, rest) => cut(rest, command),
+        Front::Asks(Keyword::Len, rest) => len(rest, command),
+        Front::Asks(Keyword::Set, rest) => set(alloc, rest, command),
+        Front::Asks(Keyword::Types, rest) => types(rest, command),
+        Front::Asks(Keyword::Label, rest) => label(alloc, rest, command),
+        Front::Asks(Keyword::Id, rest) => id(alloc, rest, command),
+        Front::Asks(Keyword::Lengths, rest) => lengths(rest, command),
+        Front::Asks(Keyword::Drop, rest) => drop_graph(rest, command),
         Front::Asks(Keyword::Undo, rest) => undo(rest),
         Front::Asks(Keyword::Redo, rest) => redo(rest),
         Front::Asks(Keyword::Group, rest) => group(rest),
@@ -213,97 +243,100 @@ fn is(word: &[u8], keyword: &str) -> bool
     word == keyword.as_bytes()
 }
 
-fn next(rest: &[u8]) -> Result<Line, ShellRefusal>
-    ensures { Reads (option_and_then (λ ws. line_after ws keywords.Next) (words_of rest.now)) result }
+fn next(rest: &[u8], command: &mut Command) -> Result<Asked, ShellRefusal>
+    ensures { Asks (option_and_then (λ ws. line_after ws keywords.Next) (words_of rest.now)) command.new result }
 {
     if is_blank(rest) {
-        Ok(Line::Change(Command::Next))
+        *command = Command::Next;
+        Ok(Asked::Change)
     } else {
         Err(ShellRefusal::ScriptSyntax)
     }
 }
 
-fn undo(rest: &[u8]) -> Result<Line, ShellRefusal>
-    ensures { Reads (option_and_then (λ ws. line_after ws keywords.Undo) (words_of rest.now)) result }
+fn undo(rest: &[u8]) -> Result<Asked, ShellRefusal>
+    ensures { (c : Command) → Asks (option_and_then (λ ws. line_after ws keywords.Undo) (words_of rest.now)) c result }
 {
     if is_blank(rest) {
-        Ok(Line::Undo)
+        Ok(Asked::Undo)
     } else {
         Err(ShellRefusal::ScriptSyntax)
     }
 }
 
-fn redo(rest: &[u8]) -> Result<Line, ShellRefusal>
-    ensures { Reads (option_and_then (λ ws. line_after ws keywords.Redo) (words_of rest.now)) result }
+fn redo(rest: &[u8]) -> Result<Asked, ShellRefusal>
+    ensures { (c : Command) → Asks (option_and_then (λ ws. line_after ws keywords.Redo) (words_of rest.now)) c result }
 {
     if is_blank(rest) {
-        Ok(Line::Redo)
+        Ok(Asked::Redo)
     } else {
         Err(ShellRefusal::ScriptSyntax)
     }
 }
 
-fn group(rest: &[u8]) -> Result<Line, ShellRefusal>
-    ensures { Reads (option_and_then (λ ws. line_after ws keywords.Group) (words_of rest.now)) result }
+fn group(rest: &[u8]) -> Result<Asked, ShellRefusal>
+    ensures { (c : Command) → Asks (option_and_then (λ ws. line_after ws keywords.Group) (words_of rest.now)) c result }
 {
     if is_blank(rest) {
-        Ok(Line::Group)
+        Ok(Asked::Group)
     } else {
         Err(ShellRefusal::ScriptSyntax)
     }
 }
 
-fn end(rest: &[u8]) -> Result<Line, ShellRefusal>
-    ensures { Reads (option_and_then (λ ws. line_after ws keywords.End) (words_of rest.now)) result }
+fn end(rest: &[u8]) -> Result<Asked, ShellRefusal>
+    ensures { (c : Command) → Asks (option_and_then (λ ws. line_after ws keywords.End) (words_of rest.now)) c result }
 {
     if is_blank(rest) {
-        Ok(Line::End)
+        Ok(Asked::End)
     } else {
         Err(ShellRefusal::ScriptSyntax)
     }
 }
 
-fn generator(rest: &[u8]) -> Result<Line, ShellRefusal>
-    ensures { Reads (option_and_then (λ ws. line_after ws keywords.Gen) (words_of rest.now)) result }
+fn generator(rest: &[u8]) -> Result<Asked, ShellRefusal>
+    ensures { (c : Command) → Asks (option_and_then (λ ws. line_after ws keywords.Gen) (words_of rest.now)) c result }
 {
     if is_blank(rest) {
-        Ok(Line::Ask(Query::Gen))
+        Ok(Asked::Ask(Query::Gen))
     } else {
         Err(ShellRefusal::ScriptSyntax)
     }
 }
 
-fn list(rest: &[u8]) -> Result<Line, ShellRefusal>
-    ensures { Reads (option_and_then (λ ws. line_after ws keywords.List) (words_of rest.now)) result }
+fn list(rest: &[u8]) -> Result<Asked, ShellRefusal>
+    ensures { (c : Command) → Asks (option_and_then (λ ws. line_after ws keywords.List) (words_of rest.now)) c result }
 {
     if is_blank(rest) {
-        Ok(Line::Ask(Query::List))
+        Ok(Asked::Ask(Query::List))
     } else {
         Err(ShellRefusal::ScriptSyntax)
     }
 }
 
 #[inline(never)]
-fn seed(rest: &[u8]) -> Result<Line, ShellRefusal>
-    ensures { Reads (option_and_then (λ ws. line_after ws keywords.Seed) (words_of rest.now)) result }
+fn seed(rest: &[u8], command: &mut Command) -> Result<Asked, ShellRefusal>
+    ensures { Asks (option_and_then (λ ws. line_after ws keywords.Seed) (words_of rest.now)) command.new result }
 {
     let refused = ShellRefusal::ScriptSyntax;
     let seed = the_number(one_word(rest).ok_or(refused)?).ok_or(refused)?;
-    Ok(Line::Change(Command::Seed(seed)))
+    *command = Command::Seed(seed);
+    Ok(Asked::Change)
 }
 
 #[inline(never)]
-fn unif(rest: &[u8]) -> Result<Line, ShellRefusal>
-    ensures { Reads (option_and_then (λ ws. line_after ws keywords.Unif) (words_of rest.now)) result }
+fn unif(rest: &[u8], command: &mut Command) -> Result<Asked, ShellRefusal>
+    ensures { Asks (option_and_then (λ ws. line_after ws keywords.Unif) (words_of rest.now)) command.new result }
 {
     let refused = ShellRefusal::ScriptSyntax;
     let bound = the_number(one_word(rest).ok_or(refused)?).ok_or(refused)?;
-    Ok(Line::Change(Command::Unif(bound)))
+    *command = Command::Unif(bound);
+    Ok(Asked::Change)
 }
 
 #[inline(never)]
-fn arc(rest: &[u8]) -> Result<Line, ShellRefusal>
-    ensures { Reads (option_and_then (λ ws. line_after ws keywords.Arc) (words_of rest.now)) result }
+fn arc(rest: &[u8], command: &mut Command) -> Result<Asked, ShellRefusal>
+    ensures { Asks (option_and_then (λ ws. line_after ws keywords.Arc) (words_of rest.now)) command.new result }
 {
     let refused = ShellRefusal::ScriptSyntax;
     let (name, from, to, len) = four_words(rest).ok_or(refused)?;
@@ -311,12 +344,13 @@ fn arc(rest: &[u8]) -> Result<Line, ShellRefusal>
     let from = the_vertex(from).ok_or(refused)?;
     let to = the_vertex(to).ok_or(refused)?;
     let len = the_number(len).ok_or(refused)?;
-    Ok(Line::Change(Command::Edit(name, Edit::Arc(from, to, len))))
+    *command = Command::Edit(name, Edit::Arc(from, to, len));
+    Ok(Asked::Change)
 }
 
 #[inline(never)]
-fn edge(rest: &[u8]) -> Result<Line, ShellRefusal>
-    ensures { Reads (option_and_then (λ ws. line_after ws keywords.Edge) (words_of rest.now)) result }
+fn edge(rest: &[u8], command: &mut Command) -> Result<Asked, ShellRefusal>
+    ensures { Asks (option_and_then (λ ws. line_after ws keywords.Edge) (words_of rest.now)) command.new result }
 {
     let refused = ShellRefusal::ScriptSyntax;
     let (name, from, to, len) = four_words(rest).ok_or(refused)?;
@@ -324,104 +358,111 @@ fn edge(rest: &[u8]) -> Result<Line, ShellRefusal>
     let from = the_vertex(from).ok_or(refused)?;
     let to = the_vertex(to).ok_or(refused)?;
     let len = the_number(len).ok_or(refused)?;
-    Ok(Line::Change(Command::Edit(name, Edit::Edge(from, to, len))))
+    *command = Command::Edit(name, Edit::Edge(from, to, len));
+    Ok(Asked::Change)
 }
 
 #[inline(never)]
-fn cut(rest: &[u8]) -> Result<Line, ShellRefusal>
-    ensures { Reads (option_and_then (λ ws. line_after ws keywords.Cut) (words_of rest.now)) result }
+fn cut(rest: &[u8], command: &mut Command) -> Result<Asked, ShellRefusal>
+    ensures { Asks (option_and_then (λ ws. line_after ws keywords.Cut) (words_of rest.now)) command.new result }
 {
     let refused = ShellRefusal::ScriptSyntax;
     let (name, arc) = two_words(rest).ok_or(refused)?;
     let name = the_name(name).ok_or(refused)?;
     let arc = the_arc(arc).ok_or(refused)?;
-    Ok(Line::Change(Command::Edit(name, Edit::Cut(arc))))
+    *command = Command::Edit(name, Edit::Cut(arc));
+    Ok(Asked::Change)
 }
 
 #[inline(never)]
-fn len(rest: &[u8]) -> Result<Line, ShellRefusal>
-    ensures { Reads (option_and_then (λ ws. line_after ws keywords.Len) (words_of rest.now)) result }
+fn len(rest: &[u8], command: &mut Command) -> Result<Asked, ShellRefusal>
+    ensures { Asks (option_and_then (λ ws. line_after ws keywords.Len) (words_of rest.now)) command.new result }
 {
     let refused = ShellRefusal::ScriptSyntax;
     let (name, arc, len) = three_words(rest).ok_or(refused)?;
     let name = the_name(name).ok_or(refused)?;
     let arc = the_arc(arc).ok_or(refused)?;
     let len = the_number(len).ok_or(refused)?;
-    Ok(Line::Change(Command::Edit(name, Edit::Len(arc, len))))
+    *command = Command::Edit(name, Edit::Len(arc, len));
+    Ok(Asked::Change)
 }
 
 #[inline(never)]
-fn types(rest: &[u8]) -> Result<Line, ShellRefusal>
-    ensures { Reads (option_and_then (λ ws. line_after ws keywords.Types) (words_of rest.now)) result }
+fn types(rest: &[u8], command: &mut Command) -> Result<Asked, ShellRefusal>
+    ensures { Asks (option_and_then (λ ws. line_after ws keywords.Types) (words_of rest.now)) command.new result }
 {
     let refused = ShellRefusal::ScriptSyntax;
     let (name, letters) = two_words(rest).ok_or(refused)?;
     let name = the_name(name).ok_or(refused)?;
     let types = the_letters(letters).ok_or(refused)?;
-    Ok(Line::Change(Command::Edit(name, Edit::Types(types))))
+    *command = Command::Edit(name, Edit::Types(types));
+    Ok(Asked::Change)
 }
 
 #[inline(never)]
-fn drop_graph(rest: &[u8]) -> Result<Line, ShellRefusal>
-    ensures { Reads (option_and_then (λ ws. line_after ws keywords.Drop) (words_of rest.now)) result }
+fn drop_graph(rest: &[u8], command: &mut Command) -> Result<Asked, ShellRefusal>
+    ensures { Asks (option_and_then (λ ws. line_after ws keywords.Drop) (words_of rest.now)) command.new result }
 {
     let refused = ShellRefusal::ScriptSyntax;
     let name = the_name(one_word(rest).ok_or(refused)?).ok_or(refused)?;
-    Ok(Line::Change(Command::Drop(name)))
+    *command = Command::Drop(name);
+    Ok(Asked::Change)
 }
 
 #[inline(never)]
-fn show(rest: &[u8]) -> Result<Line, ShellRefusal>
-    ensures { Reads (option_and_then (λ ws. line_after ws keywords.Show) (words_of rest.now)) result }
+fn show(rest: &[u8]) -> Result<Asked, ShellRefusal>
+    ensures { (c : Command) → Asks (option_and_then (λ ws. line_after ws keywords.Show) (words_of rest.now)) c result }
 {
     let refused = ShellRefusal::ScriptSyntax;
     let name = the_name(one_word(rest).ok_or(refused)?).ok_or(refused)?;
-    Ok(Line::Ask(Query::Show(name)))
+    Ok(Asked::Ask(Query::Show(name)))
 }
 
 #[inline(never)]
-fn save(rest: &[u8]) -> Result<Line, ShellRefusal>
-    ensures { Reads (option_and_then (λ ws. line_after ws keywords.Save) (words_of rest.now)) result }
+fn save(rest: &[u8]) -> Result<Asked, ShellRefusal>
+    ensures { (c : Command) → Asks (option_and_then (λ ws. line_after ws keywords.Save) (words_of rest.now)) c result }
 {
     let refused = ShellRefusal::ScriptSyntax;
     let name = the_name(one_word(rest).ok_or(refused)?).ok_or(refused)?;
-    Ok(Line::Ask(Query::Save(name)))
+    Ok(Asked::Ask(Query::Save(name)))
 }
 
 #[inline(never)]
-fn load(rest: &[u8]) -> Result<Line, ShellRefusal>
-    ensures { Reads (option_and_then (λ ws. line_after ws keywords.Load) (words_of rest.now)) result }
+fn load(rest: &[u8]) -> Result<Asked, ShellRefusal>
+    ensures { (c : Command) → Asks (option_and_then (λ ws. line_after ws keywords.Load) (words_of rest.now)) c result }
 {
     let refused = ShellRefusal::ScriptSyntax;
     let (name, rule) = two_words(rest).ok_or(refused)?;
     let name = the_name(name).ok_or(refused)?;
     let rule = the_rule(rule).ok_or(refused)?;
-    Ok(Line::Load(name, rule))
+    Ok(Asked::Load(name, rule))
 }
 
 #[inline(never)]
-fn lengths(rest: &[u8]) -> Result<Line, ShellRefusal>
-    ensures { Reads (option_and_then (λ ws. line_after ws keywords.Lengths) (words_of rest.now)) result }
+fn lengths(rest: &[u8], command: &mut Command) -> Result<Asked, ShellRefusal>
+    ensures { Asks (option_and_then (λ ws. line_after ws keywords.Lengths) (words_of rest.now)) command.new result }
 {
     let refused = ShellRefusal::ScriptSyntax;
     let (graph, rest) = split_word(rest).ok_or(refused)?;
     let graph = the_name(graph).ok_or(refused)?;
     let (directed, min, max, seed) = drawn(rest).ok_or(refused)?;
     let spec = LengthsSpec { directed, min, max };
-    Ok(Line::Change(Command::Lengths(graph, spec, seed)))
+    *command = Command::Lengths(graph, spec, seed);
+    Ok(Asked::Change)
 }
 
 #[inline(never)]
-fn set(alloc: Global, rest: &[u8]) -> Result<Line, ShellRefusal>
+fn set(alloc: Global, rest: &[u8], command: &mut Command) -> Result<Asked, ShellRefusal>
     requires { HasTexts (words_of rest.now) }
-    ensures { Reads (option_and_then (λ ws. line_after ws keywords.Set) (words_of rest.now)) result }
+    ensures { Asks (option_and_then (λ ws. line_after ws keywords.Set) (words_of rest.now)) command.new result }
 {
     let refused = ShellRefusal::ScriptSyntax;
     let (name, place, field, value) = four_words(rest).ok_or(refused)?;
     let name = the_name(name).ok_or(refused)?;
     let place = the_place(place, field).ok_or(refused)?;
     let value = the_value(alloc, value)?;
-    Ok(Line::Change(Command::Edit(name, Edit::Set(place, value))))
+    *command = Command::Edit(name, Edit::Set(place, value));
+    Ok(Asked::Change)
 }
 
 // The value, for which memory is taken where it is a text.
@@ -438,28 +479,30 @@ fn the_value(alloc: Global, word: Word<'_>) -> Result<Util, ShellRefusal>
 }
 
 #[inline(never)]
-fn label(alloc: Global, rest: &[u8]) -> Result<Line, ShellRefusal>
+fn label(alloc: Global, rest: &[u8], command: &mut Command) -> Result<Asked, ShellRefusal>
     requires { HasTexts (words_of rest.now) }
-    ensures { Reads (option_and_then (λ ws. line_after ws keywords.Label) (words_of rest.now)) result }
+    ensures { Asks (option_and_then (λ ws. line_after ws keywords.Label) (words_of rest.now)) command.new result }
 {
     let refused = ShellRefusal::ScriptSyntax;
     let (name, vertex, bytes) = three_words(rest).ok_or(refused)?;
     let name = the_name(name).ok_or(refused)?;
     let vertex = the_vertex(vertex).ok_or(refused)?;
     let bytes = the_text(bytes).ok_or(refused)?;
-    Ok(Line::Change(Command::Edit(name, Edit::Label(vertex, text(alloc, bytes)?))))
+    *command = Command::Edit(name, Edit::Label(vertex, text(alloc, bytes)?));
+    Ok(Asked::Change)
 }
 
 #[inline(never)]
-fn id(alloc: Global, rest: &[u8]) -> Result<Line, ShellRefusal>
+fn id(alloc: Global, rest: &[u8], command: &mut Command) -> Result<Asked, ShellRefusal>
     requires { HasTexts (words_of rest.now) }
-    ensures { Reads (option_and_then (λ ws. line_after ws keywords.Id) (words_of rest.now)) result }
+    ensures { Asks (option_and_then (λ ws. line_after ws keywords.Id) (words_of rest.now)) command.new result }
 {
     let refused = ShellRefusal::ScriptSyntax;
     let (name, bytes) = two_words(rest).ok_or(refused)?;
     let name = the_name(name).ok_or(refused)?;
     let bytes = the_text(bytes).ok_or(refused)?;
-    Ok(Line::Change(Command::Edit(name, Edit::Id(text(alloc, bytes)?))))
+    *command = Command::Edit(name, Edit::Id(text(alloc, bytes)?));
+    Ok(Asked::Change)
 }
 
 fn is_comment(line: &[u8]) -> bool

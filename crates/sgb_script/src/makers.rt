@@ -6,11 +6,11 @@ ghost use Rattle.sgb_script.specs.Words.{words_of};
 ghost use Rattle.sgb_script.specs.Makers.{maker_after, board, simplex, subsets, perms, random, drawn, described};
 ghost use Rattle.sgb_script.specs.Line.{making};
 ghost use Rattle.sgb_script.specs.Private.Words.{HasTexts};
-ghost use Rattle.sgb_script.specs.Private.Reading.{Reads, ReadsMaker};
+ghost use Rattle.sgb_script.specs.Private.Reading.{Asks, ReadsMaker};
 ghost use Rattle.sgb_script.specs.declared.makers.Kind.TheVariants as kinds;
 
 use crate::arguments::{the_bits, the_flag, the_name, the_number, the_seed, the_text};
-use crate::command::{Command, Line, Maker};
+use crate::command::{Asked, Command, Maker};
 use crate::numbers::is_yes;
 use crate::refusal::ShellRefusal;
 use crate::text::text;
@@ -38,15 +38,21 @@ pub(crate) enum Kind {
 
 /// A new graph's name, and what makes it.
 #[inline(never)]
-pub(crate) fn make(alloc: Global, kind: Kind, rest: &[u8]) -> Result<Line, ShellRefusal>
+pub(crate) fn make(
+    alloc: Global,
+    kind: Kind,
+    rest: &[u8],
+    command: &mut Command,
+) -> Result<Asked, ShellRefusal>
     requires { HasTexts (words_of rest.now) }
-    ensures { Reads (option_and_then (making kind) (words_of rest.now)) result }
+    ensures { Asks (option_and_then (making kind) (words_of rest.now)) command.new result }
 {
     let refused = ShellRefusal::ScriptSyntax;
     let (name, rest) = split_word(rest).ok_or(refused)?;
     let name = the_name(name).ok_or(refused)?;
     let maker = maker_after(alloc, kind, rest)?;
-    Ok(Line::Change(Command::Make(name, maker)))
+    *command = Command::Make(name, maker);
+    Ok(Asked::Change)
 }
 
 // What the words behind the name ask for.

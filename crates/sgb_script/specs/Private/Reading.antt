@@ -4,6 +4,8 @@ use Rattle.sgb_graph.specs.declared.field.Util.{Util}
 use Rattle.sgb_graph.specs.declared.field.Util.TheVariants as utils
 use Rattle.sgb_script.specs.declared.command.Maker.{Maker}
 use Rattle.sgb_script.specs.declared.command.Maker.TheVariants.{Induced}
+use Rattle.sgb_script.specs.declared.command.Asked.{Asked}
+use Rattle.sgb_script.specs.declared.command.Command.{Command}
 use Rattle.sgb_script.specs.declared.command.Line.{Line}
 use Rattle.sgb_script.specs.declared.command.Line.TheVariants.{Nothing}
 use Rattle.sgb_script.specs.declared.line.Front.{Front}
@@ -11,7 +13,7 @@ use Rattle.sgb_script.specs.declared.line.Front.TheVariants as fronts
 use Rattle.sgb_script.specs.declared.refusal.ShellRefusal.{ShellRefusal}
 use Rattle.sgb_script.specs.declared.refusal.ShellRefusal.TheVariants.{NoRoom, ScriptSyntax}
 use Rattle.sgb_script.specs.Words.{words_of}
-use Rattle.sgb_script.specs.Line.{line_after, takes_memory}
+use Rattle.sgb_script.specs.Line.{line_with, line_after, takes_memory}
 use Rattle.sgb_script.specs.Private.Words.{HasTexts}
 
 -- the value of a field is a text
@@ -23,10 +25,11 @@ is_text (Some (utils.Vertex k)) = false
 is_text (Some (utils.Arc k)) = false
 is_text (Some (utils.Text t)) = true
 
--- what the reading of a line answers: the line, 100 where it is none, or 1 where it takes memory
-abbrev pub Reads : Option Line → Result Line ShellRefusal → Type 0
-Reads asked (Ok line) = asked ≡ Some line
-Reads asked (Err e) = ((e ≡ ScriptSyntax) × (asked ≡ None)) ⊎ ((e ≡ NoRoom) × IsTrue (takes_memory asked))
+-- what the reading of a line answers, whose command stands in its place: the line, 100 where it is none, or 1 where it
+-- takes memory
+abbrev pub Asks : Option Line → Command → Result Asked ShellRefusal → Type 0
+Asks line c (Ok asked) = line ≡ Some (line_with c asked)
+Asks line c (Err e) = ((e ≡ ScriptSyntax) × (line ≡ None)) ⊎ ((e ≡ NoRoom) × IsTrue (takes_memory line))
 
 -- what the front of a line tells of what it asks for
 abbrev pub Begins : Option Line → Front → Type 0

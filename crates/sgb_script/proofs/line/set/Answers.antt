@@ -18,7 +18,7 @@ returns-in_err-value c =
     (sym c.four_words.ensures ∙ ap (option_map (λ p. (seen p.0, seen p.1, seen p.2, seen p.3))) q.ensures.ok_part)
     (sym c.the_name.ensures ∙ c.in_ok-name-2.ensures.ok_part) (sym c.the_place.ensures ∙ c.in_ok-place.ensures.ok_part) in
     let left : c.from_residual-in_err-value.result ≡ Err c.in_err-value.field-0.0 = search rules in
-    refused _ c.in_ok-name-2.name c.in_ok-place.place (the_value (seen q.value)) c.in_err-value.field-0.0 _ by c.in_err-value.ensures.err left
+    refused _ c.in_ok-name-2.name c.in_ok-place.place (the_value (seen q.value)) c.in_err-value.field-0.0 _ _ by c.in_err-value.ensures.err left
 
 pub returns : goal.returns
 returns c =
