@@ -2,12 +2,13 @@
 ghost use Rattle.std.specs.Prelude.{◌≡◌, true, false, MatchResult};
 ghost use Rattle.sgb_graph.specs.declared.refusal.Refusal.TheVariants.{NoRoom};
 ghost use Rattle.sgb_session.specs.declared.reply.Reply.TheVariants.{Done};
-ghost use Rattle.sgb_script.specs.declared.command.Edit.TheVariants.{Arc, Edge, Set, Label, Id};
+ghost use Rattle.sgb_script.specs.declared.command.Edit.TheVariants.{Arc, Edge, Cut, Len, Set, Label, Id};
+ghost use Rattle.sgb_script.specs.declared.command.Edit.TheVariants as edits;
 ghost use Rattle.sgb_session.specs.Edits.{edited, is_text_value};
 ghost use Rattle.sgb_session.specs.Private.Making.{Makes, edit_may_want, told, with_done};
 
 use crate::reply::Reply;
-use sgb_graph::{ArcNo, Graph, GraphDelta, Place, Refusal, Text, Util, VertexNo};
+use sgb_graph::{ArcNo, Graph, GraphDelta, Place, Refusal, Text, Types, Util, VertexNo};
 use sgb_script::Edit;
 use std::alloc::Global;
 
@@ -24,19 +25,18 @@ pub(crate) fn make_edit(
     match edit {
         Edit::Arc(from, to, len) => make_arc(graph, *from, *to, *len, delta, reply),
         Edit::Edge(from, to, len) => make_edge(graph, *from, *to, *len, delta, reply),
-        Edit::Cut(number) => done(graph.cut(*number), delta, reply),
-        Edit::Len(number, len) => done(graph.set_len(*number, *len), delta, reply),
+        Edit::Cut(number) => cut_arc(graph, *number, delta, reply),
+        Edit::Len(number, len) => set_len(graph, *number, *len, delta, reply),
         Edit::Set(place, value) => set_value(alloc, graph, *place, value, delta, reply),
-        Edit::Types(types) => {
-            *delta = graph.set_types(*types);
-            *reply = Reply::Done;
-            Ok(())
-        }
+        Edit::Types(types) => set_types(graph, *types, delta, reply),
         Edit::Label(vertex, text) => set_label(alloc, graph, *vertex, text, delta, reply),
         Edit::Id(text) => set_id(alloc, graph, text, delta, reply),
     }
 }
 
+// Each edit has a function of its own, so that a call takes only the room for what its edit answers.
+
+#[inline(never)]
 fn make_arc(
     graph: &mut Graph,
     from: VertexNo,
@@ -47,12 +47,13 @@ fn make_arc(
 ) -> Result<(), Refusal>
     ensures { Makes (edit_may_want (Arc from to len)) graph.old graph.new (edited graph.old (Arc from to len)) (told delta.new reply.new result) }
 {
-    let (number, kept) = graph.new_arc(from, to, len)?;
-    *delta = kept;
+    let (number, _kept) = graph.new_arc(from, to, len)?;
+    *delta = GraphDelta::NewArc(number);
     *reply = Reply::Arc(number);
     Ok(())
 }
 
+#[inline(never)]
 fn make_edge(
     graph: &mut Graph,
     from: VertexNo,
@@ -63,12 +64,52 @@ fn make_edge(
 ) -> Result<(), Refusal>
     ensures { Makes (edit_may_want (Edge from to len)) graph.old graph.new (edited graph.old (Edge from to len)) (told delta.new reply.new result) }
 {
-    let (number, kept) = graph.new_edge(from, to, len)?;
-    *delta = kept;
+    let (number, _kept) = graph.new_edge(from, to, len)?;
+    *delta = GraphDelta::NewEdge(number);
     *reply = Reply::Edge(number, ArcNo(number.0 + 1));
     Ok(())
 }
 
+#[inline(never)]
+fn cut_arc(
+    graph: &mut Graph,
+    number: ArcNo,
+    delta: &mut GraphDelta,
+    reply: &mut Reply,
+) -> Result<(), Refusal>
+    ensures { Makes (edit_may_want (Cut number)) graph.old graph.new (edited graph.old (Cut number)) (told delta.new reply.new result) }
+{
+    done(graph.cut(number), delta, reply)
+}
+
+#[inline(never)]
+fn set_len(
+    graph: &mut Graph,
+    number: ArcNo,
+    len: i64,
+    delta: &mut GraphDelta,
+    reply: &mut Reply,
+) -> Result<(), Refusal>
+    ensures { Makes (edit_may_want (Len number len)) graph.old graph.new (edited graph.old (Len number len)) (told delta.new reply.new result) }
+{
+    done(graph.set_len(number, len), delta, reply)
+}
+
+#[inline(never)]
+fn set_types(
+    graph: &mut Graph,
+    types: Types,
+    delta: &mut GraphDelta,
+    reply: &mut Reply,
+) -> Result<(), Refusal>
+    ensures { Makes (edit_may_want (edits.Types types)) graph.old graph.new (edited graph.old (edits.Types types)) (told delta.new reply.new result) }
+{
+    *delta = graph.set_types(types);
+    *reply = Reply::Done;
+    Ok(())
+}
+
+#[inline(never)]
 fn set_value(
     alloc: Global,
     graph: &mut Graph,
@@ -83,6 +124,7 @@ fn set_value(
     done(graph.set_util(place, copy), delta, reply)
 }
 
+#[inline(never)]
 fn set_label(
     alloc: Global,
     graph: &mut Graph,
@@ -97,6 +139,7 @@ fn set_label(
     done(graph.set_label(vertex, copy), delta, reply)
 }
 
+#[inline(never)]
 fn set_id(
     alloc: Global,
     graph: &mut Graph,

@@ -105,6 +105,7 @@ impl Session {
     /// Performs a command as [`Reversible::apply`] does, and writes its delta and its reply where others stood. Where the
     /// command is refused, what stands there tells nothing.
     // Both are large: so they are written once, and not handed up from call to call.
+    #[inline(always)]
     pub fn apply_at(
         &mut self,
         command: &Command,
@@ -120,14 +121,7 @@ impl Session {
         ensures memory { IfErr result (λ r. (takes_memory command.now ≡ true) ⊎ (step self.old command.now ≡ Refused r)) }
     {
         match command {
-            Command::Seed(seed) => {
-                let before = Past::of(&self.generator);
-                keep(&mut self.marks, &self.generator);
-                self.generator = Mark::new(*seed);
-                *delta = Delta::Seed(before);
-                *reply = Reply::Done;
-                Ok(())
-            }
+            Command::Seed(seed) => self.seed_anew(*seed, delta, reply),
             Command::Next => self.draw(delta, reply),
             Command::Unif(bound) => self.draw_below(*bound, delta, reply),
             Command::Make(name, maker) => self.make(*name, maker, delta, reply),
@@ -137,7 +131,26 @@ impl Session {
         }
     }
 
+    // Seeds the generator anew. What it allots is no part of the other commands' calls.
+    #[inline(never)]
+    fn seed_anew(
+        &mut self,
+        seed: i64,
+        delta: &mut Delta,
+        reply: &mut Reply,
+    ) -> Result<(), ShellRefusal>
+        ensures { Performs self.old self.new (commands.Seed seed) (told delta.new reply.new result) }
+    {
+        let before = Past::of(&self.generator);
+        keep(&mut self.marks, &self.generator);
+        self.generator = Mark::new(seed);
+        *delta = Delta::Seed(before);
+        *reply = Reply::Done;
+        Ok(())
+    }
+
     // Draws one number.
+    #[inline(always)]
     fn draw(&mut self, delta: &mut Delta, reply: &mut Reply) -> Result<(), ShellRefusal>
         ensures { Performs self.old self.new commands.Next (told delta.new reply.new result) }
     {
@@ -235,9 +248,11 @@ impl Session {
         let Some(place) = self.table.find(name) else {
             return Err(ShellRefusal::NoGraph);
         };
-        let mut kept = GraphDelta::NewArc(ArcNo(0));
-        let done = self.table.edit(self.alloc, place, edit, &mut kept, reply);
-        *delta = Delta::Edit(place, kept);
+        *delta = Delta::Edit(place, GraphDelta::NewArc(ArcNo(0)));
+        let Delta::Edit(_, kept) = delta else {
+            unreachable!();
+        };
+        let done = self.table.edit(self.alloc, place, edit, kept, reply);
         match done {
             Ok(()) => Ok(()),
             Err(refusal) => Err(refusal_of(refusal)),

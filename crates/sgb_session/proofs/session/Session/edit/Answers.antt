@@ -20,10 +20,13 @@ returns c =
     let made : AtPlace (Edits e (told c.edit-done.new.delta c.edit-done.new.reply c.edit-done.result)) t u i = c.edit-done.ensures in
     let x = kept.Edit i c.edit-done.new.delta in
     let q = c.edit-done.new.reply in
-    subst (λ s. Performs s (state d u) (commands.Edit name e) (told x q c.match-done.result)) c.self.view_is
+    let is = c.in-Edit.is in
+    let same : i ≡ c.in-Edit.field-0 = cc in
+    subst (λ j. Performs c.args.self.now (state d u) (commands.Edit name e) (told (kept.Edit j c.edit-done.new.delta) q c.match-done.result)) same
+    (subst (λ s. Performs s (state d u) (commands.Edit name e) (told x q c.match-done.result)) c.self.view_is
     (elim c.match-done.branch [
       | in-Ok w ↦ subst (λ r. Performs (state d t) (state d u) (commands.Edit name e) (told x q r)) (sym w.result-is)
           (edit_done d t u name e i _ at within (subst (λ r. AtPlace (Edits e (told c.edit-done.new.delta q r)) t u i) w.in-Ok.is made))
       | in-Err w ↦ subst (λ r. Performs (state d t) (state d u) (commands.Edit name e) (told x q r)) (sym (w.result-is ∙ ap Err w.refusal_of.ensures))
           (edit_refused d t u name e i _ at (subst (λ r. AtPlace (Edits e (told c.edit-done.new.delta q r)) t u i) w.in-Err.is made))
-    ])
+    ]))
