@@ -59,6 +59,7 @@ impl<M: Reversible> Journal<M> {
     /// The journal takes memory only where nothing is undone and a multiple of [`GROWTH`] stand,
     /// before the machine is asked. A command that is refused is dropped, and everything stays as it
     /// was, the undone commands too.
+    #[inline(always)]
     pub fn apply(&mut self, command: M::Command) -> Result<M::Reply, JournalRefusal<M::Refusal>>
         ensures ok { IfOk result (λ reply. Applies M.step M.before self.old command reply self.new) }
 
@@ -111,6 +112,7 @@ impl<M: Reversible> Journal<M> {
     ///
     /// The journal itself takes no memory for it, so the machine's want of memory is the only
     /// refusal where something is undone.
+    #[inline(always)]
     pub fn redo(&mut self) -> Result<M::Reply, JournalRefusal<M::Refusal>>
         ensures ok { IfOk result (λ reply. Redoes M.step M.before self.old reply self.new) }
 
