@@ -1,5 +1,6 @@
 //! Random lengths, and their undoing.
 ghost use Rattle.std.specs.Prelude.{◌≡◌, ◌⊎◌, ◌≤◌, None, Some, IfOk, IfErr, OnOk, OnErr};
+ghost use Rattle.std.specs.Result.{IsErrOf};
 ghost use Rattle.sgb_flip.specs.Generator.{IsGenerator, after};
 ghost use Rattle.sgb_graph.specs.Graph.{IsGraph};
 ghost use Rattle.sgb_lengths.specs.Lengths.{
@@ -34,8 +35,8 @@ use std::alloc::Global;
 /// vertex and the second half of a loop draw no length, but take that of the other half of their edge.
 ///
 /// Refused `TooLarge` where `min` is above `max`; then `LengthRange` where they are 2^31 or more apart; then
-/// `BadOperand` where an arc leads to no vertex, or where `directed` is false and the graph is not paired. After a
-/// refusal the graph and the generator are as before.
+/// `BadOperand` where an arc leads to no vertex, or where `directed` is false and the graph is not paired; memory is taken
+/// behind these. After a refusal the graph and the generator are as before.
 pub fn random_lengths(
     alloc: Global,
     graph: &mut Graph,
@@ -53,6 +54,7 @@ pub fn random_lengths(
     ensures can_revert { IfOk result (λ made. CanRevertLengths made.0 graph.new) }
     ensures back { IfOk result (λ made. before_lengths made.0 graph.new ≡ graph.old) }
     ensures err { IfErr result (λ e. (e ≡ Refusal.NoRoom) ⊎ (refusal_of_lengths spec.now graph.old ≡ Some e)) }
+    ensures room { IsErrOf result Refusal.NoRoom → refusal_of_lengths spec.now graph.old ≡ None }
     ensures unchanged { OnErr result (graph.new ≡ graph.old) }
     ensures unmoved { OnErr result (flip.new ≡ flip.old) }
     ensures sound { IsGraph graph.new }
@@ -87,6 +89,7 @@ fn prepare(
     ensures prepared { IfOk result (λ p. IsPrepared spec.now graph.now p) }
     ensures id { IfOk result (λ p. p.id ≡ lengths_id spec.now seed graph.now.id) }
     ensures err { IfErr result (λ e. (e ≡ Refusal.NoRoom) ⊎ (refusal_of_lengths spec.now graph.now ≡ Some e)) }
+    ensures room { IsErrOf result Refusal.NoRoom → refusal_of_lengths spec.now graph.now ≡ None }
 {
     let range = judge(graph, spec)?;
     let id = lengths_id(alloc, graph.id(), spec, seed)?;
