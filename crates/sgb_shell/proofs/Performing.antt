@@ -20,7 +20,9 @@ use Rattle.sgb_script.specs.declared.command.Line.{Line}
 use Rattle.sgb_script.specs.declared.command.Line.TheVariants.{Nothing, Change, Undo, Redo, Ask, Load, Group, End}
 use Rattle.sgb_script.specs.declared.command.Query.{Query}
 use Rattle.sgb_script.specs.declared.command.Query.TheVariants as queries
-use Rattle.sgb_script.specs.Line.{line_of, takes_memory}
+use Rattle.sgb_script.specs.Line.{line_of, line_with, takes_memory}
+use Rattle.sgb_script.specs.declared.command.Asked.{Asked}
+use Rattle.sgb_script.specs.declared.command.Asked.TheVariants as asks
 use Rattle.sgb_script.specs.Words.{words_of}
 use Rattle.sgb_script.specs.declared.refusal.ShellRefusal.{ShellRefusal}
 use Rattle.sgb_script.specs.declared.refusal.ShellRefusal.TheVariants.{NoRoom, CheckWrong, Syntax, BadSpecs, LengthRange, TooLarge, NoGraph, BadOperand, ScriptSyntax, TableFull, NameTaken, NothingToUndo, NothingToRedo, JournalFull, Stuck}
@@ -180,11 +182,18 @@ redid old new (Err (journals.Machine f)) b d nothing no_room full refused same s
 
 -- ---- the line that was read
 
-pub read_does : (old new : Kept) (o : Option Line) (l l' : Line) (answer : Answer) → o ≡ Some l → l ≡ l' → Does (by_line (Some l')) old new answer → Does (by_line o) old new answer
-read_does old new o l l' answer e same d = subst (λ p. Does (by_line p) old new answer) (sym (e ∙ ap Some same)) d
+-- the command of the line stands in a place of its own
+pub asks_does : (old new : Kept) (o : Option Line) (c : Command) (asked asked' : Asked) (answer : Answer) → o ≡ Some (line_with c asked) → asked ≡ asked'
+    → Does (by_line (Some (line_with c asked'))) old new answer → Does (by_line o) old new answer
+asks_does old new o c asked asked' answer e same d = subst (λ p. Does (by_line p) old new answer) (sym (e ∙ ap (λ a. Some (line_with c a)) same)) d
 
 pub changed_does : (old new : Kept) (c : Command) (answer : Answer) → Does (by_command (One c)) old new answer → Does (by_line (Some (Change c))) old new answer
 changed_does old new c answer d = record { no_room = d.no_room; told = d.told; begun = d.begun }
+
+pub changed_by : (old new : Kept) (o : Option Line) (c : Command) (grouped : GroupedCommand) (asked : Asked) (answer : Answer) → grouped ≡ One c → o ≡ Some (line_with c asked)
+    → asked ≡ asks.Change → Does (by_command grouped) old new answer → Does (by_line o) old new answer
+changed_by old new o c grouped asked answer is e same d =
+    asks_does old new o c asked asks.Change answer e same (changed_does old new c answer (subst (λ g. Does (by_command g) old new answer) is d))
 
 pub asked_does : (j : Kept) (q : Query) (answer : Answer) → IsBegun j → Answers j.machine q answer → Does (by_line (Some (Ask q))) j j answer
 asked_does j q answer b (no_room, e) = record {

@@ -1,14 +1,17 @@
 //! Does what a line says to the session's journal.
-ghost use Rattle.std.specs.Prelude.{◌≡◌, Some, codes};
+ghost use Rattle.std.specs.Prelude.{◌≡◌, ◌⊎◌, Some, None, IfOk, IfErr, IsTrue, codes};
 ghost use Rattle.std.specs.Str.{bytes_eq};
-ghost use Rattle.sgb_script.specs.Line.{line_of};
+ghost use Rattle.sgb_script.specs.Line.{line_of, line_with, takes_memory};
+ghost use Rattle.sgb_script.specs.declared.refusal.ShellRefusal.TheVariants.{NoRoom, ScriptSyntax};
+ghost use Rattle.sgb_script.specs.declared.command.Command.TheVariants as commands;
+ghost use Rattle.sgb_groups.specs.declared.grouped.GroupedCommand.TheVariants.{One};
 ghost use Rattle.sgb_shell.specs.Private.Performing.{IsBegun, Does, Answers, Saves, by_command, by_line, answer_from, refusal_from};
 ghost use Rattle.sgb_script.specs.declared.command.Line.TheVariants.{Undo, Redo};
 
 use crate::answer::Answer;
 use sgb_graph::Graph;
 use sgb_groups::{GroupedCommand, GroupedReply, GroupedSession};
-use sgb_script::{Command, Line, Query, ShellRefusal, parse};
+use sgb_script::{Asked, Command, Query, ShellRefusal, parse_onto};
 use sgb_session::Session;
 use sgb_text::save;
 use sgb_undo::{Journal, JournalRefusal};
@@ -31,7 +34,7 @@ pub(crate) fn perform(
     } else if is_redo(line) {
         redo(journal, answer);
     } else if is_next(line) {
-        change(journal, GroupedCommand::One(Command::Next), answer);
+        draw(journal, answer);
     } else if is_gen(line) {
         *answer = Answer::Generator;
     } else {
@@ -73,16 +76,35 @@ fn perform_words(
 )
     ensures { IsBegun journal.old → Does (by_line (line_of line.now)) journal.old journal.new answer.new }
 {
-    match parse(alloc, line) {
-        Ok(Line::Nothing) => *answer = Answer::Silent,
-        Ok(Line::Change(command)) => change(journal, GroupedCommand::One(command), answer),
-        Ok(Line::Undo) => undo(journal, answer),
-        Ok(Line::Redo) => redo(journal, answer),
-        Ok(Line::Ask(query)) => *answer = ask(alloc, journal.machine().session(), query),
-        Ok(Line::Load(_, _)) => *answer = Answer::Refused(ShellRefusal::ScriptSyntax),
-        Ok(Line::Group) => *answer = Answer::Refused(ShellRefusal::ScriptSyntax),
-        Ok(Line::End) => *answer = Answer::Refused(ShellRefusal::ScriptSyntax),
+    let mut command = GroupedCommand::One(Command::Next);
+    match read_onto(alloc, line, &mut command) {
+        Ok(Asked::Nothing) => *answer = Answer::Silent,
+        Ok(Asked::Change) => change(journal, command, answer),
+        Ok(Asked::Undo) => undo(journal, answer),
+        Ok(Asked::Redo) => redo(journal, answer),
+        Ok(Asked::Ask(query)) => *answer = ask(alloc, journal.machine().session(), query),
+        Ok(Asked::Load(_, _)) => *answer = Answer::Refused(ShellRefusal::ScriptSyntax),
+        Ok(Asked::Group) => *answer = Answer::Refused(ShellRefusal::ScriptSyntax),
+        Ok(Asked::End) => *answer = Answer::Refused(ShellRefusal::ScriptSyntax),
         Err(refusal) => *answer = Answer::Refused(refusal),
+    }
+}
+
+// Reads a line, and writes its command where another one by itself stood.
+#[inline(always)]
+fn read_onto(
+    alloc: Global,
+    line: &[u8],
+    command: &mut GroupedCommand,
+) -> Result<Asked, ShellRefusal>
+    requires one { command.old ≡ One commands.Next }
+    ensures ok { IfOk result (λ asked. (c : Command) × (command.new ≡ One c) × (line_of line.now ≡ Some (line_with c asked))) }
+    ensures err { IfErr result (λ e. ((e ≡ ScriptSyntax) × (line_of line.now ≡ None))
+        ⊎ ((e ≡ NoRoom) × IsTrue (takes_memory (line_of line.now)))) }
+{
+    match command {
+        GroupedCommand::One(one) => parse_onto(alloc, line, one),
+        GroupedCommand::Group(_) => unreachable!(),
     }
 }
 
@@ -99,6 +121,14 @@ pub(crate) fn change(
     answer_to(outcome, answer);
 }
 
+// Draws a number. The room for a command is no part of the other lines of one word.
+#[inline(never)]
+fn draw(journal: &mut Journal<GroupedSession>, answer: &mut Answer)
+    ensures { IsBegun journal.old → Does (by_command (One commands.Next)) journal.old journal.new answer.new }
+{
+    change(journal, GroupedCommand::One(Command::Next), answer);
+}
+
 fn undo(journal: &mut Journal<GroupedSession>, answer: &mut Answer)
     ensures { IsBegun journal.old → Does (by_line (Some Undo)) journal.old journal.new answer.new }
 {
@@ -108,6 +138,7 @@ fn undo(journal: &mut Journal<GroupedSession>, answer: &mut Answer)
     }
 }
 
+#[inline(never)]
 fn redo(journal: &mut Journal<GroupedSession>, answer: &mut Answer)
     ensures { IsBegun journal.old → Does (by_line (Some Redo)) journal.old journal.new answer.new }
 {
@@ -115,7 +146,7 @@ fn redo(journal: &mut Journal<GroupedSession>, answer: &mut Answer)
     answer_to(outcome, answer);
 }
 
-#[inline]
+#[inline(always)]
 fn answer_to(outcome: Result<GroupedReply, JournalRefusal<ShellRefusal>>, answer: &mut Answer)
     ensures { answer.new ≡ answer_from outcome }
 {
