@@ -1,3 +1,4 @@
+pub mod Aimed
 pub mod Aiming
 pub mod Apart
 pub mod Building

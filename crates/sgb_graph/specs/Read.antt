@@ -1,6 +1,8 @@
--- What the readers show of an arc.
-use Rattle.std.specs.Prelude.{◌≡◌, ◌<◌, ℕ, List, [], ◌∷◌, ◌++◌, Option, Some, None}
+-- What the readers show of an arc, and whether arcs lead to vertices.
+use Rattle.std.specs.Prelude.{◌≡◌, ◌<◌, ℕ, List, [], ◌∷◌, ◌++◌, Option, Some, None, Bool, true, false}
 use Rattle.sgb_graph.specs.declared.field.ArcNo.{ArcNo}
+use Rattle.sgb_graph.specs.declared.field.Tip.{Tip}
+use Rattle.sgb_graph.specs.declared.field.Tip.TheVariants.{Zero, One, To}
 use Rattle.sgb_graph.specs.declared.graph.read.ArcView.{ArcView}
 use Rattle.sgb_graph.specs.Graph.{GraphOf, ArcOf, n_of, arcs_of, arc_at}
 use Rattle.sgb_graph.specs.Edit.{owner_of}
@@ -17,6 +19,17 @@ arc_view g k = entry_view (owner_of g k) (arc_at g k)
 pub record ShowsEntry (e : ArcOf) (a : ArcView) : Type 0 where
   pub tip : a.tip ≡ e.tip
   pub len : a.len ≡ e.len
+
+-- the tip is a vertex
+abbrev pub is_vertex_tip : Tip → Bool
+is_vertex_tip Zero = false
+is_vertex_tip One = false
+is_vertex_tip (To v) = true
+
+-- a hole, or an arc that leads to a vertex
+abbrev pub leads_on : Option ArcOf → Bool
+leads_on None = true
+leads_on (Some e) = is_vertex_tip e.tip
 
 -- the first number of a list
 abbrev pub first_of : List ℕ → Option ArcNo

@@ -7,7 +7,7 @@ use Rattle.sgb_graph.specs.declared.refusal.Refusal.TheVariants.{NoRoom, LengthR
 use Rattle.sgb_graph.specs.Edit.{refusal_unless}
 use Rattle.sgb_graph.specs.Paired.{is_paired}
 use Rattle.sgb_graph.specs.Graph.{GraphOf}
-use Rattle.sgb_operand.specs.Operand.{leads_on}
+use Rattle.sgb_graph.specs.Read.{leads_on}
 use Rattle.sgb_plan.specs.Length.{refusal_of_range, width}
 use Rattle.sgb_lengths.specs.declared.spec.LengthsSpec.{LengthsSpec}
 use Rattle.sgb_lengths.specs.Lengths.{refusal_of_arcs, refusal_of_lengths}

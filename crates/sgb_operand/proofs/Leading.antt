@@ -1,32 +1,16 @@
--- Lemmas on arcs that lead to vertices.
-use Rattle.std.proofs.Common.{◌≡◌, ◌<◌, ◌+◌, ℕ, take, Option, Some, None, is_some, Bool, true, false, inl, inr, refl, ap, ◌∙◌}
+-- Lemmas on operands whose arcs lead to vertices.
+use Rattle.std.proofs.Common.{◌≡◌, ℕ, Option, Some, None, is_some, Bool, true, inl, inr, refl}
 use Rattle.std.specs.List.{list_all}
-use Rattle.std.proofs.lemmas.Bool.{and_from, cases_Bool}
-use Rattle.std.proofs.lemmas.List.Folds.{list_all_more, list_all_at}
-use Rattle.sgb_graph.specs.declared.graph.read.ArcView.{ArcView}
+use Rattle.std.proofs.lemmas.Bool.{cases_Bool}
+use Rattle.std.proofs.lemmas.List.Folds.{list_all_at}
 use Rattle.sgb_graph.specs.declared.field.Tip.{Tip}
 use Rattle.sgb_graph.specs.declared.field.Tip.TheVariants.{Zero, One, To}
 use Rattle.sgb_graph.specs.declared.refusal.Refusal.TheVariants.{BadOperand}
-use Rattle.sgb_graph.specs.Graph.{GraphOf, ArcOf, made_of, arc_at, has_arc}
-use Rattle.sgb_graph.specs.Edit.{owner_of, entry_at, arc_or, no_arc, refusal_unless}
+use Rattle.sgb_graph.specs.Graph.{GraphOf, ArcOf, arc_at, has_arc}
+use Rattle.sgb_graph.specs.Edit.{entry_at, arc_or, no_arc, refusal_unless}
 use Rattle.sgb_graph.proofs.Graphs.{made_of_live}
-use Rattle.sgb_graph.specs.Read.{entry_view, arc_view}
-use Rattle.sgb_operand.specs.Private.Views.{leads_on_view}
-use Rattle.sgb_operand.specs.Operand.{is_vertex_tip, leads_on, refusal_of_operand, tip_number}
-
-leads_on_shown : (v : ℕ) (o : Option ArcOf) → leads_on_view (entry_view v o) ≡ leads_on o
-leads_on_shown v None = refl
-leads_on_shown v (Some e) = refl
-
--- an arc leads to a vertex where it is seen to
-pub leads_on_is : (g : GraphOf) (k : ℕ) (o : Option ArcView) → o ≡ arc_view g k → leads_on_view o ≡ leads_on (arc_at g k)
-leads_on_is g k o is = ap leads_on_view is ∙ leads_on_shown (owner_of g k) (arc_at g k)
-
--- one arc more
-pub leads_on_more : (g : GraphOf) (k : ℕ) → k < made_of g → list_all leads_on (take k g.entries) ≡ true → leads_on (arc_at g k) ≡ true → list_all leads_on (take (k + 1) g.entries) ≡ true
-leads_on_more g k h before here =
-    list_all_more leads_on g.entries k None h
-    ∙ and_from (list_all leads_on (take k g.entries)) (leads_on (arc_at g k)) before here
+use Rattle.sgb_graph.specs.Read.{is_vertex_tip, leads_on}
+use Rattle.sgb_operand.specs.Operand.{refusal_of_operand, tip_number}
 
 -- an operand that is not refused
 accepted : (b : Bool) → refusal_unless b BadOperand None ≡ None → b ≡ true

@@ -1,5 +1,5 @@
 -- Operands of combinations: their first refusal, and where their arcs lead.
-use Rattle.std.specs.Prelude.{◌<◌, ℕ, List, map, Option, Some, None, Bool, true, false}
+use Rattle.std.specs.Prelude.{◌<◌, ℕ, List, map, Option, None, Bool}
 use Rattle.std.specs.List.{list_all}
 use Rattle.sgb_graph.specs.declared.field.Tip.{Tip}
 use Rattle.sgb_graph.specs.declared.field.Tip.TheVariants.{Zero, One, To}
@@ -8,18 +8,8 @@ use Rattle.sgb_graph.specs.declared.refusal.Refusal.TheVariants.{BadOperand}
 use Rattle.sgb_graph.specs.Graph.{GraphOf, ArcOf}
 use Rattle.sgb_graph.specs.Edit.{entry_at, refusal_unless}
 use Rattle.sgb_graph.specs.Paired.{walk}
+use Rattle.sgb_graph.specs.Read.{leads_on}
 use Rattle.sgb_graph.specs.declared.spoke.Spoke.{Spoke}
-
--- the tip is a vertex
-abbrev pub is_vertex_tip : Tip → Bool
-is_vertex_tip Zero = false
-is_vertex_tip One = false
-is_vertex_tip (To v) = true
-
--- a hole, or an arc that leads to a vertex
-abbrev pub leads_on : Option ArcOf → Bool
-leads_on None = true
-leads_on (Some e) = is_vertex_tip e.tip
 
 -- the first refusal of an operand: an arc leads to no vertex
 abbrev pub refusal_of_operand : GraphOf → Option Refusal

@@ -9,6 +9,7 @@ use Rattle.sgb_graph.specs.declared.field.Util.TheVariants.{Zero}
 use Rattle.sgb_graph.specs.declared.graph.arena.Cell.{Cell}
 use Rattle.sgb_graph.specs.declared.graph.arena.Slot.{Slot}
 use Rattle.sgb_graph.specs.Honest.{are_allowed}
+use Rattle.sgb_graph.specs.Read.{is_vertex_tip}
 use Rattle.sgb_graph.specs.Private.Arena.{Slots}
 
 abbrev pub two_zeros : List Util
@@ -52,6 +53,14 @@ new_cell owner to next len = record { owner = Some owner; tip = To to; next = ne
 abbrev pub owned_allowed : List ℕ → Option VertexNo → List Util → Bool
 owned_allowed letters None us = true
 owned_allowed letters (Some v) us = are_allowed letters us
+
+-- a hole, or the cell of an arc that leads to a vertex
+abbrev pub owned_aimed : Option VertexNo → Tip → Bool
+owned_aimed None tip = true
+owned_aimed (Some v) tip = is_vertex_tip tip
+
+abbrev pub is_aimed : Cell → Bool
+is_aimed c = owned_aimed c.owner c.tip
 
 abbrev pub is_zero : Util → Bool
 is_zero Zero = true

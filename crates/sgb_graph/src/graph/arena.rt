@@ -1,13 +1,14 @@
 //! The arcs of a graph by number.
-ghost use Rattle.std.specs.Prelude.{◌≡◌, ◌<◌, ◌≤◌, ◌^◌, ◌-◌, ◌+◌, ◌*◌, ◌∷◌, ◌++◌, [], true, false, All, FitsSigned, max, length, map, vec_len, vec_capacity, take, is_some, IsSome, None, Some, IfOk, IfErr, OnOk, OnErr, slice_index_or, slice_set};
+ghost use Rattle.std.specs.Prelude.{◌≡◌, ◌<◌, ◌≤◌, ◌^◌, ◌-◌, ◌+◌, ◌*◌, ◌∷◌, ◌++◌, ◌&&◌, [], true, false, All, FitsSigned, max, length, map, vec_len, vec_capacity, take, is_some, IsSome, None, Some, IfOk, IfErr, OnOk, OnErr, slice_index_or, slice_set};
 ghost use Rattle.std.specs.List.{list_all, zip};
 ghost use Rattle.std.specs.Int.{w64};
 ghost use Rattle.sgb_graph.specs.declared.field.Util.TheVariants as utils;
 ghost use Rattle.sgb_graph.specs.Builder.{along, insertion, row};
 ghost use Rattle.sgb_graph.specs.Honest.{are_allowed};
+ghost use Rattle.sgb_graph.specs.Read.{leads_on};
 ghost use Rattle.sgb_graph.specs.Private.Aim.{with_aim_in};
-ghost use Rattle.sgb_graph.specs.Private.Arena.{slot_at, next_at, owner_in, tip_in, names_counted, view_in, len_in, with_len_in};
-ghost use Rattle.sgb_graph.specs.Private.Cells.{two_zeros, slot_with, kept_at, SameFields, PutsFields, new_cell, unnamed_slot, owned_allowed, is_zero};
+ghost use Rattle.sgb_graph.specs.Private.Arena.{slot_at, entry_of, next_at, owner_in, tip_in, names_counted, view_in, len_in, with_len_in};
+ghost use Rattle.sgb_graph.specs.Private.Cells.{two_zeros, slot_with, kept_at, SameFields, PutsFields, new_cell, unnamed_slot, owned_allowed, is_aimed, is_zero};
 ghost use Rattle.sgb_graph.specs.Private.Exchange.{fields_in, with_field};
 ghost use Rattle.sgb_graph.specs.Private.Insert.{IsRefusedAt, row_cells, last_link};
 ghost use Rattle.sgb_graph.specs.Private.Join.{both, all_joined};
@@ -66,21 +67,24 @@ pub(crate) struct Arena {
     fields: Vec<[Util; 2]>,
     // For how many slots there is room, and for the fields of each.
     room: usize,
+    // Only where each arc leads to a vertex.
+    aimed: bool,
     // What all others have.
     zeros: [Util; 2],
 }
 
 impl Model for Arena {
-    ghost use Rattle.std.specs.Prelude.{◌≡◌, ◌≤◌, List, Option, vec_len, vec_capacity};
+    ghost use Rattle.std.specs.Prelude.{◌≡◌, ◌≤◌, List, Option, true, vec_len, vec_capacity};
+    ghost use Rattle.std.specs.List.{list_all};
     ghost use Rattle.sgb_graph.specs.declared.graph.arena.Slot.{Slot};
 
     ghost Value = { List (Option Slot) };
 
-    ghost use Rattle.sgb_graph.specs.Private.Cells.{zipped, two_zeros};
+    ghost use Rattle.sgb_graph.specs.Private.Cells.{zipped, two_zeros, is_aimed};
 
     ghost view = { λ a. zipped a.cells.items a.fields.items };
 
-    ghost invariant = { λ a. (vec_len a.fields ≤ vec_len a.cells) × (vec_len a.cells ≤ a.room) × (a.room ≤ vec_capacity a.cells) × (a.room ≤ vec_capacity a.fields) × (a.zeros ≡ two_zeros) × (a.room ≤ 1000000) };
+    ghost invariant = { λ a. (vec_len a.fields ≤ vec_len a.cells) × (vec_len a.cells ≤ a.room) × (a.room ≤ vec_capacity a.cells) × (a.room ≤ vec_capacity a.fields) × (a.zeros ≡ two_zeros) × (a.room ≤ 1000000) × (a.aimed ≡ true → list_all is_aimed a.cells.items ≡ true) };
 }
 
 impl Arena {
@@ -92,6 +96,7 @@ impl Arena {
             cells: Vec::new(alloc),
             fields: Vec::new(alloc),
             room: 0,
+            aimed: true,
             zeros: two_zeros(),
         }
     }
@@ -309,13 +314,15 @@ impl Arena {
         ensures { self.new ≡ slice_set self.old number.0 (Some (unnamed_slot owner tip next len fields)) }
     {
         put_fields(&mut self.fields, number.0 as usize, fields);
-        self.cells[number.0 as usize] = Cell {
+        let cell = Cell {
             owner: OwnerCode::new(owner),
             tip,
             next,
             names: 0,
             len,
         };
+        self.aimed = stays_aimed(self.aimed, &cell);
+        self.cells[number.0 as usize] = cell;
     }
 
     /// Makes the number of a live arc a hole, and answers the arc.
@@ -372,6 +379,7 @@ impl Arena {
         requires { IsSome (slot_at self.old index) }
         ensures { self.new ≡ slice_set self.old index (slot_with (fields_in (slot_at self.old index)) cell) }
     {
+        self.aimed = stays_aimed(self.aimed, &cell);
         self.cells[index] = cell;
     }
 
@@ -574,6 +582,20 @@ impl Arena {
         ensures { result ≡ list_all (λ o. are_allowed letters.now (fields_in o)) self.now }
     {
         are_cells_honest(letters, &self.cells, &self.fields)
+    }
+
+    /// Each arc leads to a vertex. That all do is mostly known, and else all are looked at.
+    pub fn is_aimed(&self) -> bool
+        ensures { result ≡ list_all (λ o. leads_on (entry_of o)) self.now }
+    {
+        self.aimed || are_cells_aimed(&self.cells)
+    }
+
+    /// Looks anew whether each arc leads to a vertex, where some were put in that may not.
+    pub fn look_at_tips(&mut self)
+        ensures { self.new ≡ self.old }
+    {
+        self.aimed = are_cells_aimed(&self.cells);
     }
 
     /// The slots are alike, but for what the others tell.
@@ -883,4 +905,29 @@ fn is_cell_honest(letters: &[u8], cell: &Cell, fields: &[Util; 2]) -> bool
         Some(_) => are_allowed(letters, fields),
         None => true,
     }
+}
+
+// A hole, or an arc that leads to a vertex.
+#[inline]
+fn is_aimed(cell: &Cell) -> bool
+    ensures { result ≡ is_aimed cell.now }
+{
+    match cell.owner.get() {
+        Some(_) => matches!(cell.tip.get(), Tip::To(_)),
+        None => true,
+    }
+}
+
+// The cells were aimed, and so is the one that is put in.
+#[inline]
+fn stays_aimed(aimed: bool, cell: &Cell) -> bool
+    ensures { result ≡ (aimed && is_aimed cell.now) }
+{
+    aimed && is_aimed(cell)
+}
+
+fn are_cells_aimed(cells: &[Cell]) -> bool
+    ensures { result ≡ list_all is_aimed cells.now }
+{
+    cells.iter().all(|cell| is_aimed(cell))
 }

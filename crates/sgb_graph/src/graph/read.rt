@@ -1,5 +1,6 @@
 //! Reading a graph.
 ghost use Rattle.std.specs.Prelude.{◌≡◌, ◌<◌, ◌≤◌, length, All, IsSome, IfSome};
+ghost use Rattle.std.specs.List.{list_all};
 ghost use Rattle.sgb_graph.specs.Graph.{IsGraph, IsId, IsTip, n_of, m_of, made_of, vertex_at, label_of, arcs_of, arc_at};
 ghost use Rattle.sgb_graph.specs.Text.{IsText};
 ghost use Rattle.sgb_graph.specs.Types.{IsTypes};
@@ -18,7 +19,7 @@ pub struct ArcView {
 }
 
 impl Graph {
-    ghost use Rattle.sgb_graph.specs.Read.{arc_view, ShowsEntry, IsNextOf};
+    ghost use Rattle.sgb_graph.specs.Read.{arc_view, leads_on, ShowsEntry, IsNextOf};
 
     /// How many vertices there are.
     #[inline]
@@ -117,6 +118,14 @@ impl Graph {
         ensures graph { IsGraph self.now }
     {
         self.slots.arc(number)
+    }
+
+    /// Whether every arc leads to a vertex, and none to 0 or 1. Takes no memory, and no time where the graph was made
+    /// so and was only edited; a graph in which an arc led elsewhere takes time of all arc numbers.
+    pub fn leads_on(&self) -> bool
+        ensures { result ≡ list_all leads_on self.now.entries }
+    {
+        self.slots.is_aimed()
     }
 
     /// The tip of a live arc.

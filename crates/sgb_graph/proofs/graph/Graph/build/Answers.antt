@@ -1,4 +1,5 @@
 use Rattle.std.proofs.Common.{refl, sym, ap, subst, length, ◌∙◌, inr}
+use Rattle.sgb_graph.specs.Parts.{Builds}
 use Rattle.sgb_graph.specs.Private.Fill.{can_name_vertices, FillsVertices, FillsArcs}
 use Rattle.std.proofs.lemmas.Result.{err_from_is_err_and}
 use Rattle.sgb_graph.proofs.Filling.{names_then, each-same}
@@ -48,7 +49,8 @@ returns-in_err-set_id-clause-err c =
 pub returns-clause-ok : goal.returns-clause-ok
 returns-clause-ok c =
     let x = lays_moved _ _ _ _ c.lay_all.new.self (c.deref.ensures.value ∙ c.into_vec-vertices.ensures) (c.deref-2.ensures.value ∙ c.into_vec-arcs.ensures) c.in_ok-lay_all.ensures.ok in
-    builds c.args.parts c.lay_all.new.self c.fill_vertices.new.self c.fill_arcs.new.self c.fill_own.new.self c.set_types.new.self c.set_id.new.self x
+    subst (Builds c.args.parts) (sym c.look_at_tips.ensures)
+    (builds c.args.parts c.lay_all.new.self c.fill_vertices.new.self c.fill_arcs.new.self c.fill_own.new.self c.set_types.new.self c.set_id.new.self x
     (subst (λ vs. FillsVertices vs c.lay_all.new.self c.fill_vertices.new.self) c.into_vec-vertices.ensures c.fill_vertices.ensures)
     (subst (λ rs. FillsArcs rs c.fill_vertices.new.self c.fill_arcs.new.self) c.into_vec-arcs.ensures c.in_ok-fill_arcs.ensures.ok)
-    c.fill_own.ensures c.set_types.ensures.graph c.in_ok-set_id.ensures.graph c.in_ok-set_id.ensures.sound
+    c.fill_own.ensures c.set_types.ensures.graph c.in_ok-set_id.ensures.graph c.in_ok-set_id.ensures.sound)

@@ -1,3 +1,4 @@
+use Rattle.sgb_graph.proofs.Aimed.{aimed-set, aimed-hole}
 use Rattle.std.proofs.Common.{◌∙◌, arith, None}
 use Rattle.sgb_graph.proofs.Cells.{cells_low, live_low, fields_are, owned_none, slot_put}
 use Rattle.sgb_graph.specs.Private.Cells.{two_zeros}
@@ -17,3 +18,15 @@ pub returns-clause-slots : goal.returns-clause-slots
 returns-clause-slots c =
     let a = c.self.inside in
     slot_put a.cells.items a.fields.items _ c.args.self.now c.args.index two_zeros c.hole.result None c.self.view_is c.take_fields.ensures.puts (owned_none two_zeros c.hole.result c.hole.ensures)
+
+pub invariant_of-self : goal.invariant_of-self
+invariant_of-self c =
+    let a = c.self.inside in (
+      omega (arith, c.take_fields.ensures.len, c.self.invariant.0),
+      c.self.invariant.1,
+      c.self.invariant.2,
+      omega (arith, c.self.invariant.3, c.take_fields.ensures.capacity),
+      c.self.invariant.4,
+      c.self.invariant.5,
+      λ aimed. aimed-set a.cells.items c.args.index c.hole.result (c.self.invariant.6 aimed) (aimed-hole c.hole.result c.hole.ensures),
+    )

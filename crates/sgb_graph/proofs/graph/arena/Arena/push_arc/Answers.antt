@@ -1,4 +1,6 @@
-use Rattle.std.proofs.Common.{◌+◌, arith, subst}
+use Rattle.sgb_graph.proofs.Aimed.{aimed-joined}
+use Rattle.sgb_graph.specs.Builder.{insertion}
+use Rattle.std.proofs.Common.{◌+◌, arith, subst, true, false, map, ◌∷◌, []}
 use Rattle.std.proofs.lemmas.Result.{err_from_is_err_and}
 use Rattle.sgb_graph.specs.Private.Insert.{IsRefusedAt}
 use Rattle.sgb_graph.proofs.Cells.{many_slots}
@@ -13,3 +15,15 @@ pub returns-clause-few : goal.returns-clause-few
 returns-clause-few c =
     let a = c.self.inside in
     omega (arith, c.in_ok-make_room.ensures.room, c.make_room.ensures.most, c.make_room.ensures.cells_len, many_slots c.self.inside.cells.items c.self.inside.fields.items c.self.view_is a.cells.ok.0)
+
+pub invariant_of-self-2 : goal.invariant_of-self-2
+invariant_of-self-2 c =
+    let a = c.self.inside in (
+      omega (arith, c.self.invariant.0, c.make_room.ensures.cells_len, c.make_room.ensures.fields_len, c.push_arc.ensures.len),
+      omega (arith, c.in_ok-make_room.ensures.room, c.push_arc.ensures.len),
+      omega (arith, c.make_room.ensures.cells_room, c.push_arc.ensures.capacity),
+      c.make_room.ensures.fields_room,
+      c.self.invariant.4,
+      c.make_room.ensures.most,
+      λ aimed. aimed-joined true c.args.vertices.now (insertion c.args.from.0 c.args.to.0 _ ∷ []) c.push_arc.new.cells.items c.make_room.ensures.cells c.push_arc.ensures.joins (c.self.invariant.6 aimed),
+    )

@@ -1,4 +1,5 @@
-use Rattle.std.proofs.Common.{ℤ, List, arith, ap, ◌∙◌, false, to_z, of_z, ◌+◌, ◌*◌, ◌-◌, subst}
+use Rattle.sgb_graph.proofs.Aimed.{aimed-joined}
+use Rattle.std.proofs.Common.{ℤ, List, arith, ap, ◌∙◌, false, to_z, of_z, ◌+◌, ◌*◌, ◌-◌, subst, true, map, ◌∷◌, []}
 use Rattle.std.specs.Int.{w64}
 use Rattle.std.proofs.lemmas.Int.{to_z-of_z}
 use Rattle.std.proofs.lemmas.Result.{err_from_is_err_and}
@@ -25,3 +26,15 @@ pub returns-clause-few : goal.returns-clause-few
 returns-clause-few c =
     let a = c.self.inside in
     omega (arith, c.in_ok-make_room.ensures.room, c.make_room.ensures.most, c.make_room.ensures.cells_len, many_slots c.self.inside.cells.items c.self.inside.fields.items c.self.view_is a.cells.ok.0)
+
+pub invariant_of-self-2 : goal.invariant_of-self-2
+invariant_of-self-2 c =
+    let a = c.self.inside in (
+      omega (arith, c.self.invariant.0, c.make_room.ensures.cells_len, c.make_room.ensures.fields_len, c.push_edges.ensures.len),
+      omega (arith, c.in_ok-make_room.ensures.room, c.push_edges.ensures.len),
+      omega (arith, c.make_room.ensures.cells_room, c.push_edges.ensures.capacity),
+      c.make_room.ensures.fields_room,
+      c.self.invariant.4,
+      c.make_room.ensures.most,
+      λ aimed. aimed-joined false c.args.vertices.now (row c.args.from.0 c.args.first c.args.end _) c.push_edges.new.cells.items c.make_room.ensures.cells c.push_edges.ensures.joins (c.self.invariant.6 aimed),
+    )

@@ -1,4 +1,5 @@
-use Rattle.std.proofs.Common.{arith, length, map, false, ◌+◌, ◌*◌, subst}
+use Rattle.sgb_graph.proofs.Aimed.{aimed-joined}
+use Rattle.std.proofs.Common.{arith, length, map, false, ◌+◌, ◌*◌, subst, true, ◌∷◌, []}
 use Rattle.std.proofs.lemmas.Result.{err_from_is_err_and}
 use Rattle.sgb_graph.specs.Builder.{along}
 use Rattle.sgb_graph.specs.Private.Insert.{IsRefusedAt}
@@ -20,3 +21,15 @@ pub returns-clause-few : goal.returns-clause-few
 returns-clause-few c =
     let a = c.self.inside in
     omega (arith, c.in_ok-make_room.ensures.room, c.make_room.ensures.most, c.make_room.ensures.cells_len, many_slots c.self.inside.cells.items c.self.inside.fields.items c.self.view_is a.cells.ok.0)
+
+pub invariant_of-self-2 : goal.invariant_of-self-2
+invariant_of-self-2 c =
+    let a = c.self.inside in (
+      omega (arith, c.self.invariant.0, c.make_room.ensures.cells_len, c.make_room.ensures.fields_len, c.push_edges_along.ensures.len),
+      omega (arith, c.in_ok-make_room.ensures.room, c.push_edges_along.ensures.len),
+      omega (arith, c.make_room.ensures.cells_room, c.push_edges_along.ensures.capacity),
+      c.make_room.ensures.fields_room,
+      c.self.invariant.4,
+      c.make_room.ensures.most,
+      λ aimed. aimed-joined false c.args.vertices.now (map (along c.args.from.0) c.args.spokes.now) c.push_edges_along.new.cells.items c.make_room.ensures.cells c.push_edges_along.ensures.joins (c.self.invariant.6 aimed),
+    )

@@ -1,3 +1,6 @@
+use Rattle.sgb_graph.proofs.Aimed.{aimed-append, aimed-row}
+use Rattle.sgb_graph.specs.Private.Cells.{is_aimed}
+use Rattle.std.specs.List.{list_all}
 use Rattle.std.proofs.Common.{◌≡◌, ◌-◌, ◌++◌, ◌∙◌, ap, arith, length, ℕ, ℤ, ◌+◌, subst}
 use Rattle.std.specs.Int.{w64}
 use Rattle.std.proofs.lemmas.Int.{to_z-of_z}
@@ -33,3 +36,15 @@ pub returns-clause-few : goal.returns-clause-few
 returns-clause-few c =
     let a = c.self.inside in
     omega (arith, c.in_ok-make_room.ensures.room, c.make_room.ensures.most, c.make_room.ensures.cells_len, many_slots c.self.inside.cells.items c.self.inside.fields.items c.self.view_is a.cells.ok.0)
+
+pub invariant_of-self-2 : goal.invariant_of-self-2
+invariant_of-self-2 c =
+    let a = c.self.inside in (
+      omega (arith, c.self.invariant.0, c.make_room.ensures.cells_len, c.make_room.ensures.fields_len, c.push_row.ensures.len),
+      omega (arith, c.in_ok-make_room.ensures.room, c.push_row.ensures.len),
+      omega (arith, c.make_room.ensures.cells_room, c.push_row.ensures.capacity),
+      c.make_room.ensures.fields_room,
+      c.self.invariant.4,
+      c.make_room.ensures.most,
+      λ aimed. ap (list_all is_aimed) c.push_row.ensures.cells ∙ aimed-append c.make_room.new.cells.items _ (ap (list_all is_aimed) c.make_room.ensures.cells ∙ c.self.invariant.6 aimed) (aimed-row c.args.from _ c.make_room.new.cells.len c.args.first (c.args.end - c.args.first) c.args.next),
+    )

@@ -1,6 +1,7 @@
 use Rattle.std.proofs.Common.{◌∙◌, ℤ, ap, arith, Some, to_z, of_z}
 use Rattle.std.specs.Int.{w64}
 use Rattle.std.proofs.lemmas.Int.{to_z-of_z}
+use Rattle.sgb_graph.proofs.Aimed.{aimed-put}
 use Rattle.sgb_graph.proofs.Cells.{cells_low, owned_some, slot_put}
 use Rattle.sgb_graph.specs.declared.graph.arena.Cell.{Cell}
 use Rattle.sgb_graph.specs.Private.Cells.{unnamed_slot}
@@ -19,8 +20,15 @@ index_mut-requires c =
 pub invariant_of-self : goal.invariant_of-self
 invariant_of-self c =
     let a = c.self.inside in
-    let low = cells_low a.cells.items a.fields.items c.args.self.now c.args.number.0 c.self.view_is c.requires.number in
-    (omega (arith, low, a.cells.ok.0, c.self.invariant.0, c.put_fields.ensures.len), c.self.invariant.1, c.self.invariant.2, omega (arith, c.self.invariant.3, c.put_fields.ensures.capacity), c.self.invariant.4, c.self.invariant.5)
+    let low = cells_low a.cells.items a.fields.items c.args.self.now c.args.number.0 c.self.view_is c.requires.number in (
+      omega (arith, low, a.cells.ok.0, c.self.invariant.0, c.put_fields.ensures.len),
+      c.self.invariant.1,
+      c.self.invariant.2,
+      omega (arith, c.self.invariant.3, c.put_fields.ensures.capacity),
+      c.self.invariant.4,
+      c.self.invariant.5,
+      aimed-put a.aimed c.stays_aimed-self-inside.result a.cells.items c.args.number.0 _ c.self.invariant.6 c.stays_aimed-self-inside.ensures,
+    )
 
 pub returns : goal.returns
 returns c =
