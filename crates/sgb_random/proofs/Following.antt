@@ -8,6 +8,9 @@ use Rattle.sgb_random.specs.Private.Progress.{Follows}
 pub follows_none : (w : Generator) (k : ℕ) → Follows w k w k
 follows_none w k = record { led = λ start generator is. is }
 
+pub follows_same : (w : Generator) {j k : ℕ} → j ≡ k → Follows w j w k
+follows_same w {j} same = subst (Follows w j w) same (follows_none w j)
+
 pub follows_some : {old new : Generator} (k j : ℕ) → new ≡ after old j → Follows old k new (k + j)
 follows_some k j is =
     record { led = λ start generator led. sym (after-after start k j) ∙ (ap (λ w. after w j) led ∙ sym is) }

@@ -42,12 +42,12 @@ impl Ends {
         number - quotient * self.n
     }
 
-    // Draws a vertex as `Flip::uniform` does, and counts the draws. Nearly always the first number serves.
-    #[inline]
-    pub(crate) fn draw(&self, flip: &mut Flip, draws: &mut u64) -> u32
-        requires { draws.old < 2 ^ 41 }
+    // Draws a vertex as `Flip::uniform` does, and counts the draws beyond the first, which nearly always serves.
+    #[inline(always)]
+    pub(crate) fn draw(&self, flip: &mut Flip, more: &mut u64) -> u32
+        requires { more.old < 2 ^ 41 }
         ensures value { result ≡ (uniform flip.old self.now.n).value }
-        ensures draws { draws.new ≡ draws.old + (uniform flip.old self.now.n).draws }
+        ensures draws { more.new + 1 ≡ more.old + (uniform flip.old self.now.n).draws }
         ensures rest { flip.new ≡ (uniform flip.old self.now.n).rest }
         ensures after { flip.new ≡ after flip.old (uniform flip.old self.now.n).draws }
         ensures few { (uniform flip.old self.now.n).draws ≤ 1814 }
@@ -58,12 +58,11 @@ impl Ends {
         let _ = flip.unread();
         let number = flip.next();
         if number < self.end {
-            *draws += 1;
             return self.reduce(number);
         }
         flip.back();
         let drawn = flip.uniform(self.n);
-        *draws += drawn.draws as u64;
+        *more += drawn.draws as u64 - 1;
         drawn.value
     }
 }

@@ -1,5 +1,6 @@
 //! The course of the attempts, as far as it has come.
-ghost use Rattle.std.specs.Prelude.{◌≡◌, [], length, IfOk, IfErr};
+ghost use Rattle.std.specs.Prelude.{◌≡◌, ◌<◌, ◌^◌, [], length, IfOk, IfErr};
+ghost use Rattle.sgb_random.specs.Private.Progress.{draws_of};
 ghost use Rattle.sgb_random.specs.Private.Table.{IsFree};
 
 use crate::pairs::Pairs;
@@ -23,8 +24,37 @@ pub(crate) struct Progress {
     pub(crate) edges: Vec<Edge>,
     pub(crate) pairs: Pairs,
     pub(crate) numbers: Vec<u32>,
+}
+
+// How many arcs or edges count as made, how many attempts made none, and how many numbers were drawn beyond the two of each
+// attempt. All that counts them is inlined into the loop of the attempts: there what is made stays in a register, and the
+// other two, which are rarely counted, cost no store.
+#[derive(Clone, Copy)]
+pub(crate) struct Tally {
     pub(crate) made: u32,
-    pub(crate) draws: u64,
+    pub(crate) missed: u64,
+    pub(crate) more: u64,
+}
+
+impl Tally {
+    // Nothing is tried yet.
+    pub(crate) fn new() -> Tally
+        ensures { draws_of result ≡ 0 }
+    {
+        Tally {
+            made: 0,
+            missed: 0,
+            more: 0,
+        }
+    }
+
+    // How many numbers were drawn.
+    pub(crate) fn draws(&self) -> u64
+        requires { draws_of self.now < 2 ^ 42 }
+        ensures { result ≡ draws_of self.now }
+    {
+        (self.made as u64 + self.missed) * 2 + self.more
+    }
 }
 
 impl Progress {
@@ -42,8 +72,6 @@ impl Progress {
         ensures pairs { IfOk result (λ p. IsFree p.pairs) }
         ensures places { IfOk result (λ p. length p.pairs ≡ places) }
         ensures numbers { IfOk result (λ p. length p.numbers.items ≡ numbers) }
-        ensures made { IfOk result (λ p. p.made ≡ 0) }
-        ensures draws { IfOk result (λ p. p.draws ≡ 0) }
         ensures err { IfErr result (λ e. e ≡ Refusal.NoRoom) }
     {
         let edges = Vec::with_capacity(alloc, edges as usize)?;
@@ -54,8 +82,6 @@ impl Progress {
             edges,
             pairs,
             numbers,
-            made: 0,
-            draws: 0,
         })
     }
 }

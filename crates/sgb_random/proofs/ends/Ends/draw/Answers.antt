@@ -11,7 +11,7 @@ returns-then-number-self-clause-value c =
 
 pub returns-then-number-self-clause-draws : goal.returns-then-number-self-clause-draws
 returns-then-number-self-clause-draws c =
-    ap (λ i. c.args.draws.now + i)
+    ap (λ i. c.args.more.now + i)
     (uniform_at_once c.args.flip.now c.next-number.new.self c.args.self.now.n c.args.self.now.end c.next-number.result c.next-number.ensures.number c.next-number.ensures.rest
     c.args.self.now.whole c.if-number-self.true).draws_is
 
