@@ -27,8 +27,8 @@ pub(crate) struct Progress {
 }
 
 // How many arcs or edges count as made, how many attempts made none, and how many numbers were drawn beyond the two of each
-// attempt. All that counts them is inlined into the loop of the attempts: there what is made stays in a register, and the
-// other two, which are rarely counted, cost no store.
+// attempt. All that counts them is inlined into the loop of the attempts, so that none is kept in memory for a callee; and
+// where no length is drawn, the last two rarely change.
 #[derive(Clone, Copy)]
 pub(crate) struct Tally {
     pub(crate) made: u32,
