@@ -1,11 +1,15 @@
 -- Lemmas on the words of rows in which neighbours are exchanged.
-use Rattle.std.proofs.Common.{◌≡◌, ◌<◌, ◌+◌, ◌-◌, ◌*◌, ◌^◌, ◌%◌, ℕ, zero, suc, List, [], ◌∷◌, ◌++◌, length, get_or, refl, sym, ap, ap₂, ◌∙◌, arith}
-use Rattle.std.proofs.Math.Nat.{add-mod-mod, mod-add-mod, mul_right_comm}
-use Rattle.std.proofs.lemmas.Bool.{lt-ltb}
+use Rattle.std.proofs.Common.{◌≡◌, ◌<◌, ◌≤◌, ◌+◌, ◌-◌, ◌*◌, ◌^◌, ◌%◌, ℕ, zero, suc, List, [], ◌∷◌, ◌++◌, length, get_or, map, All, refl, sym, ap, ap₂, subst, ◌∙◌, arith}
+use Rattle.std.proofs.Math.Nat.{add-mod-mod, mod-add-mod, mul_right_comm, mod-eq_of_lt}
+use Rattle.std.proofs.lemmas.Bool.{lt-ltb, leb-true}
 use Rattle.std.proofs.lemmas.Nat.{mul-mod_first}
+use Rattle.std.proofs.lemmas.List.Elements.{All-head, All-tail}
+use Rattle.sgb_plan.specs.Distinct.{Distinct}
+use Rattle.sgb_plan.proofs.Distincts.{Distinct-map_where}
 use Rattle.sgb_perms.specs.Arrangement.{exchanged}
 use Rattle.sgb_perms.specs.Perms.{place_of}
-use Rattle.sgb_perms.specs.Private.Places.{word_of, worth_at, word_place, IsWordsOf, LeadsWithin}
+use Rattle.sgb_perms.specs.Private.Places.{word_of, worth_at, IsWordsOf, LeadsWithin}
+use Rattle.sgb_perms.specs.Private.Sets.{word_place}
 use Rattle.sgb_perms.proofs.Exchanging.{around}
 use Rattle.sgb_perms.proofs.Looking.{word_found}
 
@@ -27,6 +31,68 @@ word_is : (row : List ℕ) → word_of row ≡ digits row % 2 ^ 64
 unfolding word_of digits
 word_is [] = refl
 word_is (kind ∷ kinds) = digit_more (2 ^ 64) (digits kinds) (word_of kinds) kind (word_is kinds)
+
+-- ---- rows of few elements keep all their digits
+tops : ℕ → ℕ
+tops zero = 1
+tops (suc n) = tops n * 31
+
+tops_more : (n k : ℕ) → tops n ≤ tops (n + k)
+unfolding tops
+tops_more n zero = let none : n + 0 ≡ n = omega arith in omega (arith, ap tops none)
+tops_more n (suc k) =
+    let next : n + suc k ≡ suc (n + k) = omega arith in
+    omega (arith, tops_more n k, ap tops next)
+
+tops_fit : (n : ℕ) → n ≤ 12 → tops n ≤ 2 ^ 64
+unfolding tops
+tops_fit n few =
+    let all : n + (12 - n) ≡ 12 = omega arith in
+    let most : tops 12 ≤ 2 ^ 64 = leb-true (tops 12) (2 ^ 64) refl in
+    omega (arith, tops_more n (12 - n), ap tops all, most)
+
+-- a row of this length, of kinds below 16
+pub record IsNarrow (n : ℕ) (row : List ℕ) : Type 0 where
+  pub long : length row ≡ n
+  pub low : All (λ kind. kind < 16) row
+
+digits_top : (row : List ℕ) → All (λ kind. kind < 16) row → digits row < tops (length row)
+unfolding digits tops
+digits_top [] low = omega arith
+digits_top (kind ∷ kinds) low =
+    omega (arith, digits_top kinds (All-tail (λ k. k < 16) kind kinds low), All-head (λ k. k < 16) kind kinds low)
+
+word_digits : (n : ℕ) (row : List ℕ) → n ≤ 12 → IsNarrow n row → word_of row ≡ digits row
+word_digits n row few narrow =
+    let top : tops (length row) ≤ 2 ^ 64 = tops_fit (length row) (omega (arith, narrow.long)) in
+    word_is row ∙ mod-eq_of_lt (omega (arith, digits_top row narrow.low, top))
+
+digits_tell : (a b : List ℕ) → length a ≡ length b → All (λ kind. kind < 16) a → All (λ kind. kind < 16) b → digits a ≡ digits b → a ≡ b
+unfolding digits
+digits_tell [] [] long low_a low_b same = refl
+digits_tell [] (y ∷ b) long low_a low_b same = absurd (omega arith)
+digits_tell (x ∷ a) [] long low_a low_b same = absurd (omega arith)
+digits_tell (x ∷ a) (y ∷ b) long low_a low_b same =
+    let first = All-head (λ k. k < 16) x a low_a in
+    let second = All-head (λ k. k < 16) y b low_b in
+    let kind : x ≡ y = omega (arith, same, first, second) in
+    let rest : digits a ≡ digits b = omega (arith, same, first, second) in
+    ap₂ (λ z zs. z ∷ zs) kind
+    (digits_tell a b (omega (arith, long)) (All-tail (λ k. k < 16) x a low_a) (All-tail (λ k. k < 16) y b low_b) rest)
+
+pub words_apart : (rows : List (List ℕ)) (n : ℕ) {words : List ℕ} → n ≤ 12 → All (λ row. length row ≡ n) rows → All (λ row. All (λ kind. kind < 16) row) rows → Distinct rows → words ≡ map word_of rows → IsWordsOf rows words
+words_apart rows n few long low apart are = record {
+  are = are;
+  apart =
+      subst Distinct (sym are)
+      (Distinct-map_where word_of (IsNarrow n) rows
+      (λ a b p q same.
+      digits_tell a b (p.long ∙ sym q.long) p.low q.low (sym (word_digits n a few p) ∙ (same ∙ word_digits n b few q)))
+      (λ k d below. record { long = long k d below; low = low k d below }) apart);
+}
+
+pub words_told : (rows : List (List ℕ)) {words : List ℕ} → Distinct words → words ≡ map word_of rows → IsWordsOf rows words
+words_told rows apart are = record { are = are; apart = apart }
 
 worth_is : (place : ℕ) → worth_at place ≡ worths place % 2 ^ 64
 unfolding worth_at worths

@@ -1,9 +1,9 @@
 -- Lemmas on rows that are looked up.
-use Rattle.std.proofs.Common.{◌≡◌, ◌≢◌, ◌<◌, ◌≤◌, ◌+◌, ℕ, List, [], ◌∷◌, ◌++◌, length, get_or, take, drop, map, Bool, true, false, ◌==◌, not, All, inl, inr, refl, sym, ap, ap₂, subst, ◌∙◌, arith}
+use Rattle.std.proofs.Common.{◌≡◌, ◌≢◌, ◌<◌, ◌≤◌, ◌+◌, ℕ, List, [], ◌∷◌, ◌++◌, length, get_or, take, drop, map, Bool, true, false, ◌==◌, ◌↔◌, not, All, IsTrue, inl, inr, refl, sym, ap, ap₂, subst, ◌∙◌, arith}
 use Rattle.std.specs.List.{list_any, position, position_or_len}
 use Rattle.std.specs.Option.{unwrap_or}
 use Rattle.std.proofs.lemmas.Bool.{false≢true, cases_Bool, cases_lt, lt-ltb, le-ltb, eq-eqb, ne_eqb}
-use Rattle.std.proofs.lemmas.List.{map-append, length-map, take_more, length-take-le, get_or-take, get_or_default, get_or-map, drop_more, at_drop_all}
+use Rattle.std.proofs.lemmas.List.{map-append, length-map, take_all, take_more, length-take-le, get_or-take, get_or_default, get_or-map, drop_more, at_drop_all}
 use Rattle.std.proofs.lemmas.List.Elements.{All-head, All-tail}
 use Rattle.std.proofs.lemmas.List.Sums.{prefix_len-le-length, position_or_len_is, passes_at_first}
 use Rattle.std.proofs.lemmas.List.Folds.{list_any_at}
@@ -15,7 +15,8 @@ use Rattle.sgb_plan.specs.Key.{bytes_of}
 use Rattle.sgb_plan.proofs.Distincts.{position_or_len-map}
 use Rattle.sgb_perms.specs.Arrangement.{same_list}
 use Rattle.sgb_perms.specs.Perms.{place_of}
-use Rattle.sgb_perms.specs.Private.Places.{shown_by, with_digit, word_of, word_place, IsWordsOf}
+use Rattle.sgb_perms.specs.Private.Places.{shown_by, with_digit, word_of, IsWordsOf}
+use Rattle.sgb_perms.specs.Private.Sets.{word_place, IsSetOf}
 use Rattle.sgb_perms.proofs.Arranged.{same_from_test}
 
 -- the comparison by which keys are looked up
@@ -66,33 +67,82 @@ pub word_more : (word : ℕ) (row : List ℕ) (i : ℕ) → i < length row → w
 unfolding word_of
 word_more word row i less is = ap (λ w. with_digit w (get_or row i 0)) is ∙ sym (ap word_of (drop_more row i 0 less))
 
-pub words_none : (words : List ℕ) → words ≡ [] → IsWordsOf [] words
-words_none words none = record {
-  are = none;
+-- ---- sets of words
+-- the words up to one are keys
+pub record IsSetTo (words : List ℕ) (i : ℕ) (keys : List ℕ) : Type 0 where
+  pub held : keys ≡ take i words
+  pub apart : Distinct keys
+
+pub set_none : (words keys : List ℕ) → keys ≡ [] → IsSetTo words 0 keys
+set_none words keys none = record {
+  held = none;
   apart = λ i j d low within same. absurd (omega (arith, within, ap length none));
 }
 
--- the rows up to one have their words; this one has a word of its own, which goes last
-pub words_more : (rows : List (List ℕ)) (i word : ℕ) (words after : List ℕ) → i < length rows → word ≡ word_of (get_or rows i []) → IsWordsOf (take i rows) words → true ≡ not (list_any (λ k. word == k) words) → after ≡ insert_key ◌==◌ words word → IsWordsOf (take (i + 1) rows) after
-words_more rows i word words after less is known added put =
-    let fresh : list_any (λ k. word == k) words ≡ false =
-    elim (cases_Bool (list_any (λ k. word == k) words)) [
+-- this one is not among them, and goes last
+pub set_more : (words keys after : List ℕ) (i word : ℕ) → i < length words → word ≡ get_or words i 0 → IsSetTo words i keys → true ≡ not (list_any (λ k. word == k) keys) → after ≡ insert_key ◌==◌ keys word → IsSetTo words (i + 1) after
+set_more words keys after i word less is known added put =
+    let fresh : list_any (λ k. word == k) keys ≡ false =
+    elim (cases_Bool (list_any (λ k. word == k) keys)) [
       | inl old ↦ absurd (false≢true (sym (added ∙ ap not old)))
       | inr new ↦ new
     ] in
-    let grown : after ≡ words ++ word ∷ [] = put ∙ rw fresh refl in
+    let grown : after ≡ keys ++ word ∷ [] = put ∙ rw fresh refl in
     record {
-      are =
-          grown
-          ∙ (ap₂ (λ xs y. xs ++ y ∷ []) known.are is
-          ∙ (sym (map-append word_of (take i rows) (get_or rows i [] ∷ []))
-          ∙ ap (map word_of) (sym (take_more rows i [] less))));
+      held = grown ∙ (ap₂ (λ xs y. xs ++ y ∷ []) known.held is ∙ sym (take_more words i 0 less));
       apart =
           subst Distinct (sym grown)
-          (all_pairs_push (λ x y. x ≢ y) words word known.apart
+          (all_pairs_push (λ x y. x ≢ y) keys word known.apart
           (λ k d low same. false≢true
-          (sym fresh ∙ list_any_at (λ j. word == j) words k d low (eq-eqb word (get_or words k d) (sym same)))));
+          (sym fresh ∙ list_any_at (λ j. word == j) keys k d low (eq-eqb word (get_or keys k d) (sym same)))));
     }
+
+pub set_held : (words keys : List ℕ) (i : ℕ) → length words ≤ i → IsSetTo words i keys → keys ≡ words
+set_held words keys i all known = known.held ∙ take_all i words all
+
+pub set_apart : (words keys : List ℕ) (i : ℕ) → length words ≤ i → IsSetTo words i keys → Distinct words
+set_apart words keys i all known = subst Distinct (set_held words keys i all known) known.apart
+
+none_here : (word : ℕ) (keys : List ℕ) → All (λ (k : ℕ). k ≢ word) keys → list_any (λ k. word == k) keys ≡ false
+none_here word [] differ = refl
+none_here word (k ∷ keys) differ =
+    let rest = none_here word keys (All-tail (λ j. j ≢ word) k keys differ) in
+    rw (ne_eqb word k (λ same. All-head (λ j. j ≢ word) k keys differ (sym same))) rest
+
+-- of words of which no two are the same none is among those before it
+pub word_put : (words keys after : List ℕ) (i word : ℕ) → Distinct words → i < length words → word ≡ get_or words i 0 → keys ≡ take i words → after ≡ insert_key ◌==◌ keys word → after ≡ take (i + 1) words
+word_put words keys after i word apart less is held put =
+    let fresh : list_any (λ k. word == k) keys ≡ false =
+    none_here word keys
+    (subst (All (λ k. k ≢ word)) (sym held)
+    (λ j d below same.
+    let low : j < i = omega (arith, length-take-le i words (omega arith)) in
+    apart j i d low less (sym (get_or-take i words j d low) ∙ (same ∙ (is ∙ get_or_default words i 0 d less))))) in
+    let grown : after ≡ keys ++ word ∷ [] = put ∙ rw fresh refl in
+    grown ∙ (ap₂ (λ xs y. xs ++ y ∷ []) held is ∙ sym (take_more words i 0 less))
+
+pub set_empty : (words : List ℕ) {keys : List ℕ} → keys ≡ [] → IsSetOf words keys
+set_empty words none = record { all = λ some. absurd (omega (arith, some, ap length none)) }
+
+pub set_whole : {words keys : List ℕ} → keys ≡ words → IsSetOf words keys
+set_whole is = record { all = λ some. is }
+
+-- a set that is not empty has all words
+pub set_filled : (words keys : List ℕ) {empty : Bool} → IsSetOf words keys → IsTrue empty ↔ (length keys ≡ 0) → empty ≡ false → keys ≡ words
+set_filled words keys known tells is =
+    elim (cases_lt 0 (length keys)) [
+      | inl some ↦ known.all some
+      | inr none ↦ absurd (false≢true (sym is ∙ tells.1 (omega arith)))
+    ]
+
+-- ---- the words of rows
+-- a row more
+pub words_more : (rows : List (List ℕ)) (i word : ℕ) (words after : List ℕ) → i < length rows → word ≡ word_of (get_or rows i []) → words ≡ map word_of (take i rows) → after ≡ words ++ word ∷ [] → after ≡ map word_of (take (i + 1) rows)
+words_more rows i word words after less is known put =
+    put
+    ∙ (ap₂ (λ xs y. xs ++ y ∷ []) known is
+    ∙ (sym (map-append word_of (take i rows) (get_or rows i [] ∷ []))
+    ∙ ap (map word_of) (sym (take_more rows i [] less))))
 
 -- what stands at the place of a row is its word
 pub word_own : (rows : List (List ℕ)) (words : List ℕ) (row : List ℕ) (v word : ℕ) → IsWordsOf rows words → v < length rows → row ≡ get_or rows v [] → word ≡ get_or words v 0 → word ≡ word_of row

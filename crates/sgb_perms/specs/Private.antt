@@ -2,3 +2,4 @@ pub mod Counted
 pub mod Listed
 pub mod Places
 pub mod Rows
+pub mod Sets

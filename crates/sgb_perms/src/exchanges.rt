@@ -6,7 +6,8 @@ ghost use Rattle.sgb_perms.specs.Arrangement.{is_descent, exchanged};
 ghost use Rattle.sgb_perms.specs.Perms.{exchanges, exchanges_of, place_of, row_at};
 ghost use Rattle.sgb_perms.specs.Private.Places.{shown_by, IsWordsOf, IsIndexOf, IsClosed, LeadsWithin};
 
-use crate::places::{Places, place_near, place_of, word_at};
+use crate::lookup::Lookup;
+use crate::places::{Places, place_of};
 use crate::rows::Rows;
 use indexmap::IndexSet;
 use sgb_graph::{Builder, Refusal, VertexNo};
@@ -18,28 +19,28 @@ pub(crate) fn insert_exchanges(
     builder: &mut Builder,
     alloc: Global,
     rows: &Rows,
-    places: &Places<'_>,
+    places: Places<'_>,
 ) -> Result<(), Refusal>
     requires vertices { n_of builder.old.graph ≡ length rows.now.rows }
-    requires places { IsIndexOf rows.now.rows places.now }
+    requires places { IsIndexOf rows.now.rows places }
     requires closed { IsClosed rows.now.rows }
     ensures { Inserts builder.old builder.new (exchanges rows.now.rows) result }
 {
     builder.reserve(count_exchanges(rows))?;
     match places {
-        Places::ByWord(words) => insert_by_word(builder, rows, words),
-        Places::ByBytes(keys) => insert_by_bytes(builder, alloc, rows, keys),
+        Places::ByWord(mut words) => insert_by_word(builder, rows, &mut words),
+        Places::ByBytes(keys) => insert_by_bytes(builder, alloc, rows, &keys),
     }
 }
 
 // The same by the words of the rows.
-fn insert_by_word(builder: &mut Builder, rows: &Rows, words: &IndexSet<u64>) -> Result<(), Refusal>
+fn insert_by_word(builder: &mut Builder, rows: &Rows, words: &mut Lookup) -> Result<(), Refusal>
     requires vertices { n_of builder.old.graph ≡ length rows.now.rows }
-    requires words { IsWordsOf rows.now.rows words.now.keys }
+    requires words { IsWordsOf rows.now.rows words.old.words.items }
     requires closed { IsClosed rows.now.rows }
     ensures { Inserts builder.old builder.new (exchanges rows.now.rows) result }
 {
-    let mut distances = [0usize; 16];
+    let mut distances = [usize::MAX; 16];
     for v in 0..rows.len() {
         insert_to_word(builder, rows, VertexNo(v as u32), words, &mut distances)?;
     }
@@ -53,25 +54,26 @@ fn insert_to_word(
     builder: &mut Builder,
     rows: &Rows,
     to: VertexNo,
-    words: &IndexSet<u64>,
+    words: &mut Lookup,
     distances: &mut [usize],
 ) -> Result<(), Refusal>
     requires vertex { to.0 < length rows.now.rows }
     requires vertices { n_of builder.old.graph ≡ length rows.now.rows }
     requires few { length rows.now.rows ≤ 65535 }
-    requires words { IsWordsOf rows.now.rows words.now.keys }
+    requires words { IsWordsOf rows.now.rows words.old.words.items }
     requires closed { IsClosed rows.now.rows }
-    ensures { Inserts builder.old builder.new (exchanges_of rows.now.rows to.0 (row_at rows.now.rows to.0)) result }
+    ensures inserts { Inserts builder.old builder.new (exchanges_of rows.now.rows to.0 (row_at rows.now.rows to.0)) result }
+    ensures words { words.new.words.items ≡ words.old.words.items }
 {
     let row = rows.row(to.0 as usize);
-    let word = word_at(words, to.0 as usize);
+    let word = words.word_at(to.0 as usize);
     let mut worth: u64 = 30;
     for place in 0..row.len().saturating_sub(1) {
         let (left, right) = (row[place], row[place + 1]);
         if right < left {
             let step = worth.wrapping_mul((left - right) as u64);
             let guess = source_near(distances, left, to);
-            let source = place_near(words, word.wrapping_add(step), guess);
+            let source = words.place_near(word.wrapping_add(step), guess)?;
             keep_distance(distances, left, to, source);
             builder.insert(VertexNo(source as u32), to, 1)?;
         }
@@ -80,11 +82,11 @@ fn insert_to_word(
     Ok(())
 }
 
-// A guess of the place from which an element of this kind was exchanged.
+// A guess of the place from which an element of this kind was exchanged: the first one where none was yet.
 #[inline]
 fn source_near(distances: &[usize], kind: u8, to: VertexNo) -> usize {
     let distance = distances.get(kind as usize).copied().unwrap_or(0);
-    (to.0 as usize).wrapping_sub(distance)
+    (to.0 as usize).saturating_sub(distance)
 }
 
 // Keeps how far before the vertex that place was.
@@ -149,6 +151,12 @@ fn count_exchanges(rows: &Rows) -> usize {
     count
 }
 
+// Every comparison is added up, since a jump on it would often be guessed wrong.
 fn count_descents(row: &[u8]) -> usize {
-    row.windows(2).filter(|pair| pair[1] < pair[0]).count()
+    let mut count: usize = 0;
+    for place in 1..row.len() {
+        let descends = row[place] < row[place - 1];
+        count = count.wrapping_add(descends as usize);
+    }
+    count
 }

@@ -7,6 +7,7 @@ mod facts;
 mod generate;
 mod judge;
 mod listing;
+mod lookup;
 mod names;
 mod places;
 mod rows;

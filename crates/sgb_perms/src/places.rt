@@ -1,25 +1,30 @@
 //! Finds the vertex of an arrangement.
-ghost use Rattle.std.specs.Prelude.{◌≡◌, ◌<◌, length, get_or, IsTrue, IfOk, IfErr, IfSome};
+ghost use Rattle.std.specs.Prelude.{◌≡◌, ◌<◌, map, All, IfOk, IfErr, IfSome};
 ghost use Rattle.sgb_plan.specs.Distinct.{Distinct};
 ghost use Rattle.sgb_perms.specs.Perms.{place_of};
-ghost use Rattle.sgb_perms.specs.Private.Places.{shown_by, word_of, word_place, IsWordsOf, IsIndexOf};
+ghost use Rattle.sgb_perms.specs.Private.Places.{shown_by, word_of, IsWordsOf, IsIndexOf};
 
+use crate::lookup::Lookup;
 use crate::rows::Rows;
 use indexmap::IndexSet;
 use sgb_graph::Refusal;
 use sgb_plan::Key;
 use std::alloc::Global;
 
+// The most elements of rows whose words are known to differ: those of longer ones may have lost their highest digits.
+const NARROW: usize = 12;
+
 // The rows as they are looked up: by their words where no two rows have the same, and else by their bytes.
 #[derive(Drop)]
 pub(crate) enum Places<'a> {
-    ByWord(IndexSet<u64>),
+    ByWord(Lookup),
     ByBytes(IndexSet<Key<'a>>),
 }
 
 // The rows as they are looked up.
 pub(crate) fn index_places<'a>(alloc: Global, rows: &'a Rows) -> Result<Places<'a>, Refusal>
-    requires { Distinct rows.now.rows }
+    requires apart { Distinct rows.now.rows }
+    requires kinds { All (λ row. All (λ kind. kind < 16) row) rows.now.rows }
     ensures ok { IfOk result (λ places. IsIndexOf rows.now.rows places) }
     ensures err { IfErr result (λ e. e ≡ Refusal.NoRoom) }
 {
@@ -30,18 +35,29 @@ pub(crate) fn index_places<'a>(alloc: Global, rows: &'a Rows) -> Result<Places<'
 }
 
 // The words of the rows, or none where two rows have the same.
-fn index_words(alloc: Global, rows: &Rows) -> Result<Option<IndexSet<u64>>, Refusal>
-    ensures ok { IfOk result (λ found. IfSome found (λ words. IsWordsOf rows.now.rows words.keys)) }
+fn index_words(alloc: Global, rows: &Rows) -> Result<Option<Lookup>, Refusal>
+    requires apart { Distinct rows.now.rows }
+    requires kinds { All (λ row. All (λ kind. kind < 16) row) rows.now.rows }
+    ensures ok { IfOk result (λ found. IfSome found (λ l. IsWordsOf rows.now.rows l.words.items)) }
     ensures err { IfErr result (λ e. e ≡ Refusal.NoRoom) }
 {
-    let mut words = IndexSet::with_capacity(alloc, rows.len())?;
-    for v in 0..rows.len() {
-        let is_new = words.insert(word_of(rows.row(v)))?;
-        if !is_new {
-            return Ok(None);
-        }
+    let words = words_of(alloc, rows)?;
+    if rows.width() <= NARROW {
+        return Ok(Some(Lookup::new(alloc, words)));
     }
-    Ok(Some(words))
+    Lookup::filled(alloc, words)
+}
+
+// The words of the rows.
+fn words_of(alloc: Global, rows: &Rows) -> Result<Vec<u64>, Refusal>
+    ensures ok { IfOk result (λ words. words.items ≡ map word_of rows.now.rows) }
+    ensures err { IfErr result (λ e. e ≡ Refusal.NoRoom) }
+{
+    let mut words = Vec::with_capacity(alloc, rows.len())?;
+    for v in 0..rows.len() {
+        words.push(word_of(rows.row(v)))?;
+    }
+    Ok(words)
 }
 
 // A number of the row: its elements are digits in base 31, the first the lowest. Rows of up to 12 elements, which are below
@@ -75,48 +91,4 @@ pub(crate) fn place_of(places: &IndexSet<Key<'_>>, row: &[u8]) -> usize
     ensures { result ≡ place_of (shown_by places.now.keys) row.now }
 {
     places.get_index_of(&Key::lent(row)).unwrap_or(places.len())
-}
-
-// The place of the word, or how many there are where it is none of them.
-#[inline]
-pub(crate) fn place_of_word(words: &IndexSet<u64>, word: u64) -> usize
-    ensures { result ≡ word_place words.now.keys word }
-{
-    words.get_index_of(&word).unwrap_or(words.len())
-}
-
-// The same, where a guess of the place is looked at first, which saves a search.
-#[inline]
-pub(crate) fn place_near(words: &IndexSet<u64>, word: u64, guess: usize) -> usize
-    requires { Distinct words.now.keys }
-    ensures { result ≡ word_place words.now.keys word }
-{
-    if stands_at(words, word, guess) {
-        guess
-    } else {
-        place_of_word(words, word)
-    }
-}
-
-// Whether the word stands at this place.
-#[inline]
-fn stands_at(words: &IndexSet<u64>, word: u64, place: usize) -> bool
-    ensures within { IsTrue result → place < length words.now.keys }
-    ensures here { IsTrue result → get_or words.now.keys place 0 ≡ word }
-{
-    match words.get_index(place) {
-        Some(held) => *held == word,
-        None => false,
-    }
-}
-
-// The word at this place.
-#[inline]
-pub(crate) fn word_at(words: &IndexSet<u64>, place: usize) -> u64
-    ensures { result ≡ get_or words.now.keys place 0 }
-{
-    match words.get_index(place) {
-        Some(word) => *word,
-        None => 0,
-    }
 }

@@ -1,6 +1,5 @@
 -- Rows by which a vertex is looked up.
-use Rattle.std.specs.Prelude.{◌≡◌, ◌<◌, ◌+◌, ◌*◌, ◌^◌, ◌%◌, ◌==◌, ℕ, zero, suc, List, [], ◌∷◌, length, map, true}
-use Rattle.std.specs.List.{position_or_len}
+use Rattle.std.specs.Prelude.{◌≡◌, ◌<◌, ◌+◌, ◌*◌, ◌^◌, ◌%◌, ℕ, zero, suc, List, [], ◌∷◌, length, map, true}
 use Rattle.sgb_plan.specs.declared.key.Key.{Key}
 use Rattle.sgb_plan.specs.Distinct.{Distinct}
 use Rattle.sgb_plan.specs.Key.{bytes_of}
@@ -25,16 +24,13 @@ unfoldable pub worth_at : ℕ → ℕ
 worth_at zero = 30
 worth_at (suc place) = worth_at place * 31 % 2 ^ 64
 
-abbrev pub word_place : List ℕ → ℕ → ℕ
-word_place words word = position_or_len (λ k. word == k) words
-
 -- the words of the rows, of which no two have the same
 pub record IsWordsOf (rows : List (List ℕ)) (words : List ℕ) : Type 0 where
   pub are : words ≡ map word_of rows
   pub apart : Distinct words
 
 abbrev pub IsIndexOf : List (List ℕ) → Places → Type 0
-IsIndexOf rows (ByWord words) = IsWordsOf rows words.keys
+IsIndexOf rows (ByWord words) = IsWordsOf rows words.words.items
 IsIndexOf rows (ByBytes keys) = shown_by keys.keys ≡ rows
 
 -- each exchange of the row leads to one of the rows

@@ -1,7 +1,7 @@
 use Rattle.std.proofs.Common.{ap₂, ◌==◌, ◌∙◌}
 use Rattle.std.specs.Option.{unwrap_or}
 use Rattle.sgb_perms.proofs.Looking.{position_or_end}
-use Rattle.sgb_perms.proofs.places.place_of_word.Goals as goal
+use Rattle.sgb_perms.proofs.lookup.place_of_word.Goals as goal
 
 pub returns : goal.returns
 returns c =
