@@ -1,5 +1,5 @@
 -- Lemmas on how many spokes to distinct vertices there can be.
-use Rattle.std.proofs.Common.{◌≡◌, ◌≢◌, ◌<◌, ◌≤◌, List, [], ◌∷◌, ◌++◌, ℕ, length, get_or, set, All, inl, inr, sym, ap, ◌∙◌, arith}
+use Rattle.std.proofs.Common.{◌≢◌, ◌<◌, ◌≤◌, List, [], ◌∷◌, ◌++◌, ℕ, length, get_or, set, All, inl, inr, sym, ap, ◌∙◌, arith}
 use Rattle.std.proofs.lemmas.Bool.{cases_eq}
 use Rattle.std.proofs.lemmas.List.{get_or_append_left, get_or_push, get_or-set_same, get_or-set_other, length-set, length_push}
 use Rattle.sgb_graph.specs.declared.spoke.Spoke.{Spoke}

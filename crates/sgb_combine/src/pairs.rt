@@ -1,7 +1,8 @@
 //! Products: their refusals, and their vertices.
-ghost use Rattle.std.specs.Prelude.{◌≡◌, ◌≤◌, ◌<◌, IfOk, IfErr, OnOk, Some, None, length, map, IsTrue};
+ghost use Rattle.std.specs.Prelude.{◌≡◌, ◌≤◌, ◌<◌, IfOk, ◌++◌, IfErr, OnOk, Some, None, length, map, take, codes, IsTrue};
 ghost use Rattle.std.specs.List.{flat_map, list_all, range_with_len};
-ghost use Rattle.sgb_graph.specs.Graph.{n_of, label_of};
+ghost use Rattle.sgb_graph.specs.Graph.{n_of};
+ghost use Rattle.sgb_graph.specs.Text.{IsText};
 ghost use Rattle.sgb_plan.specs.Plan.{IsMade, Names};
 ghost use Rattle.sgb_combine.specs.Product.{is_kind, pair_name, pair_names, is_short_name, refusal_of_product, product_plan, plan_of_product};
 ghost use Rattle.sgb_combine.specs.Private.Begin.{Begins};
@@ -150,31 +151,40 @@ fn name_row(
     requires short { IsTrue (list_all is_short_name (pair_names first.now second.now)) }
     ensures { Names builder.old builder.new (map (pair_name first.now second.now a.0) (range_with_len 0 (n_of second.now))) result }
 {
+    begin_name(bytes, first.label(a))?;
+    let front = bytes.len();
     for b in 0..second.n() {
-        let label = name_of(bytes, alloc, first, second, a, VertexNo(b))?;
+        let label = name_of(bytes, front, alloc, second.label(VertexNo(b)))?;
         builder.push_named(label)?;
     }
     Ok(())
 }
 
-// The name of a pair.
-fn name_of(
-    bytes: &mut Vec<u8>,
-    alloc: Global,
-    first: &Graph,
-    second: &Graph,
-    a: VertexNo,
-    b: VertexNo,
-) -> Result<Label, Refusal>
-    requires a { a.0 < n_of first.now }
-    requires b { b.0 < n_of second.now }
-    requires short { length (pair_name first.now second.now a.0 b.0).label ≤ 4095 }
-    ensures value { IfOk result (λ name. name ≡ (pair_name first.now second.now a.0 b.0).label) }
-    ensures err { IfErr result (λ e. e ≡ Refusal.NoRoom) }
+// The label of a first vertex and a comma, in place of what the buffer holds. All names of its pairs begin so.
+fn begin_name(bytes: &mut Vec<u8>, first: &[u8]) -> Result<(), AllocError>
+    ensures { OnOk result (bytes.new.items ≡ first.now ++ codes ",") }
 {
     bytes.clear();
-    bytes.extend_from_slice(first.label(a))?;
+    bytes.extend_from_slice(first)?;
     bytes.push(b',')?;
-    bytes.extend_from_slice(second.label(b))?;
+    Ok(())
+}
+
+// The name that begins with so many of the bytes, and ends with the label of the second vertex. It is written behind them.
+fn name_of(
+    bytes: &mut Vec<u8>,
+    front: usize,
+    alloc: Global,
+    second: &[u8],
+) -> Result<Label, Refusal>
+    requires front { front ≤ length bytes.old.items }
+    requires text { IsText (take front bytes.old.items ++ second.now) }
+    ensures value { IfOk result (λ name. name ≡ take front bytes.old.items ++ second.now) }
+    ensures front { OnOk result (take front bytes.new.items ≡ take front bytes.old.items) }
+    ensures within { OnOk result (front ≤ length bytes.new.items) }
+    ensures err { IfErr result (λ e. e ≡ Refusal.NoRoom) }
+{
+    bytes.truncate(front);
+    bytes.extend_from_slice(second)?;
     label_of(alloc, bytes)
 }
