@@ -11,7 +11,7 @@ use Rattle.sgb_graph.specs.declared.graph.arena.Cell.{Cell}
 use Rattle.sgb_graph.specs.declared.graph.arena.Slot.{Slot}
 use Rattle.sgb_graph.specs.Builder.{Insertion}
 use Rattle.sgb_graph.specs.Read.{leads_on}
-use Rattle.sgb_graph.specs.Private.Arena.{Slots, entry_of}
+use Rattle.sgb_graph.specs.Private.Arena.{Slots, slot_at, entry_of}
 use Rattle.sgb_graph.specs.Private.Cells.{two_zeros, slot_owned, slot_with, zipped, owned_aimed, is_aimed}
 use Rattle.sgb_graph.specs.Private.Insert.{new_slot, first_behind, row_cells}
 use Rattle.sgb_graph.specs.Private.Link.{vertex_in}
@@ -34,6 +34,18 @@ pub zipped-aimed : (cs : List Cell) (fs : List (List Util)) → list_all slot_ai
 zipped-aimed [] fs = refl
 zipped-aimed (c ∷ cs) [] = ap (λ b. slot_aimed (slot_with two_zeros c) && b) (zipped-aimed cs []) ∙ ap (λ b. b && list_all is_aimed cs) (owned c.owner _ c)
 zipped-aimed (c ∷ cs) (us ∷ fs) = ap (λ b. slot_aimed (slot_with us c) && b) (zipped-aimed cs fs) ∙ ap (λ b. b && list_all is_aimed cs) (owned c.owner us c)
+
+-- one of them
+pub cell_aims : (s : Option Slot) (us : List Util) (c : Cell) → s ≡ slot_with us c → is_aimed c ≡ slot_aimed s
+cell_aims s us c is = sym (ap slot_aimed is ∙ owned c.owner us c)
+
+slot_there : (ss : Slots) (k : ℕ) → list_all slot_aimed ss ≡ true → slot_aimed (slot_at ss k) ≡ true
+slot_there [] k all = refl
+slot_there (s ∷ ss) zero all = (both_of (slot_aimed s) (list_all slot_aimed ss) all).0
+slot_there (s ∷ ss) (suc k) all = slot_there ss k (both_of (slot_aimed s) (list_all slot_aimed ss) all).1
+
+pub aimed-at : (cs : List Cell) (fs : List (List Util)) (now : Slots) (k : ℕ) → zipped cs fs ≡ now → list_all is_aimed cs ≡ true → slot_aimed (slot_at now k) ≡ true
+aimed-at cs fs now k view all = slot_there now k (ap (list_all slot_aimed) (sym view) ∙ (zipped-aimed cs fs ∙ all))
 
 -- cells exchanged, taken and pushed
 pub aimed-set : (cs : List Cell) (k : ℕ) (c : Cell) → list_all is_aimed cs ≡ true → is_aimed c ≡ true → list_all is_aimed (set cs k c) ≡ true

@@ -373,9 +373,19 @@ impl Arena {
         self.cells[index]
     }
 
-    // Keeps this of the slot, beside its fields.
+    // Keeps this of the slot, beside its fields: it leads to a vertex where the slot's arc did.
     #[inline]
     fn set_cell(&mut self, index: usize, cell: Cell)
+        requires live { IsSome (slot_at self.old index) }
+        requires aims { is_aimed cell ≡ leads_on (entry_of (slot_at self.old index)) }
+        ensures { self.new ≡ slice_set self.old index (slot_with (fields_in (slot_at self.old index)) cell) }
+    {
+        self.cells[index] = cell;
+    }
+
+    // The same, wherever it leads.
+    #[inline]
+    fn put_cell(&mut self, index: usize, cell: Cell)
         requires { IsSome (slot_at self.old index) }
         ensures { self.new ≡ slice_set self.old index (slot_with (fields_in (slot_at self.old index)) cell) }
     {
@@ -534,7 +544,7 @@ impl Arena {
         let mut cell = self.cell(number.0 as usize);
         cell.tip = tip;
         cell.len = len;
-        self.set_cell(number.0 as usize, cell);
+        self.put_cell(number.0 as usize, cell);
     }
 
     /// The fields of a live arc.

@@ -1,17 +1,17 @@
-use Rattle.sgb_graph.proofs.Aimed.{aimed-put}
-use Rattle.std.proofs.Common.{arith}
+use Rattle.sgb_graph.proofs.Aimed.{aimed-set, aimed-at}
+use Rattle.std.proofs.Common.{◌∙◌, arith}
 use Rattle.sgb_graph.proofs.Cells.{cells_low, live_low, cell_set}
 use Rattle.sgb_graph.proofs.graph.arena.Arena.set_cell.Goals as goal
 
 pub index_mut-requires : goal.index_mut-requires
 index_mut-requires c =
     let a = c.self.inside in
-    omega (arith, cells_low a.cells.items a.fields.items c.args.self.now c.args.index c.self.view_is (live_low c.args.self.now c.args.index c.requires), a.cells.ok.0)
+    omega (arith, cells_low a.cells.items a.fields.items c.args.self.now c.args.index c.self.view_is (live_low c.args.self.now c.args.index c.requires.live), a.cells.ok.0)
 
 pub returns : goal.returns
 returns c =
     let a = c.self.inside in
-    cell_set a.cells.items a.fields.items c.args.self.now c.args.index c.args.cell c.self.view_is c.requires
+    cell_set a.cells.items a.fields.items c.args.self.now c.args.index c.args.cell c.self.view_is c.requires.live
 
 pub invariant_of-self : goal.invariant_of-self
 invariant_of-self c =
@@ -22,5 +22,5 @@ invariant_of-self c =
       c.self.invariant.3,
       c.self.invariant.4,
       c.self.invariant.5,
-      aimed-put a.aimed c.stays_aimed-self-inside.result a.cells.items c.args.index c.args.cell c.self.invariant.6 c.stays_aimed-self-inside.ensures,
+      λ aimed. aimed-set a.cells.items c.args.index c.args.cell (c.self.invariant.6 aimed) (c.requires.aims ∙ aimed-at a.cells.items a.fields.items c.args.self.now c.args.index c.self.view_is (c.self.invariant.6 aimed)),
     )
