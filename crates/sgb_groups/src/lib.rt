@@ -2,7 +2,9 @@
 #![tactic(auto)]
 
 mod grouped;
+mod kept;
 mod session;
 
 pub use grouped::{GroupedCommand, GroupedDelta, GroupedReply, MOST_MEMBERS};
+pub use kept::KeptCommand;
 pub use session::GroupedSession;

@@ -1,11 +1,14 @@
 //! The session whose commands may be groups.
 ghost use Rattle.std.specs.Prelude.{◌≡◌, ◌<◌, ◌⊎◌, true, IfOk, IfErr, OnErr, vec_len, vec_capacity};
 ghost use Rattle.sgb_undo.specs.Outcome.{Accepted, Refused, Keeps};
-ghost use Rattle.sgb_groups.specs.Grouped.{step, before, can_revert, may_want};
+ghost use Rattle.sgb_groups.specs.Grouped.{step, before, can_revert, may_want, is_boxed};
+ghost use Rattle.sgb_groups.specs.Private.Kept.{grouped_of, is_single, PerformsOne};
+ghost use Rattle.sgb_session.specs.State.{Performs, told};
 ghost use Rattle.sgb_script.specs.Refusal.{is_no_room};
 
 use crate::grouped::{GroupedCommand, GroupedDelta, GroupedReply};
-use sgb_script::ShellRefusal;
+use crate::kept::{Kept, KeptCommand};
+use sgb_script::{Command, Maker, ShellRefusal};
 use sgb_session::{Delta, Reply, Session};
 use sgb_undo::{GroupRefusal, Reversible, apply_all, revert_all};
 use std::alloc::{AllocError, Global};
@@ -40,6 +43,18 @@ impl GroupedSession {
         }
     }
 
+    /// How a command that stands in a box is refused where there is no memory for one: for the graphs and the name that it
+    /// names, for the table or for a spent generator, and else for want of memory. It takes none.
+    pub fn refusal_without_room(&self, command: &GroupedCommand) -> ShellRefusal
+        requires boxed { is_boxed command.now ≡ true }
+        ensures refused { ((is_no_room result ≡ true) × (may_want self.now command.now ≡ true)) ⊎ (step self.now command.now ≡ Refused result) }
+    {
+        match command {
+            GroupedCommand::One(one) => self.session.refusal_without_room(one),
+            GroupedCommand::Group(_) => unreachable!(),
+        }
+    }
+
     /// The generator and the graphs.
     pub fn session(&self) -> &Session
         ensures value { result.now ≡ self.now }
@@ -52,7 +67,7 @@ impl Reversible for GroupedSession {
     ghost use Rattle.sgb_groups.specs.Grouped.{step, before, can_revert, may_want};
     ghost use Rattle.sgb_script.specs.Refusal.{is_no_room};
 
-    type Command = GroupedCommand;
+    type Command = KeptCommand;
 
     type Delta = GroupedDelta;
 
@@ -72,10 +87,7 @@ impl Reversible for GroupedSession {
 
     /// Performs a command, or a group of them: all of it, or nothing where a member is refused. A group takes memory for
     /// its members' deltas and replies before the first of them is performed, and one without members takes none.
-    fn apply(
-        &mut self,
-        command: &GroupedCommand,
-    ) -> Result<(GroupedDelta, GroupedReply), ShellRefusal>
+    fn apply(&mut self, command: &KeptCommand) -> Result<(GroupedDelta, GroupedReply), ShellRefusal>
         ensures accepted { IfOk result (λ a. step self.old command.now ≡ Accepted self.new a.0 a.1) }
         ensures can_revert { IfOk result (λ a. can_revert self.new a.0) }
         ensures before { IfOk result (λ a. before self.new a.0 ≡ self.old) }
@@ -83,12 +95,8 @@ impl Reversible for GroupedSession {
             ((is_no_room r ≡ true) × (may_want self.old command.now ≡ true)) ⊎ (step self.old command.now ≡ Refused r)) }
         ensures err { OnErr result (self.new ≡ self.old) }
     {
-        match command {
-            GroupedCommand::One(one) => {
-                let (delta, reply) = self.session.apply(one)?;
-                Ok((GroupedDelta::One(delta), GroupedReply::One(reply)))
-            }
-            GroupedCommand::Group(members) => {
+        match &command.kept {
+            Kept::Group(members) => {
                 match apply_all(self.alloc, &mut self.session, members.as_slice()) {
                     Ok((deltas, replies)) => {
                         Ok((GroupedDelta::Group(deltas), GroupedReply::Group(replies)))
@@ -97,6 +105,12 @@ impl Reversible for GroupedSession {
                     Err(GroupRefusal::Machine(refusal)) => Err(refusal),
                 }
             }
+            one => {
+                let mut delta = Delta::Made;
+                let mut reply = Reply::Done;
+                perform(&mut self.session, one, &mut delta, &mut reply)?;
+                Ok((GroupedDelta::One(delta), GroupedReply::One(reply)))
+            }
         }
     }
 
@@ -104,19 +118,17 @@ impl Reversible for GroupedSession {
     #[inline(always)]
     fn apply_onto(
         &mut self,
-        command: &GroupedCommand,
+        command: &KeptCommand,
         deltas: &mut Vec<GroupedDelta>,
     ) -> Result<GroupedReply, ShellRefusal> {
-        match command {
-            GroupedCommand::One(one) => {
-                let mut delta = Delta::Made;
-                let mut reply = Reply::Done;
-                self.session.apply_at(one, &mut delta, &mut reply)?;
-                deltas.push_reserved(GroupedDelta::One(delta));
-                Ok(GroupedReply::One(reply))
-            }
-            GroupedCommand::Group(_) => apply_group(self, command, deltas),
+        if !command.is_single() {
+            return apply_group(self, command, deltas);
         }
+        let mut delta = Delta::Made;
+        let mut reply = Reply::Done;
+        perform(&mut self.session, &command.kept, &mut delta, &mut reply)?;
+        deltas.push_reserved(GroupedDelta::One(delta));
+        Ok(GroupedReply::One(reply))
     }
 
     /// Takes back a command, or each member of a group, the last first. It takes no memory.
@@ -138,11 +150,47 @@ impl Reversible for GroupedSession {
     }
 }
 
+// Performs a command by itself, and writes its delta and its reply where others stood.
+#[inline(always)]
+fn perform(
+    session: &mut Session,
+    command: &Kept,
+    delta: &mut Delta,
+    reply: &mut Reply,
+) -> Result<(), ShellRefusal>
+    requires single { is_single (grouped_of command.now) ≡ true }
+    ensures { PerformsOne session.old session.new (grouped_of command.now) (told delta.new reply.new result) }
+{
+    match command {
+        Kept::Seed(seed) => session.seed_anew(*seed, delta, reply),
+        Kept::Next => session.draw(delta, reply),
+        Kept::Unif(bound) => session.draw_below(*bound, delta, reply),
+        Kept::Empty(name, n) => session.make(*name, &Maker::Empty(*n), delta, reply),
+        Kept::Edit(name, edit) => session.edit(name, edit, delta, reply),
+        Kept::Drop(name) => session.drop_graph(name, delta, reply),
+        Kept::Large(large) => perform_large(session, large, delta, reply),
+        Kept::Group(_) => unreachable!(),
+    }
+}
+
+// Performs a command that stands in a box. What its call allots is no part of the other commands' calls.
+#[inline(never)]
+fn perform_large(
+    session: &mut Session,
+    command: &Command,
+    delta: &mut Delta,
+    reply: &mut Reply,
+) -> Result<(), ShellRefusal>
+    ensures { Performs session.old session.new command.now (told delta.new reply.new result) }
+{
+    session.apply_at(command, delta, reply)
+}
+
 // Performs a group, and puts its delta last.
 #[inline(never)]
 fn apply_group(
     session: &mut GroupedSession,
-    command: &GroupedCommand,
+    command: &KeptCommand,
     deltas: &mut Vec<GroupedDelta>,
 ) -> Result<GroupedReply, ShellRefusal>
     requires place { vec_len deltas.old < vec_capacity deltas.old }

@@ -1,8 +1,8 @@
 //! Groups in the journal of a session. The small functions promise nothing.
 
 use sgb_graph::Items;
-use sgb_groups::{GroupedCommand, GroupedReply, GroupedSession, MOST_MEMBERS};
-use sgb_script::{Command, Line, ShellRefusal, parse};
+use sgb_groups::{GroupedReply, GroupedSession, KeptCommand, MOST_MEMBERS};
+use sgb_script::{Line, ShellRefusal, parse};
 use sgb_session::Reply;
 use sgb_undo::{Journal, JournalRefusal};
 use std::alloc::Global;
@@ -10,7 +10,7 @@ use std::alloc::Global;
 type Sessions = Journal<GroupedSession>;
 
 // The commands of these lines as a group.
-fn group_of(alloc: Global, lines: &[&[u8]]) -> Option<GroupedCommand> {
+fn group_of(alloc: Global, lines: &[&[u8]]) -> Option<KeptCommand> {
     let mut members = Items::new(alloc);
     for line in lines {
         let Ok(Line::Change(command)) = parse(alloc, line) else {
@@ -18,7 +18,7 @@ fn group_of(alloc: Global, lines: &[&[u8]]) -> Option<GroupedCommand> {
         };
         members.push(command).ok()?;
     }
-    Some(GroupedCommand::Group(members))
+    Some(KeptCommand::group(members))
 }
 
 // Whether the group of these lines is accepted, with so many answers.
@@ -42,7 +42,7 @@ fn refusal(alloc: Global, journal: &mut Sessions, lines: &[&[u8]]) -> Option<She
 
 // The number that a `next` by itself answers.
 fn next(journal: &mut Sessions) -> Option<u32> {
-    match journal.apply(GroupedCommand::One(Command::Next)) {
+    match journal.apply(KeptCommand::next()) {
         Ok(GroupedReply::One(Reply::Number(number))) => Some(number),
         _ => None,
     }

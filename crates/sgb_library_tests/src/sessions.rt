@@ -1,17 +1,17 @@
 use sgb_graph::{Items, VertexNo};
-use sgb_groups::{GroupedCommand, GroupedSession};
+use sgb_groups::{GroupedSession, KeptCommand};
 use sgb_script::{Command, Edit, Maker, Name, ShellRefusal};
 use sgb_undo::Journal;
 use std::alloc::Global;
 use std::test::Fail;
 
 /// A graph of two vertices, and an edge between them, as one command.
-fn an_edge(alloc: Global, name: Name) -> Result<GroupedCommand, Fail> {
+fn an_edge(alloc: Global, name: Name) -> Result<KeptCommand, Fail> {
     let edge = Edit::Edge(VertexNo(0), VertexNo(1), 5);
     let mut members = Items::new(alloc);
     members.push(Command::Make(name, Maker::Empty(2)))?;
     members.push(Command::Edit(name, edge))?;
-    Ok(GroupedCommand::Group(members))
+    Ok(KeptCommand::group(members))
 }
 
 /// How many graphs there are, and how many commands stand.

@@ -21,9 +21,9 @@ use Rattle.sgb_session.specs.Drawing.{Drawing, drawn_from, drawn_on}
 use Rattle.sgb_session.specs.Edits.{refusal_from}
 use Rattle.sgb_session.specs.Make.{empty_graph, graph_made, generator_after, kept_of}
 use Rattle.sgb_session.specs.Source.{source_of, turned_back, CanTurnBack}
-use Rattle.sgb_session.specs.State.{State, step, before, can_revert, may_want, unless, entering, refusal_of_making}
+use Rattle.sgb_session.specs.State.{State, step, before, can_revert, may_want, is_large, unless, entering, refusal_of_making, Performs}
 use Rattle.sgb_session.specs.Table.{find, graph_in, graph_named}
-use Rattle.sgb_session.specs.Private.Making.{MakesGraph, Performs, CanUnmake, unmade, may_lack, with_made}
+use Rattle.sgb_session.specs.Private.Making.{MakesGraph, CanUnmake, unmade, may_lack, with_made}
 use Rattle.sgb_session.specs.Private.Working.{random_draws}
 use Rattle.sgb_session.proofs.Sessions.{state, no_room_is}
 
@@ -192,6 +192,22 @@ make_wants d t name (Intersection g h directed) free lacks = ap is_none free
 make_wants d t name (Product g h spec) free lacks = ap is_none free
 make_wants d t name (Induced g description spec) free lacks = ap is_none free
 make_wants d t name (Load text rule) free lacks = ap is_none free
+
+-- what makes more than vertices may want for memory wherever it may be made
+pub large_wants : (s : State) (name : List ℕ) (m : Maker) → is_large (Make name m) ≡ true → refusal_of_making s name m ≡ None → may_want s (Make name m) ≡ true
+large_wants s name (Empty n) large free = absurd cc
+large_wants s name (Board spec) large free = ap is_none free
+large_wants s name (Simplex spec) large free = ap is_none free
+large_wants s name (Subsets spec) large free = ap is_none free
+large_wants s name (Perms spec) large free = ap is_none free
+large_wants s name (Binary spec) large free = ap is_none free
+large_wants s name (Random spec seed) large free = ap is_none free
+large_wants s name (Complement g spec) large free = ap is_none free
+large_wants s name (Gunion g h spec) large free = ap is_none free
+large_wants s name (Intersection g h directed) large free = ap is_none free
+large_wants s name (Product g h spec) large free = ap is_none free
+large_wants s name (Induced g description spec) large free = ap is_none free
+large_wants s name (Load text rule) large free = ap is_none free
 
 -- a graph that was not made
 pub make_refused : (d e : Drawing) (t : List Entry) (name : List ℕ) (m : Maker) (r : Refusal) → refusal_of_making (state d t) name m ≡ None

@@ -1,9 +1,8 @@
 -- What an edit of a graph does to the session.
-use Rattle.std.proofs.Common.{◌≡◌, ◌<◌, ◌≤◌, ℕ, List, length, set, refl, true, Option, Some, None, Ok, Err, sym, ap, ap₂, ◌∙◌, subst, inl, inr, cond, arith}
-use Rattle.std.specs.Prelude.{nat_lt, is_none, ◌&&◌, ◌||◌}
+use Rattle.std.proofs.Common.{◌≡◌, ◌<◌, ◌≤◌, ℕ, List, length, set, refl, true, Option, Some, None, Ok, Err, sym, ap, ap₂, ◌∙◌, subst, inl, inr, arith}
+use Rattle.std.specs.Prelude.{is_none, ◌&&◌, ◌||◌}
 use Rattle.std.specs.List.{position_or_len, insert, remove}
 use Rattle.std.specs.Str.{bytes_eq}
-use Rattle.std.proofs.lemmas.Bool.{cases_Bool, ltb-true}
 use Rattle.std.proofs.lemmas.List.Edits.{length-remove}
 use Rattle.std.proofs.lemmas.List.{set-get_or, set-set, get_or-set_same, length-set}
 use Rattle.sgb_graph.specs.declared.delta.GraphDelta.{GraphDelta}
@@ -22,10 +21,10 @@ use Rattle.sgb_session.specs.declared.reply.Reply.TheVariants.{Done}
 use Rattle.sgb_session.specs.declared.table.Entry.{Entry}
 use Rattle.sgb_session.specs.Drawing.{Drawing}
 use Rattle.sgb_session.specs.Edits.{edited, refusal_from, edit_has_text, edit_takes_memory}
-use Rattle.sgb_session.specs.State.{State, StepOutcome, step, may_want, editing, unless_refused, where_found, dropping}
+use Rattle.sgb_session.specs.State.{State, StepOutcome, step, may_want, editing, unless_refused, where_found, dropping, Performs}
 use Rattle.sgb_session.specs.Table.{find, no_entry, entry_in, graph_in, with_graph}
-use Rattle.sgb_session.specs.Private.Making.{Performs, AtPlace, Edits, edit_may_want}
-use Rattle.sgb_session.proofs.Tables.{insert-remove}
+use Rattle.sgb_session.specs.Private.Making.{AtPlace, Edits, edit_may_want}
+use Rattle.sgb_session.proofs.Tables.{insert-remove, found_within}
 
 abbrev pub state : Drawing → List Entry → State
 state d t = record { generator = d; table = t }
@@ -41,12 +40,6 @@ pub replaced_twice : (t : List Entry) (i : ℕ) (g h : GraphOf) → i < length t
 replaced_twice t i g h within =
     ap (λ (e : Entry). set (with_graph t i g) i (record e { graph = h })) (get_or-set_same t i (record (entry_in t i) { graph = g }) no_entry within)
     ∙ set-set t i (record (entry_in t i) { graph = g }) (record (entry_in t i) { graph = h })
-
-found_within : (n l i : ℕ) → cond (nat_lt n l) (Some n) None ≡ Some i → i < l
-found_within n l i e = elim (cases_Bool (nat_lt n l)) [
-  | inl low ↦ (let same : n ≡ i = cc in omega (arith, ltb-true n l low))
-  | inr high ↦ absurd cc
-]
 
 pub find_within : (t : List Entry) (name : List ℕ) (i : ℕ) → find t name ≡ Some i → i < length t
 find_within t name i e = found_within (position_or_len (λ e. bytes_eq e.name name) t) (length t) i e

@@ -1,5 +1,5 @@
 -- The session's state, and what each command does to it.
-use Rattle.std.specs.Prelude.{ℕ, ◌≤◌, ◌<◌, ◌-◌, ◌^◌, ◌&&◌, ◌||◌, not, nat_le, if◌then◌else◌, pos, unsigned_abs, int_lt, List, [], ◌∷◌, ◌++◌, length, take, insert, remove, Option, None, Some, is_some, is_none, Bool, true, false, Result, Ok, Err}
+use Rattle.std.specs.Prelude.{◌≡◌, ◌⊎◌, ℕ, ◌≤◌, ◌<◌, ◌-◌, ◌^◌, ◌&&◌, ◌||◌, not, nat_le, if◌then◌else◌, pos, unsigned_abs, int_lt, List, [], ◌∷◌, ◌++◌, length, take, insert, remove, Option, None, Some, is_some, is_none, Bool, true, false, Result, Ok, Err}
 use Rattle.sgb_flip.specs.Generator.{drawn, uniform}
 use Rattle.sgb_graph.specs.declared.refusal.Refusal.{Refusal}
 use Rattle.sgb_graph.specs.Graph.{GraphOf, n_of, m_of}
@@ -14,7 +14,7 @@ use Rattle.sgb_script.specs.declared.command.Command.TheVariants.{Seed, Next, Un
 use Rattle.sgb_script.specs.declared.command.Maker.{Maker}
 use Rattle.sgb_script.specs.declared.command.Maker.TheVariants.{Empty}
 use Rattle.sgb_script.specs.declared.refusal.ShellRefusal.{ShellRefusal}
-use Rattle.sgb_script.specs.declared.refusal.ShellRefusal.TheVariants.{BadSpecs, TooLarge, NoGraph, TableFull, NameTaken}
+use Rattle.sgb_script.specs.declared.refusal.ShellRefusal.TheVariants.{NoRoom, BadSpecs, TooLarge, NoGraph, TableFull, NameTaken}
 use Rattle.sgb_session.specs.declared.reply.Delta.{Delta}
 use Rattle.sgb_session.specs.declared.reply.Delta.TheVariants as kept
 use Rattle.sgb_session.specs.declared.reply.Reply.{Reply}
@@ -152,3 +152,22 @@ can_revert s (kept.MadeBy source) = (0 < length s.table) × CanTurnBack source s
 can_revert s (kept.Edit i d) = (i < length s.table) × ((g : GraphOf) × LeftBy g d (graph_in s.table i))
 can_revert s (kept.Lengths i d source) = (i < length s.table) × CanRevertLengths d (graph_in s.table i) × CanTurnBack source s.generator
 can_revert s (kept.Dropped i name g) = (i ≤ length s.table) × (length s.table < 64)
+
+-- what was answered, with what was written of it into two places
+abbrev pub told : {D R U F : Type 0} → D → R → Result U F → Result (D × R) F
+told d r (Ok done) = Ok (d, r)
+told d r (Err refusal) = Err refusal
+
+-- a command was performed, with a delta that leads back; or it changed nothing, since it is refused, or since memory
+-- was wanted and may be
+abbrev pub Performs : State → State → Command → Result (Delta × Reply) ShellRefusal → Type 0
+Performs old new c (Ok a) = (step old c ≡ Accepted new a.0 a.1) × can_revert new a.0 × (before new a.0 ≡ old)
+Performs old new c (Err r) = (new ≡ old) × (((r ≡ NoRoom) × (may_want old c ≡ true)) ⊎ (step old c ≡ Refused r))
+
+-- A command that makes more than vertices, or draws lengths. It may want for memory wherever its names and the generator
+-- are good.
+abbrev pub is_large : Command → Bool
+is_large (Make name (Empty n)) = false
+is_large (Make name m) = true
+is_large (Lengths name spec seed) = true
+is_large c = false

@@ -5,7 +5,8 @@ ghost use Rattle.sgb_session.specs.declared.reply.Reply.TheVariants.{Done};
 ghost use Rattle.sgb_script.specs.declared.command.Edit.TheVariants.{Arc, Edge, Cut, Len, Set, Label, Id};
 ghost use Rattle.sgb_script.specs.declared.command.Edit.TheVariants as edits;
 ghost use Rattle.sgb_session.specs.Edits.{edited, is_text_value};
-ghost use Rattle.sgb_session.specs.Private.Making.{Makes, edit_may_want, told, with_done};
+ghost use Rattle.sgb_session.specs.Private.Making.{Makes, edit_may_want, with_done};
+ghost use Rattle.sgb_session.specs.State.{told};
 
 use crate::reply::Reply;
 use sgb_graph::{ArcNo, Graph, GraphDelta, Place, Refusal, Text, Types, Util, VertexNo};

@@ -19,11 +19,11 @@ pub enum Delta {
     /// A random graph was made; it stands last in the table.
     MadeBy(Source),
     /// The graph at this place of the table was edited.
-    Edit(usize, GraphDelta),
+    Edit(u32, GraphDelta),
     /// The graph at this place got new lengths.
-    Lengths(usize, LengthsDelta, Source),
+    Lengths(u32, LengthsDelta, Source),
     /// The graph that left the table, with its place and its name.
-    Dropped(usize, Name, Boxed<Graph>),
+    Dropped(u32, Name, Boxed<Graph>),
 }
 
 /// What turns the generator back behind random work.

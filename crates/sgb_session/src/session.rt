@@ -1,11 +1,12 @@
 //! The session: what the commands change.
-ghost use Rattle.std.specs.Prelude.{◌≡◌, ◌<◌, ◌≤◌, ◌⊎◌, length, true, IfOk, IfErr, OnOk, OnErr};
+ghost use Rattle.std.specs.Prelude.{◌≡◌, ◌<◌, ◌≤◌, ◌⊎◌, length, true, Err, IfOk, IfErr, OnOk, OnErr};
 ghost use Rattle.sgb_undo.specs.Outcome.{Accepted, Refused};
 ghost use Rattle.sgb_script.specs.declared.command.Command.TheVariants as commands;
+ghost use Rattle.sgb_lengths.specs.declared.spec.LengthsSpec.{LengthsSpec};
 ghost use Rattle.sgb_session.specs.Drawing.{drawn_from, generator_of};
 ghost use Rattle.sgb_session.specs.Edits.{refusal_from};
-ghost use Rattle.sgb_session.specs.Private.Making.{Judges, Performs, told};
-ghost use Rattle.sgb_session.specs.State.{is_spent};
+ghost use Rattle.sgb_session.specs.Private.Making.{Judges};
+ghost use Rattle.sgb_session.specs.State.{is_large, is_spent, Performs, told};
 
 use crate::making::{find_operands, goes_on, make_boxed};
 use crate::mark::Mark;
@@ -131,15 +132,16 @@ impl Session {
         }
     }
 
-    // Seeds the generator anew. What it allots is no part of the other commands' calls.
+    /// Performs `seed S`, as [`apply_at`](Session::apply_at) does: the generator starts anew.
+    // What it allots is no part of the other commands' calls.
     #[inline(never)]
-    fn seed_anew(
+    pub fn seed_anew(
         &mut self,
         seed: i64,
         delta: &mut Delta,
         reply: &mut Reply,
     ) -> Result<(), ShellRefusal>
-        ensures { Performs self.old self.new (commands.Seed seed) (told delta.new reply.new result) }
+        ensures performs { Performs self.old self.new (commands.Seed seed) (told delta.new reply.new result) }
     {
         let before = Past::of(&self.generator);
         keep(&mut self.marks, &self.generator);
@@ -149,10 +151,10 @@ impl Session {
         Ok(())
     }
 
-    // Draws one number.
+    /// Performs `next`, as [`apply_at`](Session::apply_at) does: one number is drawn.
     #[inline(always)]
-    fn draw(&mut self, delta: &mut Delta, reply: &mut Reply) -> Result<(), ShellRefusal>
-        ensures { Performs self.old self.new commands.Next (told delta.new reply.new result) }
+    pub fn draw(&mut self, delta: &mut Delta, reply: &mut Reply) -> Result<(), ShellRefusal>
+        ensures performs { Performs self.old self.new commands.Next (told delta.new reply.new result) }
     {
         if self.generator.draws() >= MOST_DRAWS {
             return Err(ShellRefusal::TooLarge);
@@ -163,15 +165,15 @@ impl Session {
         Ok(())
     }
 
-    // Draws a uniform number.
+    /// Performs `unif M`, as [`apply_at`](Session::apply_at) does: a uniform number below the bound is drawn.
     #[inline(never)]
-    fn draw_below(
+    pub fn draw_below(
         &mut self,
         bound: i64,
         delta: &mut Delta,
         reply: &mut Reply,
     ) -> Result<(), ShellRefusal>
-        ensures { Performs self.old self.new (commands.Unif bound) (told delta.new reply.new result) }
+        ensures performs { Performs self.old self.new (commands.Unif bound) (told delta.new reply.new result) }
     {
         if self.generator.draws() >= MOST_DRAWS {
             return Err(ShellRefusal::TooLarge);
@@ -185,16 +187,16 @@ impl Session {
         Ok(())
     }
 
-    // Makes a graph, which then stands last.
+    /// Makes a graph, as [`apply_at`](Session::apply_at) does, which then stands last.
     #[inline(never)]
-    fn make(
+    pub fn make(
         &mut self,
         name: Name,
         maker: &Maker,
         delta: &mut Delta,
         reply: &mut Reply,
     ) -> Result<(), ShellRefusal>
-        ensures { Performs self.old self.new (commands.Make name maker.now) (told delta.new reply.new result) }
+        ensures performs { Performs self.old self.new (commands.Make name maker.now) (told delta.new reply.new result) }
     {
         let operands = self.judge(&name, maker)?;
         match make_boxed(
@@ -213,6 +215,36 @@ impl Session {
             }
             Err(refusal) => Err(refusal_of(refusal)),
         }
+    }
+
+    /// How a command that makes more than vertices, or draws lengths, is refused where memory is wanting before it is
+    /// performed: for the graphs and the name that it names, for the table or for a spent generator, and else for want of
+    /// memory. It takes none.
+    pub fn refusal_without_room(&self, command: &Command) -> ShellRefusal
+        requires large { is_large command.now ≡ true }
+        ensures performs { Performs self.now self.now command.now (Err result) }
+    {
+        match command {
+            Command::Make(name, maker) => match self.judge(name, maker) {
+                Ok(_) => ShellRefusal::NoRoom,
+                Err(refusal) => refusal,
+            },
+            Command::Lengths(name, _, seed) => self.refusal_of_drawing(name, *seed),
+            _ => unreachable!(),
+        }
+    }
+
+    // How lengths are refused for which there is no memory.
+    fn refusal_of_drawing(&self, name: &Name, seed: Seed) -> ShellRefusal
+        ensures { (spec : LengthsSpec) → Performs self.now self.now (commands.Lengths name.now spec seed) (Err result) }
+    {
+        if self.table.find(name).is_none() {
+            return ShellRefusal::NoGraph;
+        }
+        if is_spent(&self.generator, seed) {
+            return ShellRefusal::TooLarge;
+        }
+        ShellRefusal::NoRoom
     }
 
     // Where the graphs stand that a maker names, where it may make a graph of this name.
@@ -234,21 +266,21 @@ impl Session {
         Ok(operands)
     }
 
-    // Edits the graph of this name.
+    /// Edits the graph of this name, as [`apply_at`](Session::apply_at) does.
     #[inline(never)]
-    fn edit(
+    pub fn edit(
         &mut self,
         name: &Name,
         edit: &Edit,
         delta: &mut Delta,
         reply: &mut Reply,
     ) -> Result<(), ShellRefusal>
-        ensures { Performs self.old self.new (commands.Edit name.now edit.now) (told delta.new reply.new result) }
+        ensures performs { Performs self.old self.new (commands.Edit name.now edit.now) (told delta.new reply.new result) }
     {
         let Some(place) = self.table.find(name) else {
             return Err(ShellRefusal::NoGraph);
         };
-        *delta = Delta::Edit(place, GraphDelta::NewArc(ArcNo(0)));
+        *delta = Delta::Edit(place as u32, GraphDelta::NewArc(ArcNo(0)));
         let Delta::Edit(_, kept) = delta else {
             unreachable!();
         };
@@ -282,7 +314,7 @@ impl Session {
             .lengthen(self.alloc, place, &mut self.generator, spec, seed)
         {
             Ok((kept, source)) => {
-                *delta = Delta::Lengths(place, kept, source);
+                *delta = Delta::Lengths(place as u32, kept, source);
                 *reply = Reply::Done;
                 Ok(())
             }
@@ -290,21 +322,21 @@ impl Session {
         }
     }
 
-    // Takes the graph of this name out of the table.
+    /// Performs `drop G`, as [`apply_at`](Session::apply_at) does: the graph of this name leaves the table.
     #[inline(never)]
-    fn drop_graph(
+    pub fn drop_graph(
         &mut self,
         name: &Name,
         delta: &mut Delta,
         reply: &mut Reply,
     ) -> Result<(), ShellRefusal>
-        ensures { Performs self.old self.new (commands.Drop name.now) (told delta.new reply.new result) }
+        ensures performs { Performs self.old self.new (commands.Drop name.now) (told delta.new reply.new result) }
     {
         let Some(place) = self.table.find(name) else {
             return Err(ShellRefusal::NoGraph);
         };
         let entry = self.table.remove(place);
-        *delta = Delta::Dropped(place, entry.name, entry.graph);
+        *delta = Delta::Dropped(place as u32, entry.name, entry.graph);
         *reply = Reply::Done;
         Ok(())
     }
@@ -385,12 +417,12 @@ impl Reversible for Session {
                 self.generator.turn_back(source);
                 self.table.pop();
             }
-            Delta::Edit(place, delta) => self.table.revert(place, delta),
+            Delta::Edit(place, delta) => self.table.revert(place as usize, delta),
             Delta::Lengths(place, delta, source) => {
                 self.generator.turn_back(source);
-                self.table.revert_lengths(place, delta);
+                self.table.revert_lengths(place as usize, delta);
             }
-            Delta::Dropped(place, name, graph) => self.table.insert(place, name, graph),
+            Delta::Dropped(place, name, graph) => self.table.insert(place as usize, name, graph),
         }
     }
 

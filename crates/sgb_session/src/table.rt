@@ -1,5 +1,5 @@
 //! The named graphs of a session.
-ghost use Rattle.std.specs.Prelude.{◌≡◌, ◌<◌, ◌≤◌, ◌^◌, ◌-◌, ◌++◌, ◌∷◌, [], length, take, insert, remove, IsSome};
+ghost use Rattle.std.specs.Prelude.{◌≡◌, ◌<◌, ◌≤◌, ◌^◌, ◌-◌, ◌++◌, ◌∷◌, [], length, take, insert, remove, IsSome, IfSome};
 ghost use Rattle.std.specs.List.{position};
 ghost use Rattle.std.specs.Str.{bytes_eq};
 ghost use Rattle.sgb_graph.specs.Graph.{GraphOf};
@@ -7,7 +7,8 @@ ghost use Rattle.sgb_graph.specs.Delta.{LeftBy};
 ghost use Rattle.sgb_graph.specs.Reverted.{reverted};
 ghost use Rattle.sgb_lengths.specs.Lengths.{CanRevertLengths, before_lengths};
 ghost use Rattle.sgb_session.specs.Drawing.{drawn_from};
-ghost use Rattle.sgb_session.specs.Private.Making.{AtPlace, InSlot, Edits, told};
+ghost use Rattle.sgb_session.specs.Private.Making.{AtPlace, InSlot, Edits};
+ghost use Rattle.sgb_session.specs.State.{told};
 ghost use Rattle.sgb_session.specs.Private.Slots.{held, slot_in, slot_with_graph};
 ghost use Rattle.sgb_session.specs.Private.Working.{Lengthens};
 ghost use Rattle.sgb_session.specs.Table.{find, entry_in, graph_in, with_graph};
@@ -92,7 +93,8 @@ impl Table {
 
     /// Where the graph of this name stands.
     pub(crate) fn find(&self, name: &Name) -> Option<usize>
-        ensures { result ≡ find self.now name.now }
+        ensures value { result ≡ find self.now name.now }
+        ensures few { IfSome result (λ i. i < 64) }
     {
         find_slot(self.entries.as_slice(), name.bytes())
     }

@@ -95,6 +95,25 @@ grown l g = ap (λ u. are_none u && grows_at (length l.standing)) g.0 ∙ g.1
 wanting : (l : Lists) (c : GroupedCommand) → (length l.standing == 65535) ≡ false → (grows l || may_want (state_of l.standing) c) ≡ true → changing true l c ≡ tells l (answers.Refused NoRoom)
 wanting l c not_full wants = rw (not_full, wants) (either_way (has_its_text c) (tells l (answers.Refused NoRoom)))
 
+-- a change of a full journal
+pub full_does : (j : Kept) (c : GroupedCommand) → IsBegun j → length j.standing ≡ 65535 → Does (by_command c) j j (answers.Refused JournalFull)
+full_does j c b full = record { no_room = false; told = rw (eq-eqb (length j.standing) 65535 full) refl; begun = b }
+
+-- a change that the machine refuses, or for which it may want for memory
+pub refused_by_machine : (j : Kept) (c : GroupedCommand) (f : ShellRefusal) → IsBegun j → (length j.standing == 65535) ≡ false
+    → ((is_no_room f ≡ true) × (may_want j.machine c ≡ true)) ⊎ (step j.machine c ≡ Refused f) → Does (by_command c) j j (answers.Refused f)
+refused_by_machine j c f b not_full (inl wants) = record {
+  no_room = true;
+  told = wanting (lists_of j) c not_full (or_second (grows (lists_of j)) _ (ap (λ s. may_want s c) (machine_is j b) ∙ wants.1))
+      ∙ ap (λ g. tells (lists_of j) (answers.Refused g)) (sym (no_room_is f wants.0));
+  begun = b;
+}
+refused_by_machine j c f b not_full (inr refuses) = record {
+  no_room = false;
+  told = rw not_full (ap (answered (lists_of j) (with_command (lists_of j) c)) (ap (λ s. step s c) (machine_is j b) ∙ refuses));
+  begun = b;
+}
+
 -- a change that the journal answered
 pub changed : (old new : Kept) (c : GroupedCommand) (r : Result GroupedReply (JournalRefusal ShellRefusal)) → IsBegun old
     → IfOk r (λ reply. Applies step before old c reply new)
@@ -116,27 +135,12 @@ changed old new c (Err journals.NoRoom) b a no_room full nothing refused same so
       told = wanting (lists_of old) c not_full (or_left _ _ (grown (lists_of old) (no_room refl))) ∙ stays old new (answers.Refused NoRoom) same;
       begun = subst IsBegun (sym same) b;
     }
-changed old new c (Err journals.Full) b a no_room full nothing refused same sound = record {
-  no_room = false;
-  told = rw (eq-eqb (length old.standing) 65535 (full.0 refl)) (stays old new (answers.Refused JournalFull) same);
-  begun = subst IsBegun (sym same) b;
-}
+changed old new c (Err journals.Full) b a no_room full nothing refused same sound =
+    subst (λ j. Does (by_command c) old j (answers.Refused JournalFull)) (sym same) (full_does old c b (full.0 refl))
 changed old new c (Err journals.NothingToRedo) b a no_room full nothing refused same sound = absurd (nothing refl)
 changed old new c (Err (journals.Machine f)) b a no_room full nothing refused same sound =
     let not_full : (length old.standing == 65535) ≡ false = ne_eqb _ _ (λ e. let bad = full.1 e in cc) in
-    elim (refused f refl) [
-      | inl wants ↦ record {
-        no_room = true;
-        told = wanting (lists_of old) c not_full (or_second (grows (lists_of old)) _ (ap (λ s. may_want s c) (machine_is old b) ∙ wants.1))
-            ∙ stays old new (answers.Refused NoRoom) same ∙ ap (λ g. tells (lists_of new) (answers.Refused g)) (sym (no_room_is f wants.0));
-        begun = subst IsBegun (sym same) b;
-      }
-      | inr refuses ↦ record {
-        no_room = false;
-        told = rw not_full (ap (answered (lists_of old) (with_command (lists_of old) c)) (ap (λ s. step s c) (machine_is old b) ∙ refuses) ∙ stays old new (answers.Refused f) same);
-        begun = subst IsBegun (sym same) b;
-      }
-    ]
+    subst (λ j. Does (by_command c) old j (answers.Refused f)) (sym same) (refused_by_machine old c f b not_full (refused f refl))
 
 pub undid : (old new : Kept) → IsBegun old → Undoes step before old new → IsJournal step before new → Does (by_line (Some Undo)) old new answers.Undone
 undid old new b u sound = record {

@@ -18,7 +18,9 @@ mod unit;
 pub use fault::RunEnd;
 pub use laws::course_law;
 pub use script::{Ended, SCRIPT_LIMIT, run, run_metered};
-pub use sgb_groups::{GroupedCommand, GroupedDelta, GroupedReply, GroupedSession, MOST_MEMBERS};
+pub use sgb_groups::{
+    GroupedCommand, GroupedDelta, GroupedReply, GroupedSession, KeptCommand, MOST_MEMBERS,
+};
 pub use sgb_print::{Failed, MeteredReader, MeteredWriter, RunFault};
 pub use sgb_script::{
     Command, Edit, LINE_LIMIT, Line, Maker, NAME_LIMIT, Name, Query, ShellRefusal, parse,

@@ -1,20 +1,22 @@
 //! Does what a line says to the session's journal.
-ghost use Rattle.std.specs.Prelude.{◌≡◌, ◌⊎◌, Some, None, IfOk, IfErr, IsTrue, codes};
+ghost use Rattle.std.specs.Prelude.{◌≡◌, ◌⊎◌, true, Some, None, IfOk, IfErr, IsTrue, codes};
 ghost use Rattle.std.specs.Str.{bytes_eq};
 ghost use Rattle.sgb_script.specs.Line.{line_of, line_with, takes_memory};
 ghost use Rattle.sgb_script.specs.declared.refusal.ShellRefusal.TheVariants.{NoRoom, ScriptSyntax};
 ghost use Rattle.sgb_script.specs.declared.command.Command.TheVariants as commands;
+ghost use Rattle.sgb_groups.specs.Grouped.{is_boxed};
+ghost use Rattle.sgb_shell.specs.declared.answer.Answer.TheVariants.{Refused};
 ghost use Rattle.sgb_groups.specs.declared.grouped.GroupedCommand.TheVariants.{One};
 ghost use Rattle.sgb_shell.specs.Private.Performing.{IsBegun, Does, Answers, Saves, by_command, by_line, answer_from, refusal_from};
 ghost use Rattle.sgb_script.specs.declared.command.Line.TheVariants.{Undo, Redo};
 
 use crate::answer::Answer;
 use sgb_graph::Graph;
-use sgb_groups::{GroupedCommand, GroupedReply, GroupedSession};
+use sgb_groups::{GroupedCommand, GroupedReply, GroupedSession, KeptCommand};
 use sgb_script::{Asked, Command, Query, ShellRefusal, parse_onto};
 use sgb_session::Session;
 use sgb_text::save;
-use sgb_undo::{Journal, JournalRefusal};
+use sgb_undo::{Journal, JournalRefusal, MOST_COMMANDS};
 use std::alloc::Global;
 
 /// Reads a line without a text, does what it says, and writes the answer where another stood. The lines of one word that
@@ -79,7 +81,7 @@ fn perform_words(
     let mut command = GroupedCommand::One(Command::Next);
     match read_onto(alloc, line, &mut command) {
         Ok(Asked::Nothing) => *answer = Answer::Silent,
-        Ok(Asked::Change) => change(journal, command, answer),
+        Ok(Asked::Change) => change(alloc, journal, command, answer),
         Ok(Asked::Undo) => undo(journal, answer),
         Ok(Asked::Redo) => redo(journal, answer),
         Ok(Asked::Ask(query)) => *answer = ask(alloc, journal.machine().session(), query),
@@ -111,14 +113,38 @@ fn read_onto(
 /// Performs a command, or a group.
 #[inline(always)]
 pub(crate) fn change(
+    alloc: Global,
     journal: &mut Journal<GroupedSession>,
     command: GroupedCommand,
     answer: &mut Answer,
 )
     ensures { IsBegun journal.old → Does (by_command command) journal.old journal.new answer.new }
 {
+    match KeptCommand::new(alloc, command) {
+        Ok(kept) => apply(journal, kept, answer),
+        Err(command) => *answer = Answer::Refused(refusal_without_room(journal, &command)),
+    }
+}
+
+// Performs a command, or a group, as the journal keeps it.
+#[inline(always)]
+fn apply(journal: &mut Journal<GroupedSession>, command: KeptCommand, answer: &mut Answer)
+    ensures { IsBegun journal.old → Does (by_command command) journal.old journal.new answer.new }
+{
     let outcome = journal.apply(command);
     answer_to(outcome, answer);
+}
+
+// How a command is refused for which there is no box.
+#[inline(never)]
+fn refusal_without_room(journal: &Journal<GroupedSession>, command: &GroupedCommand) -> ShellRefusal
+    requires boxed { is_boxed command.now ≡ true }
+    ensures { IsBegun journal.now → Does (by_command command.now) journal.now journal.now (Refused result) }
+{
+    if journal.standing() == MOST_COMMANDS {
+        return ShellRefusal::JournalFull;
+    }
+    journal.machine().refusal_without_room(command)
 }
 
 // Draws a number. The room for a command is no part of the other lines of one word.
@@ -126,7 +152,7 @@ pub(crate) fn change(
 fn draw(journal: &mut Journal<GroupedSession>, answer: &mut Answer)
     ensures { IsBegun journal.old → Does (by_command (One commands.Next)) journal.old journal.new answer.new }
 {
-    change(journal, GroupedCommand::One(Command::Next), answer);
+    apply(journal, KeptCommand::next(), answer);
 }
 
 fn undo(journal: &mut Journal<GroupedSession>, answer: &mut Answer)

@@ -33,7 +33,7 @@ pub(crate) fn take_line(
         return begin(alloc, journal, pending, number, line);
     };
     if unit.closes(line) {
-        return Some((unit.number, close(journal, unit, line)));
+        return Some((unit.number, close(alloc, journal, unit, line)));
     }
     unit.take_line(alloc, line);
     *pending = Some(unit);
@@ -63,13 +63,18 @@ fn begin(
 }
 
 // Answers a unit that the line ends.
-fn close(journal: &mut Journal<GroupedSession>, unit: Pending, line: &LineBuffer) -> Answer
+fn close(
+    alloc: Global,
+    journal: &mut Journal<GroupedSession>,
+    unit: Pending,
+    line: &LineBuffer,
+) -> Answer
     ensures { (u : ScriptUnit) (l : List ℕ) → line.now ≡ held_line l → closes u l ≡ true → IsGathered u unit → IsBegun journal.old
         → Does (by_unit (closed_by u l)) journal.old journal.new result }
 {
     let mut answer = Answer::Silent;
     match unit.command(line) {
-        Ok(command) => change(journal, command, &mut answer),
+        Ok(command) => change(alloc, journal, command, &mut answer),
         Err(refusal) => answer = Answer::Refused(refusal),
     }
     answer

@@ -697,9 +697,8 @@ fn push_row(
     let mut all = mem::replace(cells, none);
     let mut link = next;
     for to in first..end {
-        let number = ArcNo(all.len() as u32);
         all.push_reserved(new_cell(owner, VertexNo(to), link, len));
-        link = Link::to(number);
+        link = Link::to(ArcNo(all.len() as u32 - 1));
     }
     *cells = all;
     link

@@ -5,13 +5,10 @@ use Rattle.sgb_graph.specs.declared.refusal.Refusal.{Refusal}
 use Rattle.sgb_graph.specs.declared.refusal.Refusal.TheVariants as graphs
 use Rattle.sgb_graph.specs.Graph.{GraphOf}
 use Rattle.sgb_graph.specs.Delta.{LeftBy}
-use Rattle.sgb_undo.specs.Outcome.{Accepted, Refused}
-use Rattle.sgb_script.specs.declared.command.Command.{Command}
 use Rattle.sgb_script.specs.declared.command.Maker.{Maker}
 use Rattle.sgb_script.specs.declared.command.Maker.TheVariants.{Empty, Complement, Gunion, Intersection, Product, Induced}
 use Rattle.sgb_script.specs.declared.command.Edit.{Edit}
 use Rattle.sgb_script.specs.declared.refusal.ShellRefusal.{ShellRefusal}
-use Rattle.sgb_script.specs.declared.refusal.ShellRefusal.TheVariants.{NoRoom}
 use Rattle.sgb_session.specs.declared.reply.Delta.{Delta}
 use Rattle.sgb_session.specs.declared.reply.Delta.TheVariants as kept
 use Rattle.sgb_session.specs.declared.reply.Reply.{Reply}
@@ -22,13 +19,8 @@ use Rattle.sgb_session.specs.Drawing.{Drawing}
 use Rattle.sgb_session.specs.Make.{operands, graph_made, generator_after, kept_of}
 use Rattle.sgb_session.specs.Private.Slots.{held, slot_in, slot_with_graph}
 use Rattle.sgb_session.specs.Source.{turned_back, CanTurnBack}
-use Rattle.sgb_session.specs.State.{State, step, before, can_revert, may_want, refusal_of_making}
+use Rattle.sgb_session.specs.State.{State, refusal_of_making}
 use Rattle.sgb_session.specs.Table.{find, graph_in, has_all, with_graph}
-
--- what was answered, with what was written of it into two places
-abbrev pub told : {D R U F : Type 0} → D → R → Result U F → Result (D × R) F
-told d r (Ok done) = Ok (d, r)
-told d r (Err refusal) = Err refusal
 
 -- whether an edit that is refused so, or not, may want for memory
 abbrev pub edit_may_want : Edit → Option Refusal → Bool
@@ -103,9 +95,3 @@ CanUnmake k d = Unit {0}
 abbrev pub with_made : Result GraphOf Refusal → Result (GraphOf × Delta) Refusal
 with_made (Ok g) = Ok (g, kept.Made)
 with_made (Err r) = Err r
-
--- a command was performed, with a delta that leads back; or it changed nothing, since it is refused, or since memory
--- was wanted and may be
-abbrev pub Performs : State → State → Command → Result (Delta × Reply) ShellRefusal → Type 0
-Performs old new c (Ok a) = (step old c ≡ Accepted new a.0 a.1) × can_revert new a.0 × (before new a.0 ≡ old)
-Performs old new c (Err r) = (new ≡ old) × (((r ≡ NoRoom) × (may_want old c ≡ true)) ⊎ (step old c ≡ Refused r))

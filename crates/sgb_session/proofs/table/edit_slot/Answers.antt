@@ -1,7 +1,8 @@
 use Rattle.std.proofs.Common.{ap, ◌∙◌, subst, sym, Some}
 use Rattle.sgb_session.proofs.Tables.{becomes_in_slot}
 use Rattle.sgb_session.proofs.table.edit_slot.Goals as goal
-use Rattle.sgb_session.specs.Private.Making.{Edits, told}
+use Rattle.sgb_session.specs.Private.Making.{Edits}
+use Rattle.sgb_session.specs.State.{told}
 
 pub returns : goal.returns
 returns c =

@@ -1,5 +1,11 @@
-use Rattle.sgb_shell.proofs.Performing.{changed}
+use Rattle.std.proofs.Common.{subst}
+use Rattle.sgb_shell.specs.Private.Performing.{Does, by_command}
+use Rattle.sgb_shell.specs.declared.answer.Answer.TheVariants.{Refused}
 use Rattle.sgb_shell.proofs.perform.change.Goals as goal
 
-pub returns : goal.returns
-returns c b = let e = c.apply-outcome.ensures in rw c.answer_to.ensures (changed _ _ _ _ b e.ok e.no_room e.full e.nothing e.refused e.err e.sound)
+pub returns-in-Ok : goal.returns-in-Ok
+returns-in-Ok c b = subst (λ g. Does (by_command g) c.args.journal.now c.apply.new.journal c.apply.new.answer) c.in-Ok.ensures.ok (c.apply.ensures b)
+
+pub returns-in-Err : goal.returns-in-Err
+returns-in-Err c b =
+    subst (λ g. Does (by_command g) c.args.journal.now c.args.journal.now (Refused c.refusal_without_room.result)) c.in-Err.ensures.err.0 (c.refusal_without_room.ensures b)

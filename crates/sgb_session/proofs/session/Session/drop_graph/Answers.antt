@@ -2,7 +2,7 @@ use Rattle.std.proofs.Common.{◌∙◌, subst, sym, Ok}
 use Rattle.sgb_script.specs.declared.command.Command.TheVariants as commands
 use Rattle.sgb_session.specs.declared.reply.Delta.TheVariants as kept
 use Rattle.sgb_session.specs.declared.reply.Reply.TheVariants.{Done}
-use Rattle.sgb_session.specs.Private.Making.{Performs}
+use Rattle.sgb_session.specs.State.{Performs}
 use Rattle.sgb_session.proofs.Sessions.{state, graph_dropped}
 use Rattle.sgb_session.proofs.session.Session.drop_graph.Goals as goal
 
@@ -14,5 +14,8 @@ returns c =
     let x = c.remove-entry.result in
     let i = c.in-Some.place in
     let name = c.args.name.now in
-    subst (λ s. Performs s (state d u) (commands.Drop name) (Ok (kept.Dropped i x.name x.graph, Done))) c.self.view_is
-    (graph_dropped d t u name i x (sym c.find.ensures ∙ c.in-Some.is) c.remove-entry.ensures.entry c.remove-entry.ensures.table c.remove-entry.ensures.few)
+    record {
+      performs =
+          subst (λ s. Performs s (state d u) (commands.Drop name) (Ok (kept.Dropped i x.name x.graph, Done))) c.self.view_is
+          (graph_dropped d t u name i x (sym c.find.ensures.value ∙ c.in-Some.is) c.remove-entry.ensures.entry c.remove-entry.ensures.table c.remove-entry.ensures.few);
+    }

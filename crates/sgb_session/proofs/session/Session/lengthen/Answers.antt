@@ -1,11 +1,11 @@
 use Rattle.std.proofs.Common.{◌≡◌, ◌<◌, ap, ◌∙◌, subst, sym, false, Some, Err, length}
 use Rattle.sgb_script.specs.declared.command.Command.TheVariants as commands
 use Rattle.sgb_session.specs.Drawing.{drawn_from}
-use Rattle.sgb_session.specs.Private.Making.{AtPlace, Performs, told}
+use Rattle.sgb_session.specs.Private.Making.{AtPlace}
 use Rattle.sgb_session.specs.Private.Working.{Lengthens}
 use Rattle.sgb_session.specs.declared.reply.Delta.TheVariants as kept
 use Rattle.sgb_session.specs.declared.reply.Reply.TheVariants.{Done}
-use Rattle.sgb_session.specs.State.{is_spent}
+use Rattle.sgb_session.specs.State.{is_spent, Performs, told}
 use Rattle.sgb_session.specs.Table.{find}
 use Rattle.sgb_session.proofs.Lengthenings.{lengths_done, lengths_refused}
 use Rattle.sgb_session.proofs.Sessions.{state, find_within}
@@ -23,7 +23,7 @@ returns c =
     let spec = c.args.spec.now in
     let seed = c.args.seed in
     let command = commands.Lengths name spec seed in
-    let at : find t name ≡ Some i = sym c.find.ensures ∙ c.in-Some.is in
+    let at : find t name ≡ Some i = sym c.find.ensures.value ∙ c.in-Some.is in
     let within : i < length t = find_within t name i at in
     let fresh : is_spent (drawn_from seed d) ≡ false = sym c.is_spent.ensures ∙ c.if-is_spent.false in
     let made : AtPlace (λ g h. Lengthens spec seed d e g h c.lengthen.result) t u i = c.lengthen.ensures in

@@ -3,8 +3,8 @@ use Rattle.sgb_graph.specs.Graph.{n_of, m_of}
 use Rattle.sgb_script.specs.declared.command.Command.TheVariants as commands
 use Rattle.sgb_session.specs.declared.reply.Reply.TheVariants.{Made}
 use Rattle.sgb_session.specs.declared.table.Entry.{Entry}
-use Rattle.sgb_session.specs.Private.Making.{MakesGraph, Performs}
-use Rattle.sgb_session.specs.State.{refusal_of_making}
+use Rattle.sgb_session.specs.Private.Making.{MakesGraph}
+use Rattle.sgb_session.specs.State.{refusal_of_making, Performs}
 use Rattle.sgb_session.proofs.Makings.{make_done}
 use Rattle.sgb_session.proofs.Sessions.{state}
 use Rattle.sgb_session.proofs.session.Session.make.Goals as goal
@@ -21,7 +21,10 @@ returns-in-Ok c =
     let u : List Entry = t ++ record { name = name; graph = g } ∷ [] in
     let free : refusal_of_making (state d t) name m ≡ None = ap (λ s. refusal_of_making s name m) c.self.view_is ∙ c.in_ok-operands.ensures.0 in
     let done = make_done d e t name m (g, c.in-Ok.kept) free (subst (MakesGraph d e t m) c.in-Ok.is c.make_boxed.ensures) in
-    subst (λ s. Performs s (state e c.push.new.self) command (Ok (c.in-Ok.kept, Made name c.n.result c.m.result))) c.self.view_is
-    (subst (λ v. Performs (state d t) (state e v) command (Ok (c.in-Ok.kept, Made name c.n.result c.m.result))) (sym c.push.ensures)
-    (subst (λ k. Performs (state d t) (state e u) command (Ok (c.in-Ok.kept, Made name k c.m.result))) (sym (c.n.ensures.value ∙ ap n_of c.get-graph.ensures))
-    (subst (λ k. Performs (state d t) (state e u) command (Ok (c.in-Ok.kept, Made name (n_of g) k))) (sym (c.m.ensures.value ∙ ap m_of c.get-graph.ensures)) done)))
+    record {
+      performs =
+          subst (λ s. Performs s (state e c.push.new.self) command (Ok (c.in-Ok.kept, Made name c.n.result c.m.result))) c.self.view_is
+          (subst (λ v. Performs (state d t) (state e v) command (Ok (c.in-Ok.kept, Made name c.n.result c.m.result))) (sym c.push.ensures)
+          (subst (λ k. Performs (state d t) (state e u) command (Ok (c.in-Ok.kept, Made name k c.m.result))) (sym (c.n.ensures.value ∙ ap n_of c.get-graph.ensures))
+          (subst (λ k. Performs (state d t) (state e u) command (Ok (c.in-Ok.kept, Made name (n_of g) k))) (sym (c.m.ensures.value ∙ ap m_of c.get-graph.ensures)) done)));
+    }

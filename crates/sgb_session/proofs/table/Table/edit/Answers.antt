@@ -3,7 +3,8 @@ use Rattle.arrayvec.specs.ArrayVec.{with_items}
 use Rattle.arrayvec.proofs.ArrayVecLemmas.{items-with_items}
 use Rattle.sgb_session.proofs.Tables.{becomes_shown}
 use Rattle.sgb_session.proofs.table.Table.edit.Goals as goal
-use Rattle.sgb_session.specs.Private.Making.{AtPlace, InSlot, Edits, told}
+use Rattle.sgb_session.specs.Private.Making.{AtPlace, InSlot, Edits}
+use Rattle.sgb_session.specs.State.{told}
 use Rattle.sgb_session.specs.Private.Slots.{held}
 
 pub returns : goal.returns
