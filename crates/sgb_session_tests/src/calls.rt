@@ -74,7 +74,7 @@ fn delta_of(alloc: Global, session: &mut Session, line: &[u8]) -> Result<Delta, 
 }
 
 // Whether the delta gives back the graph of this name, with so many arcs, to this place.
-fn gives_back(delta: &Delta, place: usize, name: &[u8], arcs: u32) -> bool {
+fn gives_back(delta: &Delta, place: u32, name: &[u8], arcs: u32) -> bool {
     match delta {
         Delta::Dropped(at, dropped, graph) => {
             *at == place && dropped.bytes() == name && graph.get().m() == arcs
