@@ -1,5 +1,5 @@
 -- What a command by itself and a group do to the session.
-use Rattle.std.specs.Prelude.{Bool, false, nat_lt, length}
+use Rattle.std.specs.Prelude.{Bool, nat_lt, length}
 use Rattle.sgb_groups.specs.declared.grouped.GroupedCommand.{GroupedCommand}
 use Rattle.sgb_groups.specs.declared.grouped.GroupedCommand.TheVariants.{One, Group}
 use Rattle.sgb_groups.specs.declared.grouped.GroupedDelta.{GroupedDelta}
@@ -34,8 +34,3 @@ before s (deltas.Group ds) = start_of single.before s ds
 abbrev pub can_revert : State → GroupedDelta → Type 0
 can_revert s (deltas.One d) = single.can_revert s d
 can_revert s (deltas.Group ds) = CanRevertAll single.before single.can_revert s ds
-
--- whether a journal keeps it in a box
-abbrev pub is_boxed : GroupedCommand → Bool
-is_boxed (One c) = single.is_large c
-is_boxed (Group cs) = false

@@ -1,15 +1,13 @@
 //! Commands and groups as a journal keeps them.
-ghost use Rattle.std.specs.Prelude.{◌≡◌, true, IfOk, IfErr};
-ghost use Rattle.sgb_groups.specs.Grouped.{is_boxed};
+ghost use Rattle.std.specs.Prelude.{◌≡◌, true, IfOk, OnErr};
 ghost use Rattle.sgb_groups.specs.Private.Kept.{grouped_of, is_single};
 ghost use Rattle.sgb_groups.specs.declared.grouped.GroupedCommand.TheVariants.{One, Group};
 ghost use Rattle.sgb_script.specs.declared.command.Command.TheVariants.{Next};
 ghost use Rattle.sgb_session.specs.State.{is_large};
 
-use crate::GroupedCommand;
 use sgb_graph::{ArcNo, Items};
 use sgb_script::{Command, Edit, Maker, Name};
-use std::alloc::Global;
+use std::alloc::{AllocError, Global};
 use std::marker::Model;
 use std::mem;
 
@@ -72,30 +70,28 @@ impl KeptCommand {
         !matches!(self.kept, Kept::Group(_))
     }
 
-    /// Keeps a command or a group. Only a box takes memory; where there is none the command is given back.
-    #[inline]
-    pub fn new(alloc: Global, command: GroupedCommand) -> Result<KeptCommand, GroupedCommand>
-        ensures ok { IfOk result (λ k. k ≡ command) }
-        ensures err { IfErr result (λ c. (c ≡ command) × (is_boxed command ≡ true)) }
+    /// Keeps a command by itself, and leaves another where it stood. Only a box takes memory; where there is none the
+    /// command stays.
+    // A command is large: so it is read where it stands, and not handed up and back.
+    #[inline(always)]
+    pub fn take(alloc: Global, command: &mut Command) -> Result<KeptCommand, AllocError>
+        ensures ok { IfOk result (λ k. k ≡ One command.old) }
+        ensures stays { OnErr result (command.new ≡ command.old) }
+        ensures large { OnErr result (is_large command.old ≡ true) }
     {
-        match command {
-            GroupedCommand::One(one) => match keep(alloc, one) {
-                Ok(kept) => Ok(KeptCommand { kept }),
-                Err(large) => Err(GroupedCommand::One(large)),
-            },
-            GroupedCommand::Group(members) => Ok(KeptCommand::group(members)),
-        }
+        let kept = keep(alloc, command)?;
+        Ok(KeptCommand { kept })
     }
 }
 
-// A command by itself as it is kept, or the command where there is no box for it.
-#[inline]
-fn keep(alloc: Global, command: Command) -> Result<Kept, Command>
-    ensures ok { IfOk result (λ k. grouped_of k ≡ One command) }
-    ensures err { IfErr result (λ c. (c ≡ command) × (is_large command ≡ true)) }
+// A command by itself as it is kept, where there is a box for a large one.
+#[inline(always)]
+fn keep(alloc: Global, command: &mut Command) -> Result<Kept, AllocError>
+    ensures ok { IfOk result (λ k. grouped_of k ≡ One command.old) }
+    ensures stays { OnErr result (command.new ≡ command.old) }
+    ensures large { OnErr result (is_large command.old ≡ true) }
 {
-    let mut command = command;
-    match &mut command {
+    match command {
         Command::Seed(seed) => Ok(Kept::Seed(*seed)),
         Command::Next => Ok(Kept::Next),
         Command::Unif(bound) => Ok(Kept::Unif(*bound)),
@@ -109,17 +105,17 @@ fn keep(alloc: Global, command: Command) -> Result<Kept, Command>
     }
 }
 
-// A command in a box, or the command where there is none.
+// A command in a box, where there is one.
 #[inline(never)]
-fn boxed(alloc: Global, command: Command) -> Result<Box<Command>, Command>
-    ensures ok { IfOk result (λ b. b.value ≡ command) }
-    ensures err { IfErr result (λ c. c ≡ command) }
+fn boxed(alloc: Global, command: &mut Command) -> Result<Box<Command>, AllocError>
+    ensures ok { IfOk result (λ b. b.value ≡ command.old) }
+    ensures stays { OnErr result (command.new ≡ command.old) }
 {
     match Box::new(alloc, Command::Next) {
         Ok(mut place) => {
-            *place = command;
+            mem::swap(&mut *place, command);
             Ok(place)
         }
-        Err(_) => Err(command),
+        Err(error) => Err(error.into()),
     }
 }

@@ -1,12 +1,13 @@
 //! The session whose commands may be groups.
 ghost use Rattle.std.specs.Prelude.{◌≡◌, ◌<◌, ◌⊎◌, true, IfOk, IfErr, OnErr, vec_len, vec_capacity};
 ghost use Rattle.sgb_undo.specs.Outcome.{Accepted, Refused, Keeps};
-ghost use Rattle.sgb_groups.specs.Grouped.{step, before, can_revert, may_want, is_boxed};
+ghost use Rattle.sgb_groups.specs.Grouped.{step, before, can_revert, may_want};
 ghost use Rattle.sgb_groups.specs.Private.Kept.{grouped_of, is_single, PerformsOne};
-ghost use Rattle.sgb_session.specs.State.{Performs, told};
+ghost use Rattle.sgb_groups.specs.declared.grouped.GroupedCommand.TheVariants.{One};
+ghost use Rattle.sgb_session.specs.State.{is_large, Performs, told};
 ghost use Rattle.sgb_script.specs.Refusal.{is_no_room};
 
-use crate::grouped::{GroupedCommand, GroupedDelta, GroupedReply};
+use crate::grouped::{GroupedDelta, GroupedReply};
 use crate::kept::{Kept, KeptCommand};
 use sgb_script::{Command, Maker, ShellRefusal};
 use sgb_session::{Delta, Reply, Session};
@@ -45,14 +46,11 @@ impl GroupedSession {
 
     /// How a command that stands in a box is refused where there is no memory for one: for the graphs and the name that it
     /// names, for the table or for a spent generator, and else for want of memory. It takes none.
-    pub fn refusal_without_room(&self, command: &GroupedCommand) -> ShellRefusal
-        requires boxed { is_boxed command.now ≡ true }
-        ensures refused { ((is_no_room result ≡ true) × (may_want self.now command.now ≡ true)) ⊎ (step self.now command.now ≡ Refused result) }
+    pub fn refusal_without_room(&self, command: &Command) -> ShellRefusal
+        requires large { is_large command.now ≡ true }
+        ensures refused { ((is_no_room result ≡ true) × (may_want self.now (One command.now) ≡ true)) ⊎ (step self.now (One command.now) ≡ Refused result) }
     {
-        match command {
-            GroupedCommand::One(one) => self.session.refusal_without_room(one),
-            GroupedCommand::Group(_) => unreachable!(),
-        }
+        self.session.refusal_without_room(command)
     }
 
     /// The generator and the graphs.

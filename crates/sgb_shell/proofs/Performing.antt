@@ -194,10 +194,9 @@ asks_does old new o c asked asked' answer e same d = subst (λ p. Does (by_line 
 pub changed_does : (old new : Kept) (c : Command) (answer : Answer) → Does (by_command (One c)) old new answer → Does (by_line (Some (Change c))) old new answer
 changed_does old new c answer d = record { no_room = d.no_room; told = d.told; begun = d.begun }
 
-pub changed_by : (old new : Kept) (o : Option Line) (c : Command) (grouped : GroupedCommand) (asked : Asked) (answer : Answer) → grouped ≡ One c → o ≡ Some (line_with c asked)
-    → asked ≡ asks.Change → Does (by_command grouped) old new answer → Does (by_line o) old new answer
-changed_by old new o c grouped asked answer is e same d =
-    asks_does old new o c asked asks.Change answer e same (changed_does old new c answer (subst (λ g. Does (by_command g) old new answer) is d))
+pub changed_by : (old new : Kept) (o : Option Line) (c : Command) (asked : Asked) (answer : Answer) → o ≡ Some (line_with c asked) → asked ≡ asks.Change
+    → Does (by_command (One c)) old new answer → Does (by_line o) old new answer
+changed_by old new o c asked answer e same d = asks_does old new o c asked asks.Change answer e same (changed_does old new c answer d)
 
 pub asked_does : (j : Kept) (q : Query) (answer : Answer) → IsBegun j → Answers j.machine q answer → Does (by_line (Some (Ask q))) j j answer
 asked_does j q answer b (no_room, e) = record {

@@ -1,10 +1,9 @@
 //! Does what a line says to the session's journal.
-ghost use Rattle.std.specs.Prelude.{◌≡◌, ◌⊎◌, true, Some, None, IfOk, IfErr, IsTrue, codes};
+ghost use Rattle.std.specs.Prelude.{◌≡◌, true, Some, codes};
 ghost use Rattle.std.specs.Str.{bytes_eq};
-ghost use Rattle.sgb_script.specs.Line.{line_of, line_with, takes_memory};
-ghost use Rattle.sgb_script.specs.declared.refusal.ShellRefusal.TheVariants.{NoRoom, ScriptSyntax};
+ghost use Rattle.sgb_script.specs.Line.{line_of};
 ghost use Rattle.sgb_script.specs.declared.command.Command.TheVariants as commands;
-ghost use Rattle.sgb_groups.specs.Grouped.{is_boxed};
+ghost use Rattle.sgb_session.specs.State.{is_large};
 ghost use Rattle.sgb_shell.specs.declared.answer.Answer.TheVariants.{Refused};
 ghost use Rattle.sgb_groups.specs.declared.grouped.GroupedCommand.TheVariants.{One};
 ghost use Rattle.sgb_shell.specs.Private.Performing.{IsBegun, Does, Answers, Saves, by_command, by_line, answer_from, refusal_from};
@@ -78,10 +77,10 @@ fn perform_words(
 )
     ensures { IsBegun journal.old → Does (by_line (line_of line.now)) journal.old journal.new answer.new }
 {
-    let mut command = GroupedCommand::One(Command::Next);
-    match read_onto(alloc, line, &mut command) {
+    let mut command = Command::Next;
+    match parse_onto(alloc, line, &mut command) {
         Ok(Asked::Nothing) => *answer = Answer::Silent,
-        Ok(Asked::Change) => change(alloc, journal, command, answer),
+        Ok(Asked::Change) => change_by_one(alloc, journal, &mut command, answer),
         Ok(Asked::Undo) => undo(journal, answer),
         Ok(Asked::Redo) => redo(journal, answer),
         Ok(Asked::Ask(query)) => *answer = ask(alloc, journal.machine().session(), query),
@@ -92,26 +91,7 @@ fn perform_words(
     }
 }
 
-// Reads a line, and writes its command where another one by itself stood.
-#[inline(always)]
-fn read_onto(
-    alloc: Global,
-    line: &[u8],
-    command: &mut GroupedCommand,
-) -> Result<Asked, ShellRefusal>
-    requires one { command.old ≡ One commands.Next }
-    ensures ok { IfOk result (λ asked. (c : Command) × (command.new ≡ One c) × (line_of line.now ≡ Some (line_with c asked))) }
-    ensures err { IfErr result (λ e. ((e ≡ ScriptSyntax) × (line_of line.now ≡ None))
-        ⊎ ((e ≡ NoRoom) × IsTrue (takes_memory (line_of line.now)))) }
-{
-    match command {
-        GroupedCommand::One(one) => parse_onto(alloc, line, one),
-        GroupedCommand::Group(_) => unreachable!(),
-    }
-}
-
 /// Performs a command, or a group.
-#[inline(always)]
 pub(crate) fn change(
     alloc: Global,
     journal: &mut Journal<GroupedSession>,
@@ -120,9 +100,28 @@ pub(crate) fn change(
 )
     ensures { IsBegun journal.old → Does (by_command command) journal.old journal.new answer.new }
 {
-    match KeptCommand::new(alloc, command) {
+    match command {
+        GroupedCommand::One(one) => {
+            let mut one = one;
+            change_by_one(alloc, journal, &mut one, answer);
+        }
+        GroupedCommand::Group(members) => apply(journal, KeptCommand::group(members), answer),
+    }
+}
+
+// Performs a command by itself, and leaves another where it stood.
+#[inline(always)]
+fn change_by_one(
+    alloc: Global,
+    journal: &mut Journal<GroupedSession>,
+    command: &mut Command,
+    answer: &mut Answer,
+)
+    ensures { IsBegun journal.old → Does (by_command (One command.old)) journal.old journal.new answer.new }
+{
+    match KeptCommand::take(alloc, command) {
         Ok(kept) => apply(journal, kept, answer),
-        Err(command) => *answer = Answer::Refused(refusal_without_room(journal, &command)),
+        Err(_) => *answer = Answer::Refused(refusal_without_room(journal, command)),
     }
 }
 
@@ -137,9 +136,9 @@ fn apply(journal: &mut Journal<GroupedSession>, command: KeptCommand, answer: &m
 
 // How a command is refused for which there is no box.
 #[inline(never)]
-fn refusal_without_room(journal: &Journal<GroupedSession>, command: &GroupedCommand) -> ShellRefusal
-    requires boxed { is_boxed command.now ≡ true }
-    ensures { IsBegun journal.now → Does (by_command command.now) journal.now journal.now (Refused result) }
+fn refusal_without_room(journal: &Journal<GroupedSession>, command: &Command) -> ShellRefusal
+    requires large { is_large command.now ≡ true }
+    ensures { IsBegun journal.now → Does (by_command (One command.now)) journal.now journal.now (Refused result) }
 {
     if journal.standing() == MOST_COMMANDS {
         return ShellRefusal::JournalFull;
