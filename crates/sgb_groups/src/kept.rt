@@ -1,5 +1,5 @@
 //! Commands and groups as a journal keeps them.
-ghost use Rattle.std.specs.Prelude.{◌≡◌, true, IfOk, OnErr};
+ghost use Rattle.std.specs.Prelude.{◌≡◌, true, IfOk, OnOk, OnErr};
 ghost use Rattle.sgb_groups.specs.Private.Kept.{grouped_of, is_single};
 ghost use Rattle.sgb_groups.specs.declared.grouped.GroupedCommand.TheVariants.{One, Group};
 ghost use Rattle.sgb_script.specs.declared.command.Command.TheVariants.{Next};
@@ -70,39 +70,41 @@ impl KeptCommand {
         !matches!(self.kept, Kept::Group(_))
     }
 
-    /// Keeps a command by itself, and leaves another where it stood. Only a box takes memory; where there is none the
-    /// command stays.
-    // A command is large: so it is read where it stands, and not handed up and back.
+    /// Keeps a command by itself in place of what it kept, and leaves another where the command stood. Only a box takes
+    /// memory; where there is none the command stays, and so does what was kept.
+    // Both are large: so the one is read where it stands, and the other written where it stays.
     #[inline(always)]
-    pub fn take(alloc: Global, command: &mut Command) -> Result<KeptCommand, AllocError>
-        ensures ok { IfOk result (λ k. k ≡ One command.old) }
+    pub fn take(&mut self, alloc: Global, command: &mut Command) -> Result<(), AllocError>
+        ensures ok { OnOk result (self.new ≡ One command.old) }
         ensures stays { OnErr result (command.new ≡ command.old) }
+        ensures kept { OnErr result (self.new ≡ self.old) }
         ensures large { OnErr result (is_large command.old ≡ true) }
     {
-        let kept = keep(alloc, command)?;
-        Ok(KeptCommand { kept })
+        keep(alloc, command, &mut self.kept)
     }
 }
 
-// A command by itself as it is kept, where there is a box for a large one.
+// Keeps a command by itself, where there is a box for a large one.
 #[inline(always)]
-fn keep(alloc: Global, command: &mut Command) -> Result<Kept, AllocError>
-    ensures ok { IfOk result (λ k. grouped_of k ≡ One command.old) }
+fn keep(alloc: Global, command: &mut Command, kept: &mut Kept) -> Result<(), AllocError>
+    ensures ok { OnOk result (grouped_of kept.new ≡ One command.old) }
     ensures stays { OnErr result (command.new ≡ command.old) }
+    ensures kept { OnErr result (kept.new ≡ kept.old) }
     ensures large { OnErr result (is_large command.old ≡ true) }
 {
     match command {
-        Command::Seed(seed) => Ok(Kept::Seed(*seed)),
-        Command::Next => Ok(Kept::Next),
-        Command::Unif(bound) => Ok(Kept::Unif(*bound)),
+        Command::Seed(seed) => *kept = Kept::Seed(*seed),
+        Command::Next => *kept = Kept::Next,
+        Command::Unif(bound) => *kept = Kept::Unif(*bound),
         Command::Make(name, maker) => match maker {
-            Maker::Empty(n) => Ok(Kept::Empty(*name, *n)),
-            _ => Ok(Kept::Large(boxed(alloc, command)?)),
+            Maker::Empty(n) => *kept = Kept::Empty(*name, *n),
+            _ => *kept = Kept::Large(boxed(alloc, command)?),
         },
-        Command::Edit(name, edit) => Ok(Kept::Edit(*name, mem::replace(edit, NO_EDIT))),
-        Command::Drop(name) => Ok(Kept::Drop(*name)),
-        _ => Ok(Kept::Large(boxed(alloc, command)?)),
+        Command::Edit(name, edit) => *kept = Kept::Edit(*name, mem::replace(edit, NO_EDIT)),
+        Command::Drop(name) => *kept = Kept::Drop(*name),
+        _ => *kept = Kept::Large(boxed(alloc, command)?),
     }
+    Ok(())
 }
 
 // A command in a box, where there is one.

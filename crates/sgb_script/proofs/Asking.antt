@@ -1,6 +1,6 @@
 -- What a line without a command asks for, whatever stands in the place of one.
 use Rattle.std.proofs.Common.{◌≡◌, List, Option, Some, None, Result, Ok, Err, sym, ap, ◌∙◌, subst, inl, inr, IsTrue, ◌⊎◌}
-use Rattle.std.specs.Prelude.{IfOk, IfErr}
+use Rattle.std.specs.Prelude.{OnOk, IfErr}
 use Rattle.std.specs.Option.{option_and_then}
 use Rattle.sgb_script.specs.Words.{Word}
 use Rattle.sgb_script.specs.Line.{line_with, line_after, takes_memory}
@@ -15,16 +15,16 @@ use Rattle.sgb_script.specs.declared.refusal.ShellRefusal.TheVariants.{NoRoom, S
 abbrev asked_by : Keyword → Option (List Word) → Option Line
 asked_by k words = option_and_then (λ ws. line_after ws k) words
 
-pub asked_ok : (line : Option Line) (k k' : Keyword) (words : Option (List Word)) (c : Command) (r : Result Asked ShellRefusal)
-    → line ≡ asked_by k words → k ≡ k' → ((c : Command) → Asks (asked_by k' words) c r) → IfOk r (λ asked. line ≡ Some (line_with c asked))
-asked_ok line k k' words c (Ok a) begins same asks = begins ∙ ap (λ j. asked_by j words) same ∙ asks c
-asked_ok line k k' words c (Err e) begins same asks = tt
+pub asked_ok : (line : Option Line) (k k' : Keyword) (words : Option (List Word)) (c : Command) (asked : Asked) (r : Result (Unit {0}) ShellRefusal)
+    → line ≡ asked_by k words → k ≡ k' → ((c : Command) → Asks (asked_by k' words) c asked r) → OnOk r (line ≡ Some (line_with c asked))
+asked_ok line k k' words c asked (Ok done) begins same asks = begins ∙ ap (λ j. asked_by j words) same ∙ asks c
+asked_ok line k k' words c asked (Err e) begins same asks = tt
 
-pub asked_err : (line : Option Line) (k k' : Keyword) (words : Option (List Word)) (c : Command) (r : Result Asked ShellRefusal)
-    → line ≡ asked_by k words → k ≡ k' → ((c : Command) → Asks (asked_by k' words) c r)
+pub asked_err : (line : Option Line) (k k' : Keyword) (words : Option (List Word)) (c : Command) (asked : Asked) (r : Result (Unit {0}) ShellRefusal)
+    → line ≡ asked_by k words → k ≡ k' → ((c : Command) → Asks (asked_by k' words) c asked r)
     → IfErr r (λ e. ((e ≡ ScriptSyntax) × (line ≡ None)) ⊎ ((e ≡ NoRoom) × IsTrue (takes_memory line)))
-asked_err line k k' words c (Ok a) begins same asks = tt
-asked_err line k k' words c (Err e) begins same asks =
+asked_err line k k' words c asked (Ok done) begins same asks = tt
+asked_err line k k' words c asked (Err e) begins same asks =
     let is : line ≡ asked_by k' words = begins ∙ ap (λ j. asked_by j words) same in
     elim (asks c) [
       | inl none ↦ inl (none.0, is ∙ none.1)

@@ -8,13 +8,12 @@ use Rattle.sgb_graph.specs.declared.field.Util.{Util}
 use Rattle.sgb_graph.specs.declared.field.Util.TheVariants as utils
 use Rattle.sgb_script.specs.Arguments.{the_name, the_place, the_value}
 use Rattle.sgb_script.specs.Line.{line_after, takes_memory}
-use Rattle.sgb_script.specs.Private.Reading.{is_text, Asks}
+use Rattle.sgb_script.specs.Private.Reading.{is_text, Reads}
 use Rattle.sgb_script.specs.declared.refusal.ShellRefusal.{ShellRefusal}
 use Rattle.sgb_script.specs.declared.refusal.ShellRefusal.TheVariants.{NoRoom, ScriptSyntax}
 use Rattle.sgb_script.specs.declared.line.Keyword.TheVariants as keywords
 use Rattle.sgb_script.specs.declared.command.Command.TheVariants.{Edit}
 use Rattle.sgb_script.specs.declared.command.Edit.TheVariants.{Set}
-use Rattle.sgb_script.specs.declared.command.Asked.{Asked}
 use Rattle.sgb_script.specs.declared.command.Command.{Command}
 use Rattle.sgb_script.specs.declared.command.Line.{Line}
 use Rattle.sgb_script.specs.declared.command.Line.TheVariants.{Change}
@@ -70,10 +69,10 @@ taken name place (Some (utils.Vertex k)) h = h
 taken name place (Some (utils.Arc k)) h = h
 taken name place (Some (utils.Text t)) h = h
 
-pub refused : (asked : Option Line) (name : List ℕ) (place : Place) (v : Option Util) (e : ShellRefusal) (c : Command) (r : Result Asked ShellRefusal)
+pub refused : (asked : Option Line) (name : List ℕ) (place : Place) (v : Option Util) (e : ShellRefusal) (c : Command) (r : Result (Unit {0}) ShellRefusal)
     → asked ≡ option_map (λ value. Change (Edit name (Set place value))) v
-    → ((e ≡ ScriptSyntax) × (v ≡ None)) ⊎ ((e ≡ NoRoom) × IsTrue (is_text v)) → r ≡ Err e → Asks asked c r
+    → ((e ≡ ScriptSyntax) × (v ≡ None)) ⊎ ((e ≡ NoRoom) × IsTrue (is_text v)) → r ≡ Err e → Reads asked c r
 refused asked name place v e c r by (inl none) is =
-    subst (Asks asked c) (sym is) (inl (none.0, by ∙ ap (option_map (λ value. Change (Edit name (Set place value)))) none.1))
+    subst (Reads asked c) (sym is) (inl (none.0, by ∙ ap (option_map (λ value. Change (Edit name (Set place value)))) none.1))
 refused asked name place v e c r by (inr room) is =
-    subst (Asks asked c) (sym is) (inr (room.0, subst (λ a. IsTrue (takes_memory a)) (sym by) (taken name place v room.1)))
+    subst (Reads asked c) (sym is) (inr (room.0, subst (λ a. IsTrue (takes_memory a)) (sym by) (taken name place v room.1)))

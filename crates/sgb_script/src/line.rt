@@ -1,12 +1,12 @@
 //! Reads one line of a script.
-ghost use Rattle.std.specs.Prelude.{◌≡◌, ◌⊎◌, MatchOption, IfOk, IfErr, IsTrue, length, ◌==◌, ◌∷◌, [], slice_index, Some, None};
+ghost use Rattle.std.specs.Prelude.{◌≡◌, ◌⊎◌, MatchOption, IfOk, OnOk, IfErr, IsTrue, length, ◌==◌, ◌∷◌, [], slice_index, Some, None};
 ghost use Rattle.std.specs.Option.{option_and_then};
 ghost use Rattle.std.specs.Str.{bytes_eq};
 ghost use Rattle.sgb_script.specs.Words.{words_of};
 ghost use Rattle.sgb_script.specs.Arguments.{the_value};
 ghost use Rattle.sgb_script.specs.Line.{line_of, line_with, asked_of, line_after, keyword_of, step_of, whole_of, takes_memory};
 ghost use Rattle.sgb_script.specs.Private.Words.{seen, AreTexts, HasTexts};
-ghost use Rattle.sgb_script.specs.Private.Reading.{is_text, Begins, Asks};
+ghost use Rattle.sgb_script.specs.Private.Reading.{is_text, Begins, Asks, Reads};
 ghost use Rattle.sgb_script.specs.declared.refusal.ShellRefusal.TheVariants.{NoRoom, ScriptSyntax};
 ghost use Rattle.sgb_script.specs.declared.line.Keyword.TheVariants as keywords;
 
@@ -72,8 +72,9 @@ pub fn parse(alloc: Global, line: &[u8]) -> Result<Line, ShellRefusal>
         ⊎ ((e ≡ NoRoom) × IsTrue (takes_memory (line_of line.now)))) }
 {
     let mut command = Command::Next;
-    match parse_onto(alloc, line, &mut command) {
-        Ok(asked) => Ok(line_with(command, asked)),
+    let mut asked = Asked::Change;
+    match parse_onto(alloc, line, &mut command, &mut asked) {
+        Ok(()) => Ok(line_with(command, asked)),
         Err(refusal) => Err(refusal),
     }
 }
@@ -94,17 +95,27 @@ fn line_with(command: Command, asked: Asked) -> Line
     }
 }
 
-/// Reads one line of a script as [`parse`] does, and writes the command of a line that changes the session where another
-/// stood. Of any other line that place tells nothing.
+/// Reads one line of a script as [`parse`] does, and writes what it asks for where another stood, and the command of a line
+/// that changes the session where another command stood. Of any other line that place tells nothing, and of a refused one
+/// neither does.
 // A command is large: so it is written once, where the caller keeps it, and not handed up from call to call.
 #[inline(always)]
-pub fn parse_onto(alloc: Global, line: &[u8], command: &mut Command) -> Result<Asked, ShellRefusal>
-    ensures ok { IfOk result (λ asked. line_of line.now ≡ Some (line_with command.new asked)) }
+pub fn parse_onto(
+    alloc: Global,
+    line: &[u8],
+    command: &mut Command,
+    asked: &mut Asked,
+) -> Result<(), ShellRefusal>
+    ensures ok { OnOk result (line_of line.now ≡ Some (line_with command.new asked.new)) }
     ensures err { IfErr result (λ e. ((e ≡ ScriptSyntax) × (line_of line.now ≡ None))
         ⊎ ((e ≡ NoRoom) × IsTrue (takes_memory (line_of line.now)))) }
 {
+    *asked = Asked::Change;
     match front_of(line) {
-        Front::Nothing => Ok(Asked::Nothing),
+        Front::Nothing => {
+            *asked = Asked::Nothing;
+            Ok(())
+        }
         Front::Other => Err(ShellRefusal::ScriptSyntax),
         Front::Asks(Keyword::Seed, rest) => seed(rest, command),
         Front::Asks(Keyword::Next, rest) => next(rest, command),
@@ -120,15 +131,15 @@ pub fn parse_onto(alloc: Global, line: &[u8], command: &mut Command) -> Result<A
         Front::Asks(Keyword::Id, rest) => id(alloc, rest, command),
         Front::Asks(Keyword::Lengths, rest) => lengths(rest, command),
         Front::Asks(Keyword::Drop, rest) => drop_graph(rest, command),
-        Front::Asks(Keyword::Undo, rest) => undo(rest),
-        Front::Asks(Keyword::Redo, rest) => redo(rest),
-        Front::Asks(Keyword::Group, rest) => group(rest),
-        Front::Asks(Keyword::End, rest) => end(rest),
-        Front::Asks(Keyword::Gen, rest) => generator(rest),
-        Front::Asks(Keyword::List, rest) => list(rest),
-        Front::Asks(Keyword::Show, rest) => show(rest),
-        Front::Asks(Keyword::Save, rest) => save(rest),
-        Front::Asks(Keyword::Load, rest) => load(rest),
+        Front::Asks(Keyword::Undo, rest) => undo(rest, asked),
+        Front::Asks(Keyword::Redo, rest) => redo(rest, asked),
+        Front::Asks(Keyword::Group, rest) => group(rest, asked),
+        Front::Asks(Keyword::End, rest) => end(rest, asked),
+        Front::Asks(Keyword::Gen, rest) => generator(rest, asked),
+        Front::Asks(Keyword::List, rest) => list(rest, asked),
+        Front::Asks(Keyword::Show, rest) => show(rest, asked),
+        Front::Asks(Keyword::Save, rest) => save(rest, asked),
+        Front::Asks(Keyword::Load, rest) => load(rest, asked),
     }
 }
 
@@ -243,100 +254,106 @@ fn is(word: &[u8], keyword: &str) -> bool
     word == keyword.as_bytes()
 }
 
-fn next(rest: &[u8], command: &mut Command) -> Result<Asked, ShellRefusal>
-    ensures { Asks (option_and_then (λ ws. line_after ws keywords.Next) (words_of rest.now)) command.new result }
+fn next(rest: &[u8], command: &mut Command) -> Result<(), ShellRefusal>
+    ensures { Reads (option_and_then (λ ws. line_after ws keywords.Next) (words_of rest.now)) command.new result }
 {
     if is_blank(rest) {
         *command = Command::Next;
-        Ok(Asked::Change)
+        Ok(())
     } else {
         Err(ShellRefusal::ScriptSyntax)
     }
 }
 
-fn undo(rest: &[u8]) -> Result<Asked, ShellRefusal>
-    ensures { (c : Command) → Asks (option_and_then (λ ws. line_after ws keywords.Undo) (words_of rest.now)) c result }
+fn undo(rest: &[u8], asked: &mut Asked) -> Result<(), ShellRefusal>
+    ensures { (c : Command) → Asks (option_and_then (λ ws. line_after ws keywords.Undo) (words_of rest.now)) c asked.new result }
 {
     if is_blank(rest) {
-        Ok(Asked::Undo)
+        *asked = Asked::Undo;
+        Ok(())
     } else {
         Err(ShellRefusal::ScriptSyntax)
     }
 }
 
-fn redo(rest: &[u8]) -> Result<Asked, ShellRefusal>
-    ensures { (c : Command) → Asks (option_and_then (λ ws. line_after ws keywords.Redo) (words_of rest.now)) c result }
+fn redo(rest: &[u8], asked: &mut Asked) -> Result<(), ShellRefusal>
+    ensures { (c : Command) → Asks (option_and_then (λ ws. line_after ws keywords.Redo) (words_of rest.now)) c asked.new result }
 {
     if is_blank(rest) {
-        Ok(Asked::Redo)
+        *asked = Asked::Redo;
+        Ok(())
     } else {
         Err(ShellRefusal::ScriptSyntax)
     }
 }
 
-fn group(rest: &[u8]) -> Result<Asked, ShellRefusal>
-    ensures { (c : Command) → Asks (option_and_then (λ ws. line_after ws keywords.Group) (words_of rest.now)) c result }
+fn group(rest: &[u8], asked: &mut Asked) -> Result<(), ShellRefusal>
+    ensures { (c : Command) → Asks (option_and_then (λ ws. line_after ws keywords.Group) (words_of rest.now)) c asked.new result }
 {
     if is_blank(rest) {
-        Ok(Asked::Group)
+        *asked = Asked::Group;
+        Ok(())
     } else {
         Err(ShellRefusal::ScriptSyntax)
     }
 }
 
-fn end(rest: &[u8]) -> Result<Asked, ShellRefusal>
-    ensures { (c : Command) → Asks (option_and_then (λ ws. line_after ws keywords.End) (words_of rest.now)) c result }
+fn end(rest: &[u8], asked: &mut Asked) -> Result<(), ShellRefusal>
+    ensures { (c : Command) → Asks (option_and_then (λ ws. line_after ws keywords.End) (words_of rest.now)) c asked.new result }
 {
     if is_blank(rest) {
-        Ok(Asked::End)
+        *asked = Asked::End;
+        Ok(())
     } else {
         Err(ShellRefusal::ScriptSyntax)
     }
 }
 
-fn generator(rest: &[u8]) -> Result<Asked, ShellRefusal>
-    ensures { (c : Command) → Asks (option_and_then (λ ws. line_after ws keywords.Gen) (words_of rest.now)) c result }
+fn generator(rest: &[u8], asked: &mut Asked) -> Result<(), ShellRefusal>
+    ensures { (c : Command) → Asks (option_and_then (λ ws. line_after ws keywords.Gen) (words_of rest.now)) c asked.new result }
 {
     if is_blank(rest) {
-        Ok(Asked::Ask(Query::Gen))
+        *asked = Asked::Ask(Query::Gen);
+        Ok(())
     } else {
         Err(ShellRefusal::ScriptSyntax)
     }
 }
 
-fn list(rest: &[u8]) -> Result<Asked, ShellRefusal>
-    ensures { (c : Command) → Asks (option_and_then (λ ws. line_after ws keywords.List) (words_of rest.now)) c result }
+fn list(rest: &[u8], asked: &mut Asked) -> Result<(), ShellRefusal>
+    ensures { (c : Command) → Asks (option_and_then (λ ws. line_after ws keywords.List) (words_of rest.now)) c asked.new result }
 {
     if is_blank(rest) {
-        Ok(Asked::Ask(Query::List))
+        *asked = Asked::Ask(Query::List);
+        Ok(())
     } else {
         Err(ShellRefusal::ScriptSyntax)
     }
 }
 
 #[inline(never)]
-fn seed(rest: &[u8], command: &mut Command) -> Result<Asked, ShellRefusal>
-    ensures { Asks (option_and_then (λ ws. line_after ws keywords.Seed) (words_of rest.now)) command.new result }
+fn seed(rest: &[u8], command: &mut Command) -> Result<(), ShellRefusal>
+    ensures { Reads (option_and_then (λ ws. line_after ws keywords.Seed) (words_of rest.now)) command.new result }
 {
     let refused = ShellRefusal::ScriptSyntax;
     let seed = the_number(one_word(rest).ok_or(refused)?).ok_or(refused)?;
     *command = Command::Seed(seed);
-    Ok(Asked::Change)
+    Ok(())
 }
 
 #[inline(never)]
-fn unif(rest: &[u8], command: &mut Command) -> Result<Asked, ShellRefusal>
-    ensures { Asks (option_and_then (λ ws. line_after ws keywords.Unif) (words_of rest.now)) command.new result }
+fn unif(rest: &[u8], command: &mut Command) -> Result<(), ShellRefusal>
+    ensures { Reads (option_and_then (λ ws. line_after ws keywords.Unif) (words_of rest.now)) command.new result }
 {
     let refused = ShellRefusal::ScriptSyntax;
     let bound = the_number(one_word(rest).ok_or(refused)?).ok_or(refused)?;
     *command = Command::Unif(bound);
-    Ok(Asked::Change)
+    Ok(())
 }
 
 #[inline(never)]
-fn arc(rest: &[u8], command: &mut Command) -> Result<Asked, ShellRefusal>
-    ensures { Asks (option_and_then (λ ws. line_after ws keywords.Arc) (words_of rest.now)) command.new result }
+fn arc(rest: &[u8], command: &mut Command) -> Result<(), ShellRefusal>
+    ensures { Reads (option_and_then (λ ws. line_after ws keywords.Arc) (words_of rest.now)) command.new result }
 {
     let refused = ShellRefusal::ScriptSyntax;
     let (name, from, to, len) = four_words(rest).ok_or(refused)?;
@@ -345,12 +362,12 @@ fn arc(rest: &[u8], command: &mut Command) -> Result<Asked, ShellRefusal>
     let to = the_vertex(to).ok_or(refused)?;
     let len = the_number(len).ok_or(refused)?;
     *command = Command::Edit(name, Edit::Arc(from, to, len));
-    Ok(Asked::Change)
+    Ok(())
 }
 
 #[inline(never)]
-fn edge(rest: &[u8], command: &mut Command) -> Result<Asked, ShellRefusal>
-    ensures { Asks (option_and_then (λ ws. line_after ws keywords.Edge) (words_of rest.now)) command.new result }
+fn edge(rest: &[u8], command: &mut Command) -> Result<(), ShellRefusal>
+    ensures { Reads (option_and_then (λ ws. line_after ws keywords.Edge) (words_of rest.now)) command.new result }
 {
     let refused = ShellRefusal::ScriptSyntax;
     let (name, from, to, len) = four_words(rest).ok_or(refused)?;
@@ -359,24 +376,24 @@ fn edge(rest: &[u8], command: &mut Command) -> Result<Asked, ShellRefusal>
     let to = the_vertex(to).ok_or(refused)?;
     let len = the_number(len).ok_or(refused)?;
     *command = Command::Edit(name, Edit::Edge(from, to, len));
-    Ok(Asked::Change)
+    Ok(())
 }
 
 #[inline(never)]
-fn cut(rest: &[u8], command: &mut Command) -> Result<Asked, ShellRefusal>
-    ensures { Asks (option_and_then (λ ws. line_after ws keywords.Cut) (words_of rest.now)) command.new result }
+fn cut(rest: &[u8], command: &mut Command) -> Result<(), ShellRefusal>
+    ensures { Reads (option_and_then (λ ws. line_after ws keywords.Cut) (words_of rest.now)) command.new result }
 {
     let refused = ShellRefusal::ScriptSyntax;
     let (name, arc) = two_words(rest).ok_or(refused)?;
     let name = the_name(name).ok_or(refused)?;
     let arc = the_arc(arc).ok_or(refused)?;
     *command = Command::Edit(name, Edit::Cut(arc));
-    Ok(Asked::Change)
+    Ok(())
 }
 
 #[inline(never)]
-fn len(rest: &[u8], command: &mut Command) -> Result<Asked, ShellRefusal>
-    ensures { Asks (option_and_then (λ ws. line_after ws keywords.Len) (words_of rest.now)) command.new result }
+fn len(rest: &[u8], command: &mut Command) -> Result<(), ShellRefusal>
+    ensures { Reads (option_and_then (λ ws. line_after ws keywords.Len) (words_of rest.now)) command.new result }
 {
     let refused = ShellRefusal::ScriptSyntax;
     let (name, arc, len) = three_words(rest).ok_or(refused)?;
@@ -384,63 +401,66 @@ fn len(rest: &[u8], command: &mut Command) -> Result<Asked, ShellRefusal>
     let arc = the_arc(arc).ok_or(refused)?;
     let len = the_number(len).ok_or(refused)?;
     *command = Command::Edit(name, Edit::Len(arc, len));
-    Ok(Asked::Change)
+    Ok(())
 }
 
 #[inline(never)]
-fn types(rest: &[u8], command: &mut Command) -> Result<Asked, ShellRefusal>
-    ensures { Asks (option_and_then (λ ws. line_after ws keywords.Types) (words_of rest.now)) command.new result }
+fn types(rest: &[u8], command: &mut Command) -> Result<(), ShellRefusal>
+    ensures { Reads (option_and_then (λ ws. line_after ws keywords.Types) (words_of rest.now)) command.new result }
 {
     let refused = ShellRefusal::ScriptSyntax;
     let (name, letters) = two_words(rest).ok_or(refused)?;
     let name = the_name(name).ok_or(refused)?;
     let types = the_letters(letters).ok_or(refused)?;
     *command = Command::Edit(name, Edit::Types(types));
-    Ok(Asked::Change)
+    Ok(())
 }
 
 #[inline(never)]
-fn drop_graph(rest: &[u8], command: &mut Command) -> Result<Asked, ShellRefusal>
-    ensures { Asks (option_and_then (λ ws. line_after ws keywords.Drop) (words_of rest.now)) command.new result }
+fn drop_graph(rest: &[u8], command: &mut Command) -> Result<(), ShellRefusal>
+    ensures { Reads (option_and_then (λ ws. line_after ws keywords.Drop) (words_of rest.now)) command.new result }
 {
     let refused = ShellRefusal::ScriptSyntax;
     let name = the_name(one_word(rest).ok_or(refused)?).ok_or(refused)?;
     *command = Command::Drop(name);
-    Ok(Asked::Change)
+    Ok(())
 }
 
 #[inline(never)]
-fn show(rest: &[u8]) -> Result<Asked, ShellRefusal>
-    ensures { (c : Command) → Asks (option_and_then (λ ws. line_after ws keywords.Show) (words_of rest.now)) c result }
+fn show(rest: &[u8], asked: &mut Asked) -> Result<(), ShellRefusal>
+    ensures { (c : Command) → Asks (option_and_then (λ ws. line_after ws keywords.Show) (words_of rest.now)) c asked.new result }
 {
     let refused = ShellRefusal::ScriptSyntax;
     let name = the_name(one_word(rest).ok_or(refused)?).ok_or(refused)?;
-    Ok(Asked::Ask(Query::Show(name)))
+    *asked = Asked::Ask(Query::Show(name));
+    Ok(())
 }
 
 #[inline(never)]
-fn save(rest: &[u8]) -> Result<Asked, ShellRefusal>
-    ensures { (c : Command) → Asks (option_and_then (λ ws. line_after ws keywords.Save) (words_of rest.now)) c result }
+fn save(rest: &[u8], asked: &mut Asked) -> Result<(), ShellRefusal>
+    ensures { (c : Command) → Asks (option_and_then (λ ws. line_after ws keywords.Save) (words_of rest.now)) c asked.new result }
 {
     let refused = ShellRefusal::ScriptSyntax;
     let name = the_name(one_word(rest).ok_or(refused)?).ok_or(refused)?;
-    Ok(Asked::Ask(Query::Save(name)))
+    *asked = Asked::Ask(Query::Save(name));
+    Ok(())
 }
 
 #[inline(never)]
-fn load(rest: &[u8]) -> Result<Asked, ShellRefusal>
-    ensures { (c : Command) → Asks (option_and_then (λ ws. line_after ws keywords.Load) (words_of rest.now)) c result }
+fn load(rest: &[u8], asked: &mut Asked) -> Result<(), ShellRefusal>
+    ensures { (c : Command) → Asks (option_and_then (λ ws. line_after ws keywords.Load) (words_of rest.now)) c asked.new result }
 {
     let refused = ShellRefusal::ScriptSyntax;
     let (name, rule) = two_words(rest).ok_or(refused)?;
     let name = the_name(name).ok_or(refused)?;
     let rule = the_rule(rule).ok_or(refused)?;
-    Ok(Asked::Load(name, rule))
+    *asked = Asked::Load(name, rule);
+    Ok(())
 }
 
 #[inline(never)]
-fn lengths(rest: &[u8], command: &mut Command) -> Result<Asked, ShellRefusal>
-    ensures { Asks (option_and_then (λ ws. line_after ws keywords.Lengths) (words_of rest.now)) command.new result }
+fn lengths(rest: &[u8], command: &mut Command) -> Result<(), ShellRefusal>
+    ensures { Reads (option_and_then (λ ws. line_after ws keywords.Lengths) (words_of rest.now)) command.new result }
 {
     let refused = ShellRefusal::ScriptSyntax;
     let (graph, rest) = split_word(rest).ok_or(refused)?;
@@ -448,13 +468,13 @@ fn lengths(rest: &[u8], command: &mut Command) -> Result<Asked, ShellRefusal>
     let (directed, min, max, seed) = drawn(rest).ok_or(refused)?;
     let spec = LengthsSpec { directed, min, max };
     *command = Command::Lengths(graph, spec, seed);
-    Ok(Asked::Change)
+    Ok(())
 }
 
 #[inline(never)]
-fn set(alloc: Global, rest: &[u8], command: &mut Command) -> Result<Asked, ShellRefusal>
+fn set(alloc: Global, rest: &[u8], command: &mut Command) -> Result<(), ShellRefusal>
     requires { HasTexts (words_of rest.now) }
-    ensures { Asks (option_and_then (λ ws. line_after ws keywords.Set) (words_of rest.now)) command.new result }
+    ensures { Reads (option_and_then (λ ws. line_after ws keywords.Set) (words_of rest.now)) command.new result }
 {
     let refused = ShellRefusal::ScriptSyntax;
     let (name, place, field, value) = four_words(rest).ok_or(refused)?;
@@ -462,7 +482,7 @@ fn set(alloc: Global, rest: &[u8], command: &mut Command) -> Result<Asked, Shell
     let place = the_place(place, field).ok_or(refused)?;
     let value = the_value(alloc, value)?;
     *command = Command::Edit(name, Edit::Set(place, value));
-    Ok(Asked::Change)
+    Ok(())
 }
 
 // The value, for which memory is taken where it is a text.
@@ -479,9 +499,9 @@ fn the_value(alloc: Global, word: Word<'_>) -> Result<Util, ShellRefusal>
 }
 
 #[inline(never)]
-fn label(alloc: Global, rest: &[u8], command: &mut Command) -> Result<Asked, ShellRefusal>
+fn label(alloc: Global, rest: &[u8], command: &mut Command) -> Result<(), ShellRefusal>
     requires { HasTexts (words_of rest.now) }
-    ensures { Asks (option_and_then (λ ws. line_after ws keywords.Label) (words_of rest.now)) command.new result }
+    ensures { Reads (option_and_then (λ ws. line_after ws keywords.Label) (words_of rest.now)) command.new result }
 {
     let refused = ShellRefusal::ScriptSyntax;
     let (name, vertex, bytes) = three_words(rest).ok_or(refused)?;
@@ -489,20 +509,20 @@ fn label(alloc: Global, rest: &[u8], command: &mut Command) -> Result<Asked, She
     let vertex = the_vertex(vertex).ok_or(refused)?;
     let bytes = the_text(bytes).ok_or(refused)?;
     *command = Command::Edit(name, Edit::Label(vertex, text(alloc, bytes)?));
-    Ok(Asked::Change)
+    Ok(())
 }
 
 #[inline(never)]
-fn id(alloc: Global, rest: &[u8], command: &mut Command) -> Result<Asked, ShellRefusal>
+fn id(alloc: Global, rest: &[u8], command: &mut Command) -> Result<(), ShellRefusal>
     requires { HasTexts (words_of rest.now) }
-    ensures { Asks (option_and_then (λ ws. line_after ws keywords.Id) (words_of rest.now)) command.new result }
+    ensures { Reads (option_and_then (λ ws. line_after ws keywords.Id) (words_of rest.now)) command.new result }
 {
     let refused = ShellRefusal::ScriptSyntax;
     let (name, bytes) = two_words(rest).ok_or(refused)?;
     let name = the_name(name).ok_or(refused)?;
     let bytes = the_text(bytes).ok_or(refused)?;
     *command = Command::Edit(name, Edit::Id(text(alloc, bytes)?));
-    Ok(Asked::Change)
+    Ok(())
 }
 
 fn is_comment(line: &[u8]) -> bool

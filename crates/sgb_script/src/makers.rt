@@ -6,11 +6,11 @@ ghost use Rattle.sgb_script.specs.Words.{words_of};
 ghost use Rattle.sgb_script.specs.Makers.{maker_after, board, simplex, subsets, perms, random, drawn, described};
 ghost use Rattle.sgb_script.specs.Line.{making};
 ghost use Rattle.sgb_script.specs.Private.Words.{HasTexts};
-ghost use Rattle.sgb_script.specs.Private.Reading.{Asks, ReadsMaker};
+ghost use Rattle.sgb_script.specs.Private.Reading.{Reads, ReadsMaker};
 ghost use Rattle.sgb_script.specs.declared.makers.Kind.TheVariants as kinds;
 
 use crate::arguments::{the_bits, the_flag, the_name, the_number, the_seed, the_text};
-use crate::command::{Asked, Command, Maker};
+use crate::command::{Command, Maker};
 use crate::numbers::is_yes;
 use crate::refusal::ShellRefusal;
 use crate::text::text;
@@ -43,16 +43,16 @@ pub(crate) fn make(
     kind: Kind,
     rest: &[u8],
     command: &mut Command,
-) -> Result<Asked, ShellRefusal>
+) -> Result<(), ShellRefusal>
     requires { HasTexts (words_of rest.now) }
-    ensures { Asks (option_and_then (making kind) (words_of rest.now)) command.new result }
+    ensures { Reads (option_and_then (making kind) (words_of rest.now)) command.new result }
 {
     let refused = ShellRefusal::ScriptSyntax;
     let (name, rest) = split_word(rest).ok_or(refused)?;
     let name = the_name(name).ok_or(refused)?;
     let maker = maker_after(alloc, kind, rest)?;
     *command = Command::Make(name, maker);
-    Ok(Asked::Change)
+    Ok(())
 }
 
 // What the words behind the name ask for.

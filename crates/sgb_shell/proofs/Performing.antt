@@ -27,7 +27,7 @@ use Rattle.sgb_script.specs.Words.{words_of}
 use Rattle.sgb_script.specs.declared.refusal.ShellRefusal.{ShellRefusal}
 use Rattle.sgb_script.specs.declared.refusal.ShellRefusal.TheVariants.{NoRoom, CheckWrong, Syntax, BadSpecs, LengthRange, TooLarge, NoGraph, BadOperand, ScriptSyntax, TableFull, NameTaken, NothingToUndo, NothingToRedo, JournalFull, Stuck}
 use Rattle.sgb_shell.specs.Lines.{all_but_last}
-use Rattle.sgb_shell.specs.Private.Performing.{Kept, IsBegun, Does, Answers, by_command, by_line, by_unit, lists_of, answer_from}
+use Rattle.sgb_shell.specs.Private.Performing.{Kept, IsBegun, Does, Answers, by_command, by_line, by_unit, is_change, lists_of, answer_from}
 use Rattle.sgb_shell.specs.Private.Gathering.{IsRefused}
 use Rattle.sgb_script.specs.Refusal.{is_no_room}
 use Rattle.sgb_session.specs.State.{empty}
@@ -185,6 +185,16 @@ redid old new (Err (journals.Machine f)) b d nothing no_room full refused same s
     }
 
 -- ---- the line that was read
+
+pub change_is : (asked : Asked) → is_change asked ≡ true → asked ≡ asks.Change
+change_is asks.Nothing e = cc
+change_is asks.Change e = refl
+change_is asks.Undo e = cc
+change_is asks.Redo e = cc
+change_is (asks.Ask q) e = cc
+change_is (asks.Load name rule) e = cc
+change_is asks.Group e = cc
+change_is asks.End e = cc
 
 -- the command of the line stands in a place of its own
 pub asks_does : (old new : Kept) (o : Option Line) (c : Command) (asked asked' : Asked) (answer : Answer) → o ≡ Some (line_with c asked) → asked ≡ asked'

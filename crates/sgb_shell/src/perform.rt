@@ -1,12 +1,13 @@
 //! Does what a line says to the session's journal.
-ghost use Rattle.std.specs.Prelude.{◌≡◌, true, Some, codes};
+ghost use Rattle.std.specs.Prelude.{◌≡◌, false, true, Some, codes};
 ghost use Rattle.std.specs.Str.{bytes_eq};
-ghost use Rattle.sgb_script.specs.Line.{line_of};
+ghost use Rattle.sgb_script.specs.Line.{line_of, line_with};
+ghost use Rattle.sgb_script.specs.declared.command.Command.{Command};
 ghost use Rattle.sgb_script.specs.declared.command.Command.TheVariants as commands;
 ghost use Rattle.sgb_session.specs.State.{is_large};
 ghost use Rattle.sgb_shell.specs.declared.answer.Answer.TheVariants.{Refused};
 ghost use Rattle.sgb_groups.specs.declared.grouped.GroupedCommand.TheVariants.{One};
-ghost use Rattle.sgb_shell.specs.Private.Performing.{IsBegun, Does, Answers, Saves, by_command, by_line, answer_from, refusal_from};
+ghost use Rattle.sgb_shell.specs.Private.Performing.{IsBegun, Does, Answers, Saves, by_command, by_line, is_change, answer_from, refusal_from};
 ghost use Rattle.sgb_script.specs.declared.command.Line.TheVariants.{Undo, Redo};
 
 use crate::answer::Answer;
@@ -78,16 +79,48 @@ fn perform_words(
     ensures { IsBegun journal.old → Does (by_line (line_of line.now)) journal.old journal.new answer.new }
 {
     let mut command = Command::Next;
-    match parse_onto(alloc, line, &mut command) {
-        Ok(Asked::Nothing) => *answer = Answer::Silent,
-        Ok(Asked::Change) => change_by_one(alloc, journal, &mut command, answer),
-        Ok(Asked::Undo) => undo(journal, answer),
-        Ok(Asked::Redo) => redo(journal, answer),
-        Ok(Asked::Ask(query)) => *answer = ask(alloc, journal.machine().session(), query),
-        Ok(Asked::Load(_, _)) => *answer = Answer::Refused(ShellRefusal::ScriptSyntax),
-        Ok(Asked::Group) => *answer = Answer::Refused(ShellRefusal::ScriptSyntax),
-        Ok(Asked::End) => *answer = Answer::Refused(ShellRefusal::ScriptSyntax),
+    let mut asked = Asked::Change;
+    match parse_onto(alloc, line, &mut command, &mut asked) {
+        Ok(()) => {
+            if is_change(&asked) {
+                change_by_one(alloc, journal, &mut command, answer)
+            } else {
+                answer_other(alloc, journal, asked, answer)
+            }
+        }
         Err(refusal) => *answer = Answer::Refused(refusal),
+    }
+}
+
+#[inline(always)]
+fn is_change(asked: &Asked) -> bool
+    ensures { result ≡ is_change asked.now }
+{
+    matches!(asked, Asked::Change)
+}
+
+// Does what a line says that has no command.
+// It stands apart, so that a command's line makes no room for the names of these.
+#[inline(never)]
+fn answer_other(
+    alloc: Global,
+    journal: &mut Journal<GroupedSession>,
+    asked: Asked,
+    answer: &mut Answer,
+)
+    requires other { is_change asked ≡ false }
+    ensures { (command : Command) → IsBegun journal.old
+        → Does (by_line (Some (line_with command asked))) journal.old journal.new answer.new }
+{
+    match asked {
+        Asked::Nothing => *answer = Answer::Silent,
+        Asked::Change => unreachable!(),
+        Asked::Undo => undo(journal, answer),
+        Asked::Redo => redo(journal, answer),
+        Asked::Ask(query) => *answer = ask(alloc, journal.machine().session(), query),
+        Asked::Load(_, _) => *answer = Answer::Refused(ShellRefusal::ScriptSyntax),
+        Asked::Group => *answer = Answer::Refused(ShellRefusal::ScriptSyntax),
+        Asked::End => *answer = Answer::Refused(ShellRefusal::ScriptSyntax),
     }
 }
 
@@ -119,8 +152,9 @@ fn change_by_one(
 )
     ensures { IsBegun journal.old → Does (by_command (One command.old)) journal.old journal.new answer.new }
 {
-    match KeptCommand::take(alloc, command) {
-        Ok(kept) => apply(journal, kept, answer),
+    let mut kept = KeptCommand::next();
+    match kept.take(alloc, command) {
+        Ok(()) => apply(journal, kept, answer),
         Err(_) => *answer = Answer::Refused(refusal_without_room(journal, command)),
     }
 }

@@ -1,5 +1,5 @@
 -- What a line or a unit does to the session's journal.
-use Rattle.std.specs.Prelude.{◌≡◌, Bool, if◌then◌else◌, Option, Result, Ok, Err}
+use Rattle.std.specs.Prelude.{◌≡◌, Bool, true, false, if◌then◌else◌, Option, Result, Ok, Err}
 use Rattle.sgb_graph.specs.Graph.{GraphOf}
 use Rattle.sgb_undo.specs.History.{History, IsJournal}
 use Rattle.sgb_undo.specs.declared.refusal.JournalRefusal.{JournalRefusal}
@@ -10,6 +10,8 @@ use Rattle.sgb_groups.specs.declared.grouped.GroupedCommand.{GroupedCommand}
 use Rattle.sgb_groups.specs.declared.grouped.GroupedDelta.{GroupedDelta}
 use Rattle.sgb_groups.specs.declared.grouped.GroupedReply.{GroupedReply}
 use Rattle.sgb_groups.specs.Grouped.{step, before}
+use Rattle.sgb_script.specs.declared.command.Asked.{Asked}
+use Rattle.sgb_script.specs.declared.command.Asked.TheVariants as asks
 use Rattle.sgb_script.specs.declared.command.Line.{Line}
 use Rattle.sgb_script.specs.declared.command.Query.{Query}
 use Rattle.sgb_script.specs.declared.refusal.ShellRefusal.{ShellRefusal}
@@ -52,6 +54,11 @@ by_line line no_room l = line_told no_room l line
 
 abbrev pub by_unit : ScriptUnit → Telling
 by_unit u no_room l = unit_told no_room l u
+
+-- what a line asks for is the command that was read of it
+abbrev pub is_change : Asked → Bool
+is_change asks.Change = true
+is_change asked = false
 
 -- it was done, and wanted for memory or did not
 pub record Does (tells : Telling) (old new : Kept) (answer : Answer) : Type 0 where
