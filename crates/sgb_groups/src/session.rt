@@ -6,10 +6,12 @@ ghost use Rattle.sgb_groups.specs.Private.Kept.{grouped_of, is_single, PerformsO
 ghost use Rattle.sgb_groups.specs.declared.grouped.GroupedCommand.TheVariants.{One};
 ghost use Rattle.sgb_session.specs.State.{is_large, Performs, told};
 ghost use Rattle.sgb_script.specs.Refusal.{is_no_room};
+ghost use Rattle.sgb_script.specs.declared.command.Command.TheVariants as commands;
+ghost use Rattle.sgb_script.specs.declared.command.Maker.TheVariants as makers;
 
 use crate::grouped::{GroupedDelta, GroupedReply};
 use crate::kept::{Kept, KeptCommand};
-use sgb_script::{Command, Maker, ShellRefusal};
+use sgb_script::{Command, Maker, Name, ShellRefusal};
 use sgb_session::{Delta, Reply, Session};
 use sgb_undo::{GroupRefusal, Reversible, apply_all, revert_all};
 use std::alloc::{AllocError, Global};
@@ -163,12 +165,26 @@ fn perform(
         Kept::Seed(seed) => session.seed_anew(*seed, delta, reply),
         Kept::Next => session.draw(delta, reply),
         Kept::Unif(bound) => session.draw_below(*bound, delta, reply),
-        Kept::Empty(name, n) => session.make(*name, &Maker::Empty(*n), delta, reply),
+        Kept::Empty(name, n) => make_empty(session, name, *n, delta, reply),
         Kept::Edit(name, edit) => session.edit(name, edit, delta, reply),
         Kept::Drop(name) => session.drop_graph(name, delta, reply),
         Kept::Large(large) => perform_large(session, large, delta, reply),
         Kept::Group(_) => unreachable!(),
     }
+}
+
+// Makes a graph without arcs. What its call allots is no part of the other commands' calls.
+#[inline(never)]
+fn make_empty(
+    session: &mut Session,
+    name: &Name,
+    n: i64,
+    delta: &mut Delta,
+    reply: &mut Reply,
+) -> Result<(), ShellRefusal>
+    ensures { Performs session.old session.new (commands.Make name.now (makers.Empty n)) (told delta.new reply.new result) }
+{
+    session.make(*name, &Maker::Empty(n), delta, reply)
 }
 
 // Performs a command that stands in a box. What its call allots is no part of the other commands' calls.

@@ -12,9 +12,9 @@ pub const NAME_LIMIT: usize = 32;
 /// memory, and is copied like a number.
 #[derive(Clone, Copy, Debug)]
 pub struct Name {
-    // The bytes of the name, and zeros behind them.
+    // The bytes of the name, and zeros behind them. Their count has 32 bits, so that a name is moved by whole words.
     bytes: [u8; NAME_LIMIT],
-    len: u8,
+    len: u32,
 }
 
 impl Model for Name {
@@ -75,7 +75,7 @@ impl Name {
         padded[..bytes.len()].copy_from_slice(bytes);
         Some(Name {
             bytes: padded,
-            len: bytes.len() as u8,
+            len: bytes.len() as u32,
         })
     }
 
@@ -85,7 +85,7 @@ impl Name {
         ensures value { result.now ≡ self.now }
         ensures name { IsTrue (is_name self.now) }
     {
-        &self.bytes[..usize::from(self.len)]
+        &self.bytes[..self.len as usize]
     }
 }
 

@@ -108,6 +108,7 @@ impl Table {
     }
 
     /// Takes the last graph away.
+    #[inline(never)]
     pub(crate) fn pop(&mut self)
         requires { 0 < length self.old }
         ensures { self.new ≡ take (length self.old - 1) self.old }
@@ -116,6 +117,7 @@ impl Table {
     }
 
     /// Puts a graph at a place, before those that stand from there on.
+    #[inline(never)]
     pub(crate) fn insert(&mut self, place: usize, name: Name, graph: Boxed<Graph>)
         requires place { place ≤ length self.old }
         requires few { length self.old < 64 }
@@ -193,6 +195,7 @@ impl Table {
     }
 
     /// Gives the graph at a place its lengths back.
+    #[inline(never)]
     pub(crate) fn revert_lengths(&mut self, place: usize, delta: LengthsDelta)
         requires place { place < length self.old }
         requires fits { CanRevertLengths delta (graph_in self.old place) }

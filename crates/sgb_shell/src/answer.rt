@@ -37,6 +37,7 @@ pub(crate) enum Answer {
 }
 
 /// Prints the answer to the unit of a number, at the session after it.
+// Each answer has a call of its own, so that a reply is printed without the room for the others.
 #[inline]
 pub(crate) fn print_answer<W: Write>(
     writer: &mut MeteredWriter<W>,
@@ -49,7 +50,7 @@ pub(crate) fn print_answer<W: Write>(
 {
     match answer {
         Answer::Silent => Ok(()),
-        Answer::Undone => put(writer, b"undone\n"),
+        Answer::Undone => print_undone(writer),
         Answer::Replied(GroupedReply::One(reply)) => print_reply(writer, reply),
         Answer::Replied(GroupedReply::Group(members)) => print_group(writer, members.as_slice()),
         Answer::Generator => print_generator(writer, session),
@@ -58,6 +59,14 @@ pub(crate) fn print_answer<W: Write>(
         Answer::Saved(saved) => print_saved(writer, saved),
         Answer::Refused(refusal) => print_refusal(writer, number, *refusal),
     }
+}
+
+#[inline(never)]
+fn print_undone<W: Write>(writer: &mut MeteredWriter<W>) -> Result<(), Failed>
+    ensures { Prints (W.contents writer.old.inner) (W.contents writer.new.inner) writer.old.failed writer.new.failed
+        result (codes "undone\n") }
+{
+    put(writer, b"undone\n")
 }
 
 #[inline]
@@ -116,6 +125,7 @@ fn print_edge<W: Write>(
 }
 
 // The replies of a group's members, and how many they are.
+#[inline(never)]
 fn print_group<W: Write>(writer: &mut MeteredWriter<W>, members: &[Reply]) -> Result<(), Failed>
     ensures { Prints (W.contents writer.old.inner) (W.contents writer.new.inner) writer.old.failed writer.new.failed
         result (flat_map reply_text members.now ++ grouped_count_text (length members.now)) }
@@ -145,6 +155,7 @@ fn print_grouped_count<W: Write>(writer: &mut MeteredWriter<W>, count: usize) ->
     )
 }
 
+#[inline(never)]
 fn print_generator<W: Write>(writer: &mut MeteredWriter<W>, session: &Session) -> Result<(), Failed>
     ensures { Prints (W.contents writer.old.inner) (W.contents writer.new.inner) writer.old.failed writer.new.failed
         result (generator_text session.now) }
@@ -161,6 +172,7 @@ fn print_generator<W: Write>(writer: &mut MeteredWriter<W>, session: &Session) -
     page.print(writer)
 }
 
+#[inline(never)]
 fn print_saved<W: Write>(writer: &mut MeteredWriter<W>, saved: &Saved) -> Result<(), Failed>
     ensures { Prints (W.contents writer.old.inner) (W.contents writer.new.inner) writer.old.failed writer.new.failed
         result (saved.now.text ++ codes "cleaned " ++ decimal saved.now.cleaned ++ codes "\n") }
@@ -177,6 +189,7 @@ fn print_saved<W: Write>(writer: &mut MeteredWriter<W>, saved: &Saved) -> Result
     )
 }
 
+#[inline(never)]
 fn print_refusal<W: Write>(
     writer: &mut MeteredWriter<W>,
     number: u64,
@@ -202,6 +215,7 @@ fn print_refusal<W: Write>(
 }
 
 // The number of graphs, and each graph as it was made.
+#[inline(never)]
 fn print_list<W: Write>(writer: &mut MeteredWriter<W>, session: &Session) -> Result<(), Failed>
     ensures { Prints (W.contents writer.old.inner) (W.contents writer.new.inner) writer.old.failed writer.new.failed
         result (list_text session.now) }
@@ -242,6 +256,7 @@ fn print_entry<W: Write>(
 }
 
 // A place that the table has not prints nothing; no answer names one.
+#[inline(never)]
 fn print_graph_at<W: Write>(
     writer: &mut MeteredWriter<W>,
     session: &Session,

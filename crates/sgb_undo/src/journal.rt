@@ -1,6 +1,6 @@
 //! The journal of a machine.
 
-ghost use Rattle.std.specs.Prelude.{◌≡◌, ◌↔◌, ◌<◌, ◌≤◌, ◌+◌, ◌⊎◌, ⊤, [], length, true, slice_get, vec_len, vec_capacity, Some, OnOk, OnErr, IfOk, IfErr, IsErr, IsErrOf, IsTrue};
+ghost use Rattle.std.specs.Prelude.{◌≡◌, ◌↔◌, ◌<◌, ◌≤◌, ◌+◌, ◌⊎◌, ⊤, [], length, take, true, slice_get, vec_len, vec_capacity, Some, OnOk, OnErr, IfOk, IfErr, IsErr, IsErrOf, IsTrue};
 ghost use Rattle.sgb_undo.specs.Outcome.{Refused};
 ghost use Rattle.sgb_undo.specs.History.{grows_at};
 ghost use Rattle.sgb_undo.specs.Private.Kept.{places};
@@ -82,7 +82,7 @@ impl<M: Reversible> Journal<M> {
         }
         match self.machine.apply_onto(&command, &mut self.deltas) {
             Ok(reply) => {
-                self.commands.truncate(standing);
+                forget(&mut self.commands, standing);
                 self.commands.push_reserved(command);
                 Ok(reply)
             }
@@ -175,6 +175,17 @@ impl<M: Reversible> Journal<M> {
         ensures sound { IsJournal M.step M.before self.now }
     {
         &self.machine
+    }
+}
+
+/// Forgets the commands behind the first so many. Mostly there are none.
+#[inline(always)]
+fn forget<C: Drop>(commands: &mut Vec<C>, standing: usize)
+    ensures items { commands.new.items ≡ take standing commands.old.items }
+    ensures capacity { vec_capacity commands.new ≡ vec_capacity commands.old }
+{
+    if commands.len() > standing {
+        commands.truncate(standing);
     }
 }
 

@@ -17,7 +17,7 @@ answer g c = record {
 -- the commands and the deltas in the end
 commands : (g : Over) (c : After-push_reserved g) → c.push_reserved.new.self.items ≡ take (vec_len c.self.inside.deltas) c.self.inside.commands.items ++ c.args.command ∷ []
 commands g c =
-    commands-apply c.self.inside.commands.items _ _ (vec_len c.self.inside.deltas) _ c.args.command _ c.make_place.ensures.commands c.len-standing.ensures c.truncate.ensures.items c.push_reserved.ensures.items
+    commands-apply c.self.inside.commands.items _ _ (vec_len c.self.inside.deltas) _ c.args.command _ c.make_place.ensures.commands c.len-standing.ensures c.forget.ensures.items c.push_reserved.ensures.items
 
 deltas : (g : Over) (c : After-push_reserved g) → c.apply_onto.new.deltas.items ≡ c.self.inside.deltas.items ++ c.in-Ok.ensures.accepted.delta ∷ []
 deltas g c =
@@ -48,7 +48,7 @@ invariant_of-self-in-Ok g c =
     let placed : vec_len c.make_place.new.deltas < places (vec_capacity c.make_place.new.commands) (vec_capacity c.make_place.new.deltas) = search rules in
     let same = ap length c.make_place.ensures.deltas in
     let count : vec_len c.self.inside.deltas ≡ vec_len c.make_place.new.deltas = omega (arith, c.make_place.new.deltas.ok.0, c.self.inside.deltas.ok.0) in
-    let place = places-same count (c.push_reserved.ensures.capacity ∙ c.truncate.ensures.capacity) c.apply_onto.ensures.capacity placed in
+    let place = places-same count (c.push_reserved.ensures.capacity ∙ c.forget.ensures.capacity) c.apply_onto.ensures.capacity placed in
     IsSound-apply c.self.invariant (answer g c) c.self.inside.deltas.ok.0 room place (commands g c) (deltas g c)
 
 pub returns-in-Ok-clause-ok : goal.returns-in-Ok-clause-ok
