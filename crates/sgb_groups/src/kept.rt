@@ -2,11 +2,12 @@
 ghost use Rattle.std.specs.Prelude.{◌≡◌, true, IfOk, OnOk, OnErr};
 ghost use Rattle.sgb_groups.specs.Private.Kept.{grouped_of, is_single};
 ghost use Rattle.sgb_groups.specs.declared.grouped.GroupedCommand.TheVariants.{One, Group};
+ghost use Rattle.sgb_script.specs.Line.{command_of};
 ghost use Rattle.sgb_script.specs.declared.command.Command.TheVariants.{Next};
 ghost use Rattle.sgb_session.specs.State.{is_large};
 
 use sgb_graph::{ArcNo, Items};
-use sgb_script::{Command, Edit, Maker, Name};
+use sgb_script::{Command, Edit, Maker, ShortCommand};
 use std::alloc::{AllocError, Global};
 use std::marker::Model;
 use std::mem;
@@ -23,12 +24,7 @@ pub struct KeptCommand {
 
 #[derive(Drop)]
 pub(crate) enum Kept {
-    Seed(i64),
-    Next,
-    Unif(i64),
-    Empty(Name, i64),
-    Edit(Name, Edit),
-    Drop(Name),
+    Short(ShortCommand),
     // What makes more than vertices, or draws lengths.
     Large(Box<Command>),
     Group(Items<Command>),
@@ -49,7 +45,17 @@ impl KeptCommand {
     pub fn next() -> KeptCommand
         ensures { result ≡ One Next }
     {
-        KeptCommand { kept: Kept::Next }
+        KeptCommand::short(ShortCommand::Next)
+    }
+
+    /// A short command by itself.
+    #[inline(always)]
+    pub fn short(command: ShortCommand) -> KeptCommand
+        ensures { result ≡ One (command_of command) }
+    {
+        KeptCommand {
+            kept: Kept::Short(command),
+        }
     }
 
     /// A group of these commands.
@@ -93,15 +99,17 @@ fn keep(alloc: Global, command: &mut Command, kept: &mut Kept) -> Result<(), All
     ensures large { OnErr result (is_large command.old ≡ true) }
 {
     match command {
-        Command::Seed(seed) => *kept = Kept::Seed(*seed),
-        Command::Next => *kept = Kept::Next,
-        Command::Unif(bound) => *kept = Kept::Unif(*bound),
+        Command::Seed(seed) => *kept = Kept::Short(ShortCommand::Seed(*seed)),
+        Command::Next => *kept = Kept::Short(ShortCommand::Next),
+        Command::Unif(bound) => *kept = Kept::Short(ShortCommand::Unif(*bound)),
         Command::Make(name, maker) => match maker {
-            Maker::Empty(n) => *kept = Kept::Empty(*name, *n),
+            Maker::Empty(n) => *kept = Kept::Short(ShortCommand::Empty(*name, *n)),
             _ => *kept = Kept::Large(boxed(alloc, command)?),
         },
-        Command::Edit(name, edit) => *kept = Kept::Edit(*name, mem::replace(edit, NO_EDIT)),
-        Command::Drop(name) => *kept = Kept::Drop(*name),
+        Command::Edit(name, edit) => {
+            *kept = Kept::Short(ShortCommand::Edit(*name, mem::replace(edit, NO_EDIT)))
+        }
+        Command::Drop(name) => *kept = Kept::Short(ShortCommand::Drop(*name)),
         _ => *kept = Kept::Large(boxed(alloc, command)?),
     }
     Ok(())

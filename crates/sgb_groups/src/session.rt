@@ -5,13 +5,14 @@ ghost use Rattle.sgb_groups.specs.Grouped.{step, before, can_revert, may_want};
 ghost use Rattle.sgb_groups.specs.Private.Kept.{grouped_of, is_single, PerformsOne};
 ghost use Rattle.sgb_groups.specs.declared.grouped.GroupedCommand.TheVariants.{One};
 ghost use Rattle.sgb_session.specs.State.{is_large, Performs, told};
+ghost use Rattle.sgb_script.specs.Line.{command_of};
 ghost use Rattle.sgb_script.specs.Refusal.{is_no_room};
 ghost use Rattle.sgb_script.specs.declared.command.Command.TheVariants as commands;
 ghost use Rattle.sgb_script.specs.declared.command.Maker.TheVariants as makers;
 
 use crate::grouped::{GroupedDelta, GroupedReply};
 use crate::kept::{Kept, KeptCommand};
-use sgb_script::{Command, Maker, Name, ShellRefusal};
+use sgb_script::{Command, Maker, Name, ShellRefusal, ShortCommand};
 use sgb_session::{Delta, Reply, Session};
 use sgb_undo::{GroupRefusal, Reversible, apply_all, revert_all};
 use std::alloc::{AllocError, Global};
@@ -162,14 +163,29 @@ fn perform(
     ensures { PerformsOne session.old session.new (grouped_of command.now) (told delta.new reply.new result) }
 {
     match command {
-        Kept::Seed(seed) => session.seed_anew(*seed, delta, reply),
-        Kept::Next => session.draw(delta, reply),
-        Kept::Unif(bound) => session.draw_below(*bound, delta, reply),
-        Kept::Empty(name, n) => make_empty(session, name, *n, delta, reply),
-        Kept::Edit(name, edit) => session.edit(name, edit, delta, reply),
-        Kept::Drop(name) => session.drop_graph(name, delta, reply),
+        Kept::Short(short) => perform_short(session, short, delta, reply),
         Kept::Large(large) => perform_large(session, large, delta, reply),
         Kept::Group(_) => unreachable!(),
+    }
+}
+
+// Performs a short command.
+#[inline(always)]
+fn perform_short(
+    session: &mut Session,
+    command: &ShortCommand,
+    delta: &mut Delta,
+    reply: &mut Reply,
+) -> Result<(), ShellRefusal>
+    ensures { Performs session.old session.new (command_of command.now) (told delta.new reply.new result) }
+{
+    match command {
+        ShortCommand::Seed(seed) => session.seed_anew(*seed, delta, reply),
+        ShortCommand::Next => session.draw(delta, reply),
+        ShortCommand::Unif(bound) => session.draw_below(*bound, delta, reply),
+        ShortCommand::Empty(name, n) => make_empty(session, name, *n, delta, reply),
+        ShortCommand::Edit(name, edit) => session.edit(name, edit, delta, reply),
+        ShortCommand::Drop(name) => session.drop_graph(name, delta, reply),
     }
 }
 

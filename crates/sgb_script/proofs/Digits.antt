@@ -149,7 +149,7 @@ no_plus (c ∷ cs) plus =
 
 -- ---- a few digits, read one by one
 
-digit_is : (c : ℕ) → IsInRange 48 57 c → digit_value c ≡ c - 48
+pub digit_is : (c : ℕ) → IsInRange 48 57 c → digit_value c ≡ c - 48
 digit_is c range = let same : digit_value c + 48 ≡ c = digit_value_digit c range in omega arith
 
 pub value_more : (value i : ℕ) (ds : List ℕ) → i < length ds → IsInRange 48 57 (get_or ds i 0) → digits_value_after 10 value (drop i ds) ≡ digits_value 10 ds

@@ -4,5 +4,6 @@ mod Digits
 mod Names
 mod Numbered
 mod Setting
+mod Spelled
 mod Splitting
 mod Texts

@@ -19,6 +19,8 @@ use Rattle.sgb_script.specs.declared.command.Query.TheVariants as queries
 use Rattle.sgb_script.specs.declared.command.Asked.{Asked}
 use Rattle.sgb_script.specs.declared.command.Asked.TheVariants as asks
 use Rattle.sgb_script.specs.declared.command.Command.{Command}
+use Rattle.sgb_script.specs.declared.command.ShortCommand.{ShortCommand}
+use Rattle.sgb_script.specs.declared.command.ShortCommand.TheVariants as shorts
 use Rattle.sgb_script.specs.declared.command.Line.{Line}
 use Rattle.sgb_script.specs.declared.command.Line.TheVariants.{Nothing, Change, Undo, Redo, Ask, Load, Group, End}
 
@@ -123,16 +125,26 @@ line_of line =
     if nat_lt 8192 (length line) || not (list_all is_printable_byte line) then None
     else (if slice_index line 0 == 35 then Some Nothing else option_and_then asked_of (words_of line))
 
--- the line whose command, where it has one, stands in a place of its own
-abbrev pub line_with : Command → Asked → Line
-line_with c asks.Nothing = Nothing
-line_with c asks.Change = Change c
-line_with c asks.Undo = Undo
-line_with c asks.Redo = Redo
-line_with c (asks.Ask query) = Ask query
-line_with c (asks.Load name rule) = Load name rule
-line_with c asks.Group = Group
-line_with c asks.End = End
+-- a short command is the command itself
+abbrev pub command_of : ShortCommand → Command
+command_of (shorts.Seed seed) = commands.Seed seed
+command_of shorts.Next = Next
+command_of (shorts.Unif bound) = Unif bound
+command_of (shorts.Empty name n) = Make name (makers.Empty n)
+command_of (shorts.Edit g edit) = Edit g edit
+command_of (shorts.Drop g) = Drop g
+
+-- the line whose command, where it has one, stands in a place of its own, one place for short ones and one for others
+abbrev pub line_with : ShortCommand → Command → Asked → Line
+line_with s c asks.Short = Change (command_of s)
+line_with s c asks.Nothing = Nothing
+line_with s c asks.Change = Change c
+line_with s c asks.Undo = Undo
+line_with s c asks.Redo = Redo
+line_with s c (asks.Ask query) = Ask query
+line_with s c (asks.Load name rule) = Load name rule
+line_with s c asks.Group = Group
+line_with s c asks.End = End
 
 -- ---- memory
 

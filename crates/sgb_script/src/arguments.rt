@@ -2,12 +2,12 @@
 ghost use Rattle.std.specs.Prelude.{◌≡◌};
 ghost use Rattle.std.specs.Option.{option_map, option_copied};
 ghost use Rattle.sgb_script.specs.Private.Words.{seen};
-ghost use Rattle.sgb_script.specs.Arguments.{the_number, the_flag, the_bits, the_seed, the_rule, the_vertex, the_arc, the_name, the_text, the_letters, the_place, place_in, value_in, vertex_field, arc_field, graph_field};
+ghost use Rattle.sgb_script.specs.Arguments.{the_number, the_flag, the_bits, the_seed, the_rule, the_vertex, the_name, the_text, the_letters, the_place, place_in, value_in, vertex_field, arc_field, graph_field};
 
 use crate::Name;
-use crate::numbers::{bits, in_32_bits, index, is_yes, number};
+use crate::numbers::{arc_no, bits, index, is_yes, number, vertex_no};
 use crate::words::Word;
-use sgb_graph::{ArcField, ArcNo, GraphField, Place, Types, Util, VertexField, VertexNo};
+use sgb_graph::{ArcField, GraphField, Place, Types, Util, VertexField, VertexNo};
 use sgb_make::Seed;
 use sgb_text::CheckRule;
 
@@ -65,15 +65,7 @@ pub(crate) fn the_vertex(word: Word<'_>) -> Option<VertexNo>
     ensures { result ≡ the_vertex (seen word.entry) }
 {
     let number = the_number(word)?;
-    Some(VertexNo(in_32_bits(number)))
-}
-
-#[inline(always)]
-pub(crate) fn the_arc(word: Word<'_>) -> Option<ArcNo>
-    ensures { result ≡ the_arc (seen word.entry) }
-{
-    let number = the_number(word)?;
-    Some(ArcNo(in_32_bits(number)))
+    Some(vertex_no(number))
 }
 
 #[inline(always)]
@@ -124,11 +116,11 @@ fn place_in(place: &[u8], field: &[u8]) -> Option<Place>
     match place {
         [b'V', digits @ ..] => {
             let vertex = index(digits)?;
-            Some(Place::Vertex(VertexNo(in_32_bits(vertex)), vertex_field(field)?))
+            Some(Place::Vertex(vertex_no(vertex), vertex_field(field)?))
         }
         [b'A', digits @ ..] => {
             let arc = index(digits)?;
-            Some(Place::Arc(ArcNo(in_32_bits(arc)), arc_field(field)?))
+            Some(Place::Arc(arc_no(arc), arc_field(field)?))
         }
         [b'G'] => Some(Place::Graph(graph_field(field)?)),
         _ => None,
@@ -142,8 +134,8 @@ pub(crate) fn value_in(word: &[u8]) -> Option<Util>
 {
     match word {
         [] => None,
-        [b'V', digits @ ..] => Some(Util::Vertex(VertexNo(in_32_bits(index(digits)?)))),
-        [b'A', digits @ ..] => Some(Util::Arc(ArcNo(in_32_bits(index(digits)?)))),
+        [b'V', digits @ ..] => Some(Util::Vertex(vertex_no(index(digits)?))),
+        [b'A', digits @ ..] => Some(Util::Arc(arc_no(index(digits)?))),
         _ => Some(Util::Int(number(word)?)),
     }
 }

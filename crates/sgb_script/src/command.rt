@@ -1,4 +1,5 @@
 //! What a script can ask for.
+ghost use Rattle.std.specs.Prelude.{◌≡◌};
 
 use crate::Name;
 use sgb_combine::{ComplementSpec, GunionSpec, InducedSpec, LengthsSpec, ProductSpec};
@@ -23,6 +24,41 @@ pub enum Command {
     Lengths(Name, LengthsSpec, Seed),
     /// `drop G`: the graph leaves the table.
     Drop(Name),
+}
+
+/// A command of which a script has many. It takes little room, so that it can be kept where it was read.
+#[derive(Debug, Drop, PartialEq, Eq)]
+pub enum ShortCommand {
+    /// `seed S`.
+    Seed(i64),
+    /// `next`.
+    Next,
+    /// `unif M`.
+    Unif(i64),
+    /// `graph NAME N`.
+    Empty(Name, i64),
+    /// A graph of the table is edited.
+    Edit(Name, Edit),
+    /// `drop G`.
+    Drop(Name),
+}
+
+impl ShortCommand {
+    ghost use Rattle.sgb_script.specs.Line.{command_of};
+
+    /// The command itself.
+    pub fn command(self) -> Command
+        ensures { result ≡ command_of self }
+    {
+        match self {
+            ShortCommand::Seed(seed) => Command::Seed(seed),
+            ShortCommand::Next => Command::Next,
+            ShortCommand::Unif(bound) => Command::Unif(bound),
+            ShortCommand::Empty(name, n) => Command::Make(name, Maker::Empty(n)),
+            ShortCommand::Edit(name, edit) => Command::Edit(name, edit),
+            ShortCommand::Drop(name) => Command::Drop(name),
+        }
+    }
 }
 
 /// How a new graph is made. The names are those of graphs of the table, in the order of the line's words.
@@ -114,12 +150,15 @@ pub enum Line {
     End,
 }
 
-/// What a line asks for, where its command stands in a place of its own. Everything else is that of [`Line`].
+/// What a line asks for, where its command stands in a place of its own, of which there is another for a short one.
+/// Everything else is that of [`Line`].
 #[derive(Clone, Copy, Debug, PartialEq, Eq)]
 pub enum Asked {
     /// An empty line, a line of spaces or a comment.
     Nothing,
-    /// The command that was written to the place.
+    /// The command that was written to the place of a short one.
+    Short,
+    /// The command that was written to the place of any other.
     Change,
     /// `undo`.
     Undo,

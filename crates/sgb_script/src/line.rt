@@ -4,21 +4,25 @@ ghost use Rattle.std.specs.Option.{option_and_then};
 ghost use Rattle.std.specs.Str.{bytes_eq};
 ghost use Rattle.sgb_script.specs.Words.{words_of};
 ghost use Rattle.sgb_script.specs.Arguments.{the_value};
-ghost use Rattle.sgb_script.specs.Line.{line_of, line_with, asked_of, line_after, keyword_of, step_of, whole_of, takes_memory};
+ghost use Rattle.sgb_script.specs.Line.{line_of, line_with, command_of, asked_of, line_after, keyword_of, step_of, whole_of, takes_memory};
 ghost use Rattle.sgb_script.specs.Private.Words.{seen, AreTexts, HasTexts};
 ghost use Rattle.sgb_script.specs.Private.Reading.{is_text, Begins, Asks, Reads};
 ghost use Rattle.sgb_script.specs.declared.refusal.ShellRefusal.TheVariants.{NoRoom, ScriptSyntax};
 ghost use Rattle.sgb_script.specs.declared.line.Keyword.TheVariants as keywords;
 
 use crate::arguments::{
-    the_arc, the_letters, the_name, the_number, the_place, the_rule, the_text, the_vertex, value_in,
+    the_letters, the_name, the_place, the_rule, the_text, the_vertex, value_in,
 };
-use crate::command::{Asked, Command, Edit, Line, Query};
+use crate::command::{Asked, Command, Edit, Line, Query, ShortCommand};
 use crate::makers::{Kind, drawn, make};
+use crate::numbers::{arc_no, vertex_no};
 use crate::printable::is_printable;
 use crate::refusal::ShellRefusal;
 use crate::text::text;
-use crate::words::{Word, four_words, is_blank, one_word, split_word, three_words, two_words};
+use crate::words::{
+    Word, four_words, is_blank, one_number, one_word, split_word, three_numbers, three_words,
+    two_numbers, two_words,
+};
 use sgb_combine::LengthsSpec;
 use sgb_graph::Util;
 use std::alloc::Global;
@@ -71,20 +75,22 @@ pub fn parse(alloc: Global, line: &[u8]) -> Result<Line, ShellRefusal>
     ensures err { IfErr result (λ e. ((e ≡ ScriptSyntax) × (line_of line.now ≡ None))
         ⊎ ((e ≡ NoRoom) × IsTrue (takes_memory (line_of line.now)))) }
 {
+    let mut short = ShortCommand::Next;
     let mut command = Command::Next;
-    let mut asked = Asked::Change;
-    match parse_onto(alloc, line, &mut command, &mut asked) {
-        Ok(()) => Ok(line_with(command, asked)),
+    let mut asked = Asked::Short;
+    match parse_onto(alloc, line, &mut short, &mut command, &mut asked) {
+        Ok(()) => Ok(line_with(short, command, asked)),
         Err(refusal) => Err(refusal),
     }
 }
 
 // The line of a command that stands in a place of its own.
-fn line_with(command: Command, asked: Asked) -> Line
-    ensures { result ≡ line_with command asked }
+fn line_with(short: ShortCommand, command: Command, asked: Asked) -> Line
+    ensures { result ≡ line_with short command asked }
 {
     match asked {
         Asked::Nothing => Line::Nothing,
+        Asked::Short => Line::Change(short.command()),
         Asked::Change => Line::Change(command),
         Asked::Undo => Line::Undo,
         Asked::Redo => Line::Redo,
@@ -96,41 +102,48 @@ fn line_with(command: Command, asked: Asked) -> Line
 }
 
 /// Reads one line of a script as [`parse`] does, and writes what it asks for where another stood, and the command of a line
-/// that changes the session where another command stood. Of any other line that place tells nothing, and of a refused one
-/// neither does.
+/// that changes the session where another command stood, a short one in a place of its own. Of any other line these places
+/// tell nothing, and of a refused one none does.
 // A command is large: so it is written once, where the caller keeps it, and not handed up from call to call.
 #[inline(always)]
 pub fn parse_onto(
     alloc: Global,
     line: &[u8],
+    short: &mut ShortCommand,
     command: &mut Command,
     asked: &mut Asked,
 ) -> Result<(), ShellRefusal>
-    ensures ok { OnOk result (line_of line.now ≡ Some (line_with command.new asked.new)) }
+    ensures ok { OnOk result (line_of line.now ≡ Some (line_with short.new command.new asked.new)) }
     ensures err { IfErr result (λ e. ((e ≡ ScriptSyntax) × (line_of line.now ≡ None))
         ⊎ ((e ≡ NoRoom) × IsTrue (takes_memory (line_of line.now)))) }
 {
-    *asked = Asked::Change;
+    *asked = Asked::Short;
     match front_of(line) {
         Front::Nothing => {
             *asked = Asked::Nothing;
             Ok(())
         }
         Front::Other => Err(ShellRefusal::ScriptSyntax),
-        Front::Asks(Keyword::Seed, rest) => seed(rest, command),
-        Front::Asks(Keyword::Next, rest) => next(rest, command),
-        Front::Asks(Keyword::Unif, rest) => unif(rest, command),
-        Front::Asks(Keyword::Make(kind), rest) => make(alloc, kind, rest, command),
-        Front::Asks(Keyword::Arc, rest) => arc(rest, command),
-        Front::Asks(Keyword::Edge, rest) => edge(rest, command),
-        Front::Asks(Keyword::Cut, rest) => cut(rest, command),
-        Front::Asks(Keyword::Len, rest) => len(rest, command),
-        Front::Asks(Keyword::Set, rest) => set(alloc, rest, command),
-        Front::Asks(Keyword::Types, rest) => types(rest, command),
-        Front::Asks(Keyword::Label, rest) => label(alloc, rest, command),
-        Front::Asks(Keyword::Id, rest) => id(alloc, rest, command),
-        Front::Asks(Keyword::Lengths, rest) => lengths(rest, command),
-        Front::Asks(Keyword::Drop, rest) => drop_graph(rest, command),
+        Front::Asks(Keyword::Seed, rest) => seed(rest, short),
+        Front::Asks(Keyword::Next, rest) => next(rest, short),
+        Front::Asks(Keyword::Unif, rest) => unif(rest, short),
+        Front::Asks(Keyword::Make(kind), rest) => {
+            *asked = Asked::Change;
+            make(alloc, kind, rest, command)
+        }
+        Front::Asks(Keyword::Arc, rest) => arc(rest, short),
+        Front::Asks(Keyword::Edge, rest) => edge(rest, short),
+        Front::Asks(Keyword::Cut, rest) => cut(rest, short),
+        Front::Asks(Keyword::Len, rest) => len(rest, short),
+        Front::Asks(Keyword::Set, rest) => set(alloc, rest, short),
+        Front::Asks(Keyword::Types, rest) => types(rest, short),
+        Front::Asks(Keyword::Label, rest) => label(alloc, rest, short),
+        Front::Asks(Keyword::Id, rest) => id(alloc, rest, short),
+        Front::Asks(Keyword::Lengths, rest) => {
+            *asked = Asked::Change;
+            lengths(rest, command)
+        }
+        Front::Asks(Keyword::Drop, rest) => drop_graph(rest, short),
         Front::Asks(Keyword::Undo, rest) => undo(rest, asked),
         Front::Asks(Keyword::Redo, rest) => redo(rest, asked),
         Front::Asks(Keyword::Group, rest) => group(rest, asked),
@@ -254,11 +267,11 @@ fn is(word: &[u8], keyword: &str) -> bool
     word == keyword.as_bytes()
 }
 
-fn next(rest: &[u8], command: &mut Command) -> Result<(), ShellRefusal>
-    ensures { Reads (option_and_then (λ ws. line_after ws keywords.Next) (words_of rest.now)) command.new result }
+fn next(rest: &[u8], short: &mut ShortCommand) -> Result<(), ShellRefusal>
+    ensures { Reads (option_and_then (λ ws. line_after ws keywords.Next) (words_of rest.now)) (command_of short.new) result }
 {
     if is_blank(rest) {
-        *command = Command::Next;
+        *short = ShortCommand::Next;
         Ok(())
     } else {
         Err(ShellRefusal::ScriptSyntax)
@@ -266,7 +279,7 @@ fn next(rest: &[u8], command: &mut Command) -> Result<(), ShellRefusal>
 }
 
 fn undo(rest: &[u8], asked: &mut Asked) -> Result<(), ShellRefusal>
-    ensures { (c : Command) → Asks (option_and_then (λ ws. line_after ws keywords.Undo) (words_of rest.now)) c asked.new result }
+    ensures { (s : ShortCommand) (c : Command) → Asks (option_and_then (λ ws. line_after ws keywords.Undo) (words_of rest.now)) s c asked.new result }
 {
     if is_blank(rest) {
         *asked = Asked::Undo;
@@ -277,7 +290,7 @@ fn undo(rest: &[u8], asked: &mut Asked) -> Result<(), ShellRefusal>
 }
 
 fn redo(rest: &[u8], asked: &mut Asked) -> Result<(), ShellRefusal>
-    ensures { (c : Command) → Asks (option_and_then (λ ws. line_after ws keywords.Redo) (words_of rest.now)) c asked.new result }
+    ensures { (s : ShortCommand) (c : Command) → Asks (option_and_then (λ ws. line_after ws keywords.Redo) (words_of rest.now)) s c asked.new result }
 {
     if is_blank(rest) {
         *asked = Asked::Redo;
@@ -288,7 +301,7 @@ fn redo(rest: &[u8], asked: &mut Asked) -> Result<(), ShellRefusal>
 }
 
 fn group(rest: &[u8], asked: &mut Asked) -> Result<(), ShellRefusal>
-    ensures { (c : Command) → Asks (option_and_then (λ ws. line_after ws keywords.Group) (words_of rest.now)) c asked.new result }
+    ensures { (s : ShortCommand) (c : Command) → Asks (option_and_then (λ ws. line_after ws keywords.Group) (words_of rest.now)) s c asked.new result }
 {
     if is_blank(rest) {
         *asked = Asked::Group;
@@ -299,7 +312,7 @@ fn group(rest: &[u8], asked: &mut Asked) -> Result<(), ShellRefusal>
 }
 
 fn end(rest: &[u8], asked: &mut Asked) -> Result<(), ShellRefusal>
-    ensures { (c : Command) → Asks (option_and_then (λ ws. line_after ws keywords.End) (words_of rest.now)) c asked.new result }
+    ensures { (s : ShortCommand) (c : Command) → Asks (option_and_then (λ ws. line_after ws keywords.End) (words_of rest.now)) s c asked.new result }
 {
     if is_blank(rest) {
         *asked = Asked::End;
@@ -310,7 +323,7 @@ fn end(rest: &[u8], asked: &mut Asked) -> Result<(), ShellRefusal>
 }
 
 fn generator(rest: &[u8], asked: &mut Asked) -> Result<(), ShellRefusal>
-    ensures { (c : Command) → Asks (option_and_then (λ ws. line_after ws keywords.Gen) (words_of rest.now)) c asked.new result }
+    ensures { (s : ShortCommand) (c : Command) → Asks (option_and_then (λ ws. line_after ws keywords.Gen) (words_of rest.now)) s c asked.new result }
 {
     if is_blank(rest) {
         *asked = Asked::Ask(Query::Gen);
@@ -321,7 +334,7 @@ fn generator(rest: &[u8], asked: &mut Asked) -> Result<(), ShellRefusal>
 }
 
 fn list(rest: &[u8], asked: &mut Asked) -> Result<(), ShellRefusal>
-    ensures { (c : Command) → Asks (option_and_then (λ ws. line_after ws keywords.List) (words_of rest.now)) c asked.new result }
+    ensures { (s : ShortCommand) (c : Command) → Asks (option_and_then (λ ws. line_after ws keywords.List) (words_of rest.now)) s c asked.new result }
 {
     if is_blank(rest) {
         *asked = Asked::Ask(Query::List);
@@ -332,103 +345,98 @@ fn list(rest: &[u8], asked: &mut Asked) -> Result<(), ShellRefusal>
 }
 
 #[inline(never)]
-fn seed(rest: &[u8], command: &mut Command) -> Result<(), ShellRefusal>
-    ensures { Reads (option_and_then (λ ws. line_after ws keywords.Seed) (words_of rest.now)) command.new result }
+fn seed(rest: &[u8], short: &mut ShortCommand) -> Result<(), ShellRefusal>
+    ensures { Reads (option_and_then (λ ws. line_after ws keywords.Seed) (words_of rest.now)) (command_of short.new) result }
 {
     let refused = ShellRefusal::ScriptSyntax;
-    let seed = the_number(one_word(rest).ok_or(refused)?).ok_or(refused)?;
-    *command = Command::Seed(seed);
+    let seed = one_number(rest).ok_or(refused)?;
+    *short = ShortCommand::Seed(seed);
     Ok(())
 }
 
 #[inline(never)]
-fn unif(rest: &[u8], command: &mut Command) -> Result<(), ShellRefusal>
-    ensures { Reads (option_and_then (λ ws. line_after ws keywords.Unif) (words_of rest.now)) command.new result }
+fn unif(rest: &[u8], short: &mut ShortCommand) -> Result<(), ShellRefusal>
+    ensures { Reads (option_and_then (λ ws. line_after ws keywords.Unif) (words_of rest.now)) (command_of short.new) result }
 {
     let refused = ShellRefusal::ScriptSyntax;
-    let bound = the_number(one_word(rest).ok_or(refused)?).ok_or(refused)?;
-    *command = Command::Unif(bound);
+    let bound = one_number(rest).ok_or(refused)?;
+    *short = ShortCommand::Unif(bound);
     Ok(())
 }
 
 #[inline(never)]
-fn arc(rest: &[u8], command: &mut Command) -> Result<(), ShellRefusal>
-    ensures { Reads (option_and_then (λ ws. line_after ws keywords.Arc) (words_of rest.now)) command.new result }
+fn arc(rest: &[u8], short: &mut ShortCommand) -> Result<(), ShellRefusal>
+    ensures { Reads (option_and_then (λ ws. line_after ws keywords.Arc) (words_of rest.now)) (command_of short.new) result }
 {
     let refused = ShellRefusal::ScriptSyntax;
-    let (name, from, to, len) = four_words(rest).ok_or(refused)?;
+    let (name, rest) = split_word(rest).ok_or(refused)?;
     let name = the_name(name).ok_or(refused)?;
-    let from = the_vertex(from).ok_or(refused)?;
-    let to = the_vertex(to).ok_or(refused)?;
-    let len = the_number(len).ok_or(refused)?;
-    *command = Command::Edit(name, Edit::Arc(from, to, len));
+    let (from, to, len) = three_numbers(rest).ok_or(refused)?;
+    *short = ShortCommand::Edit(name, Edit::Arc(vertex_no(from), vertex_no(to), len));
     Ok(())
 }
 
 #[inline(never)]
-fn edge(rest: &[u8], command: &mut Command) -> Result<(), ShellRefusal>
-    ensures { Reads (option_and_then (λ ws. line_after ws keywords.Edge) (words_of rest.now)) command.new result }
+fn edge(rest: &[u8], short: &mut ShortCommand) -> Result<(), ShellRefusal>
+    ensures { Reads (option_and_then (λ ws. line_after ws keywords.Edge) (words_of rest.now)) (command_of short.new) result }
 {
     let refused = ShellRefusal::ScriptSyntax;
-    let (name, from, to, len) = four_words(rest).ok_or(refused)?;
+    let (name, rest) = split_word(rest).ok_or(refused)?;
     let name = the_name(name).ok_or(refused)?;
-    let from = the_vertex(from).ok_or(refused)?;
-    let to = the_vertex(to).ok_or(refused)?;
-    let len = the_number(len).ok_or(refused)?;
-    *command = Command::Edit(name, Edit::Edge(from, to, len));
+    let (from, to, len) = three_numbers(rest).ok_or(refused)?;
+    *short = ShortCommand::Edit(name, Edit::Edge(vertex_no(from), vertex_no(to), len));
     Ok(())
 }
 
 #[inline(never)]
-fn cut(rest: &[u8], command: &mut Command) -> Result<(), ShellRefusal>
-    ensures { Reads (option_and_then (λ ws. line_after ws keywords.Cut) (words_of rest.now)) command.new result }
+fn cut(rest: &[u8], short: &mut ShortCommand) -> Result<(), ShellRefusal>
+    ensures { Reads (option_and_then (λ ws. line_after ws keywords.Cut) (words_of rest.now)) (command_of short.new) result }
 {
     let refused = ShellRefusal::ScriptSyntax;
-    let (name, arc) = two_words(rest).ok_or(refused)?;
+    let (name, rest) = split_word(rest).ok_or(refused)?;
     let name = the_name(name).ok_or(refused)?;
-    let arc = the_arc(arc).ok_or(refused)?;
-    *command = Command::Edit(name, Edit::Cut(arc));
+    let number = one_number(rest).ok_or(refused)?;
+    *short = ShortCommand::Edit(name, Edit::Cut(arc_no(number)));
     Ok(())
 }
 
 #[inline(never)]
-fn len(rest: &[u8], command: &mut Command) -> Result<(), ShellRefusal>
-    ensures { Reads (option_and_then (λ ws. line_after ws keywords.Len) (words_of rest.now)) command.new result }
+fn len(rest: &[u8], short: &mut ShortCommand) -> Result<(), ShellRefusal>
+    ensures { Reads (option_and_then (λ ws. line_after ws keywords.Len) (words_of rest.now)) (command_of short.new) result }
 {
     let refused = ShellRefusal::ScriptSyntax;
-    let (name, arc, len) = three_words(rest).ok_or(refused)?;
+    let (name, rest) = split_word(rest).ok_or(refused)?;
     let name = the_name(name).ok_or(refused)?;
-    let arc = the_arc(arc).ok_or(refused)?;
-    let len = the_number(len).ok_or(refused)?;
-    *command = Command::Edit(name, Edit::Len(arc, len));
+    let (number, len) = two_numbers(rest).ok_or(refused)?;
+    *short = ShortCommand::Edit(name, Edit::Len(arc_no(number), len));
     Ok(())
 }
 
 #[inline(never)]
-fn types(rest: &[u8], command: &mut Command) -> Result<(), ShellRefusal>
-    ensures { Reads (option_and_then (λ ws. line_after ws keywords.Types) (words_of rest.now)) command.new result }
+fn types(rest: &[u8], short: &mut ShortCommand) -> Result<(), ShellRefusal>
+    ensures { Reads (option_and_then (λ ws. line_after ws keywords.Types) (words_of rest.now)) (command_of short.new) result }
 {
     let refused = ShellRefusal::ScriptSyntax;
     let (name, letters) = two_words(rest).ok_or(refused)?;
     let name = the_name(name).ok_or(refused)?;
     let types = the_letters(letters).ok_or(refused)?;
-    *command = Command::Edit(name, Edit::Types(types));
+    *short = ShortCommand::Edit(name, Edit::Types(types));
     Ok(())
 }
 
 #[inline(never)]
-fn drop_graph(rest: &[u8], command: &mut Command) -> Result<(), ShellRefusal>
-    ensures { Reads (option_and_then (λ ws. line_after ws keywords.Drop) (words_of rest.now)) command.new result }
+fn drop_graph(rest: &[u8], short: &mut ShortCommand) -> Result<(), ShellRefusal>
+    ensures { Reads (option_and_then (λ ws. line_after ws keywords.Drop) (words_of rest.now)) (command_of short.new) result }
 {
     let refused = ShellRefusal::ScriptSyntax;
     let name = the_name(one_word(rest).ok_or(refused)?).ok_or(refused)?;
-    *command = Command::Drop(name);
+    *short = ShortCommand::Drop(name);
     Ok(())
 }
 
 #[inline(never)]
 fn show(rest: &[u8], asked: &mut Asked) -> Result<(), ShellRefusal>
-    ensures { (c : Command) → Asks (option_and_then (λ ws. line_after ws keywords.Show) (words_of rest.now)) c asked.new result }
+    ensures { (s : ShortCommand) (c : Command) → Asks (option_and_then (λ ws. line_after ws keywords.Show) (words_of rest.now)) s c asked.new result }
 {
     let refused = ShellRefusal::ScriptSyntax;
     let name = the_name(one_word(rest).ok_or(refused)?).ok_or(refused)?;
@@ -438,7 +446,7 @@ fn show(rest: &[u8], asked: &mut Asked) -> Result<(), ShellRefusal>
 
 #[inline(never)]
 fn save(rest: &[u8], asked: &mut Asked) -> Result<(), ShellRefusal>
-    ensures { (c : Command) → Asks (option_and_then (λ ws. line_after ws keywords.Save) (words_of rest.now)) c asked.new result }
+    ensures { (s : ShortCommand) (c : Command) → Asks (option_and_then (λ ws. line_after ws keywords.Save) (words_of rest.now)) s c asked.new result }
 {
     let refused = ShellRefusal::ScriptSyntax;
     let name = the_name(one_word(rest).ok_or(refused)?).ok_or(refused)?;
@@ -448,7 +456,7 @@ fn save(rest: &[u8], asked: &mut Asked) -> Result<(), ShellRefusal>
 
 #[inline(never)]
 fn load(rest: &[u8], asked: &mut Asked) -> Result<(), ShellRefusal>
-    ensures { (c : Command) → Asks (option_and_then (λ ws. line_after ws keywords.Load) (words_of rest.now)) c asked.new result }
+    ensures { (s : ShortCommand) (c : Command) → Asks (option_and_then (λ ws. line_after ws keywords.Load) (words_of rest.now)) s c asked.new result }
 {
     let refused = ShellRefusal::ScriptSyntax;
     let (name, rule) = two_words(rest).ok_or(refused)?;
@@ -472,16 +480,16 @@ fn lengths(rest: &[u8], command: &mut Command) -> Result<(), ShellRefusal>
 }
 
 #[inline(never)]
-fn set(alloc: Global, rest: &[u8], command: &mut Command) -> Result<(), ShellRefusal>
+fn set(alloc: Global, rest: &[u8], short: &mut ShortCommand) -> Result<(), ShellRefusal>
     requires { HasTexts (words_of rest.now) }
-    ensures { Reads (option_and_then (λ ws. line_after ws keywords.Set) (words_of rest.now)) command.new result }
+    ensures { Reads (option_and_then (λ ws. line_after ws keywords.Set) (words_of rest.now)) (command_of short.new) result }
 {
     let refused = ShellRefusal::ScriptSyntax;
     let (name, place, field, value) = four_words(rest).ok_or(refused)?;
     let name = the_name(name).ok_or(refused)?;
     let place = the_place(place, field).ok_or(refused)?;
     let value = the_value(alloc, value)?;
-    *command = Command::Edit(name, Edit::Set(place, value));
+    *short = ShortCommand::Edit(name, Edit::Set(place, value));
     Ok(())
 }
 
@@ -499,29 +507,29 @@ fn the_value(alloc: Global, word: Word<'_>) -> Result<Util, ShellRefusal>
 }
 
 #[inline(never)]
-fn label(alloc: Global, rest: &[u8], command: &mut Command) -> Result<(), ShellRefusal>
+fn label(alloc: Global, rest: &[u8], short: &mut ShortCommand) -> Result<(), ShellRefusal>
     requires { HasTexts (words_of rest.now) }
-    ensures { Reads (option_and_then (λ ws. line_after ws keywords.Label) (words_of rest.now)) command.new result }
+    ensures { Reads (option_and_then (λ ws. line_after ws keywords.Label) (words_of rest.now)) (command_of short.new) result }
 {
     let refused = ShellRefusal::ScriptSyntax;
     let (name, vertex, bytes) = three_words(rest).ok_or(refused)?;
     let name = the_name(name).ok_or(refused)?;
     let vertex = the_vertex(vertex).ok_or(refused)?;
     let bytes = the_text(bytes).ok_or(refused)?;
-    *command = Command::Edit(name, Edit::Label(vertex, text(alloc, bytes)?));
+    *short = ShortCommand::Edit(name, Edit::Label(vertex, text(alloc, bytes)?));
     Ok(())
 }
 
 #[inline(never)]
-fn id(alloc: Global, rest: &[u8], command: &mut Command) -> Result<(), ShellRefusal>
+fn id(alloc: Global, rest: &[u8], short: &mut ShortCommand) -> Result<(), ShellRefusal>
     requires { HasTexts (words_of rest.now) }
-    ensures { Reads (option_and_then (λ ws. line_after ws keywords.Id) (words_of rest.now)) command.new result }
+    ensures { Reads (option_and_then (λ ws. line_after ws keywords.Id) (words_of rest.now)) (command_of short.new) result }
 {
     let refused = ShellRefusal::ScriptSyntax;
     let (name, bytes) = two_words(rest).ok_or(refused)?;
     let name = the_name(name).ok_or(refused)?;
     let bytes = the_text(bytes).ok_or(refused)?;
-    *command = Command::Edit(name, Edit::Id(text(alloc, bytes)?));
+    *short = ShortCommand::Edit(name, Edit::Id(text(alloc, bytes)?));
     Ok(())
 }
 

@@ -1,11 +1,12 @@
 //! The numbers of a line.
 ghost use Rattle.std.specs.Prelude.{◌≡◌, ◌==◌, ◌<◌, ◌^◌, slice_index, IfSome, Some};
-ghost use Rattle.sgb_script.specs.Numbers.{natural_of, number_of, index_of, bits_of, is_yes, in_32_bits};
+ghost use Rattle.sgb_script.specs.Numbers.{natural_of, number_of, index_of, bits_of, is_yes, in_32_bits, vertex_no, arc_no};
 
+use sgb_graph::{ArcNo, VertexNo};
 use std::str::from_utf8;
 
 /// So many digits spell a number of 64 bits, whatever they are.
-const SHORT: usize = 17;
+pub(crate) const SHORT: usize = 17;
 
 /// A whole number: digits, and a minus before them.
 #[inline(always)]
@@ -89,6 +90,22 @@ pub(crate) fn in_32_bits(number: i64) -> u32
         Ok(small) => small,
         Err(_) => u32::MAX,
     }
+}
+
+/// The vertex of a number.
+#[inline(always)]
+pub(crate) fn vertex_no(number: i64) -> VertexNo
+    ensures { result ≡ vertex_no number }
+{
+    VertexNo(in_32_bits(number))
+}
+
+/// The arc of a number.
+#[inline(always)]
+pub(crate) fn arc_no(number: i64) -> ArcNo
+    ensures { result ≡ arc_no number }
+{
+    ArcNo(in_32_bits(number))
 }
 
 fn has_plus(word: &[u8]) -> bool

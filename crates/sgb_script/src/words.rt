@@ -1,12 +1,13 @@
 //! The words of a line, taken off from the left.
-ghost use Rattle.std.specs.Prelude.{◌≡◌, ◌<◌, ◌≤◌, ◌==◌, ◌∷◌, ◌&&◌, ◌||◌, not, length, slice_index, Some, None};
-ghost use Rattle.std.specs.Option.{option_map};
+ghost use Rattle.std.specs.Prelude.{◌≡◌, ◌<◌, ◌≤◌, ◌^◌, ◌==◌, IfSome, ◌∷◌, ◌&&◌, ◌||◌, not, length, slice_index, Some, None};
+ghost use Rattle.std.specs.Option.{option_map, option_and_then};
 ghost use Rattle.std.specs.List.{prefix_len, list_any};
 ghost use Rattle.sgb_script.specs.Words.{words_of, is_quotable};
-ghost use Rattle.sgb_script.specs.Arguments.{the_number};
-ghost use Rattle.sgb_script.specs.Private.Words.{seen, Splits, is_nothing, one_of, two_of, three_of, four_of, SplitsFirst, SplitsNumbers};
+ghost use Rattle.sgb_script.specs.Arguments.{the_number, one, two, three};
+ghost use Rattle.sgb_script.specs.Private.Words.{seen, Splits, is_nothing, one_of, two_of, three_of, four_of, SplitsFirst, SplitsDigits, SplitsNumbers};
 
 use crate::arguments::the_number;
+use crate::numbers::SHORT;
 
 const SPACE: u8 = b' ';
 
@@ -103,12 +104,73 @@ pub(crate) fn split_word(line: &[u8]) -> Option<(Word<'_>, &[u8])>
     split_plain(text)
 }
 
-/// The first word, where it is a number, and what follows it.
+/// The first word, where it is a number, and what follows it. Mostly a few digits are read as they are met.
+#[inline(always)]
 pub(crate) fn split_number(line: &[u8]) -> Option<(i64, &[u8])>
+    ensures { SplitsFirst the_number (words_of line.now) result }
+{
+    let (_, text) = line.split_at(count_spaces(line));
+    match split_digits(text) {
+        Some((number, rest)) => Some((number as i64, rest)),
+        None => split_any_number(line),
+    }
+}
+
+// The same of digits and of any other number.
+#[inline(never)]
+fn split_any_number(line: &[u8]) -> Option<(i64, &[u8])>
     ensures { SplitsFirst the_number (words_of line.now) result }
 {
     let (word, rest) = split_word(line)?;
     Some((the_number(word)?, rest))
+}
+
+// The number that a few digits spell, where these are the first word, and what follows it; none tells nothing of the text.
+#[inline(always)]
+fn split_digits(text: &[u8]) -> Option<(u64, &[u8])>
+    ensures small { IfSome result (λ r. r.0 < 10 ^ 17) }
+    ensures splits { IfSome result (λ r. SplitsDigits (words_of text.now) r.0 r.1.now) }
+{
+    let most = text.len().min(SHORT);
+    let mut value = 0u64;
+    let mut count = 0;
+    while count < most && text[count].is_ascii_digit() {
+        value = value * 10 + u64::from(text[count] - b'0');
+        count += 1;
+    }
+    let (digits, rest) = text.split_at(count);
+    if digits.is_empty() || !ends_word(rest) {
+        return None;
+    }
+    Some((value, rest))
+}
+
+/// The number, where there is one word and no more.
+#[inline(always)]
+pub(crate) fn one_number(line: &[u8]) -> Option<i64>
+    ensures { result ≡ option_and_then (one the_number (λ n. n)) (words_of line.now) }
+{
+    let (number, rest) = split_number(line)?;
+    if is_blank(rest) { Some(number) } else { None }
+}
+
+/// The numbers, where there are two words.
+#[inline(always)]
+pub(crate) fn two_numbers(line: &[u8]) -> Option<(i64, i64)>
+    ensures { result ≡ option_and_then (two the_number the_number (λ m n. (m, n))) (words_of line.now) }
+{
+    let (first, rest) = split_number(line)?;
+    Some((first, one_number(rest)?))
+}
+
+/// The numbers, where there are three words.
+#[inline(always)]
+pub(crate) fn three_numbers(line: &[u8]) -> Option<(i64, i64, i64)>
+    ensures { result ≡ option_and_then (three the_number the_number the_number (λ m n k. (m, n, k))) (words_of line.now) }
+{
+    let (first, rest) = split_number(line)?;
+    let (second, third) = two_numbers(rest)?;
+    Some((first, second, third))
 }
 
 /// Four numbers, where they come first, and what follows them.

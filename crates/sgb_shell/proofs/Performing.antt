@@ -20,14 +20,15 @@ use Rattle.sgb_script.specs.declared.command.Line.{Line}
 use Rattle.sgb_script.specs.declared.command.Line.TheVariants.{Nothing, Change, Undo, Redo, Ask, Load, Group, End}
 use Rattle.sgb_script.specs.declared.command.Query.{Query}
 use Rattle.sgb_script.specs.declared.command.Query.TheVariants as queries
-use Rattle.sgb_script.specs.Line.{line_of, line_with, takes_memory}
+use Rattle.sgb_script.specs.Line.{line_of, line_with, command_of, takes_memory}
 use Rattle.sgb_script.specs.declared.command.Asked.{Asked}
+use Rattle.sgb_script.specs.declared.command.ShortCommand.{ShortCommand}
 use Rattle.sgb_script.specs.declared.command.Asked.TheVariants as asks
 use Rattle.sgb_script.specs.Words.{words_of}
 use Rattle.sgb_script.specs.declared.refusal.ShellRefusal.{ShellRefusal}
 use Rattle.sgb_script.specs.declared.refusal.ShellRefusal.TheVariants.{NoRoom, CheckWrong, Syntax, BadSpecs, LengthRange, TooLarge, NoGraph, BadOperand, ScriptSyntax, TableFull, NameTaken, NothingToUndo, NothingToRedo, JournalFull, Stuck}
 use Rattle.sgb_shell.specs.Lines.{all_but_last}
-use Rattle.sgb_shell.specs.Private.Performing.{Kept, IsBegun, Does, Answers, by_command, by_line, by_unit, is_change, lists_of, answer_from}
+use Rattle.sgb_shell.specs.Private.Performing.{Kept, IsBegun, Does, Answers, by_command, by_line, by_unit, is_short, lists_of, answer_from}
 use Rattle.sgb_shell.specs.Private.Gathering.{IsRefused}
 use Rattle.sgb_script.specs.Refusal.{is_no_room}
 use Rattle.sgb_session.specs.State.{empty}
@@ -186,27 +187,32 @@ redid old new (Err (journals.Machine f)) b d nothing no_room full refused same s
 
 -- ---- the line that was read
 
-pub change_is : (asked : Asked) → is_change asked ≡ true → asked ≡ asks.Change
-change_is asks.Nothing e = cc
-change_is asks.Change e = refl
-change_is asks.Undo e = cc
-change_is asks.Redo e = cc
-change_is (asks.Ask q) e = cc
-change_is (asks.Load name rule) e = cc
-change_is asks.Group e = cc
-change_is asks.End e = cc
+pub short_is : (asked : Asked) → is_short asked ≡ true → asked ≡ asks.Short
+short_is asks.Nothing e = cc
+short_is asks.Short e = refl
+short_is asks.Change e = cc
+short_is asks.Undo e = cc
+short_is asks.Redo e = cc
+short_is (asks.Ask q) e = cc
+short_is (asks.Load name rule) e = cc
+short_is asks.Group e = cc
+short_is asks.End e = cc
 
 -- the command of the line stands in a place of its own
-pub asks_does : (old new : Kept) (o : Option Line) (c : Command) (asked asked' : Asked) (answer : Answer) → o ≡ Some (line_with c asked) → asked ≡ asked'
-    → Does (by_line (Some (line_with c asked'))) old new answer → Does (by_line o) old new answer
-asks_does old new o c asked asked' answer e same d = subst (λ p. Does (by_line p) old new answer) (sym (e ∙ ap (λ a. Some (line_with c a)) same)) d
+pub asks_does : (old new : Kept) (o : Option Line) (s : ShortCommand) (c : Command) (asked asked' : Asked) (answer : Answer) → o ≡ Some (line_with s c asked) → asked ≡ asked'
+    → Does (by_line (Some (line_with s c asked'))) old new answer → Does (by_line o) old new answer
+asks_does old new o s c asked asked' answer e same d = subst (λ p. Does (by_line p) old new answer) (sym (e ∙ ap (λ a. Some (line_with s c a)) same)) d
 
 pub changed_does : (old new : Kept) (c : Command) (answer : Answer) → Does (by_command (One c)) old new answer → Does (by_line (Some (Change c))) old new answer
 changed_does old new c answer d = record { no_room = d.no_room; told = d.told; begun = d.begun }
 
-pub changed_by : (old new : Kept) (o : Option Line) (c : Command) (asked : Asked) (answer : Answer) → o ≡ Some (line_with c asked) → asked ≡ asks.Change
+pub shortly_changed : (old new : Kept) (o : Option Line) (s : ShortCommand) (c : Command) (asked : Asked) (answer : Answer) → o ≡ Some (line_with s c asked) → asked ≡ asks.Short
+    → Does (by_command (One (command_of s))) old new answer → Does (by_line o) old new answer
+shortly_changed old new o s c asked answer e same d = asks_does old new o s c asked asks.Short answer e same (changed_does old new (command_of s) answer d)
+
+pub changed_by : (old new : Kept) (o : Option Line) (s : ShortCommand) (c : Command) (asked : Asked) (answer : Answer) → o ≡ Some (line_with s c asked) → asked ≡ asks.Change
     → Does (by_command (One c)) old new answer → Does (by_line o) old new answer
-changed_by old new o c asked answer e same d = asks_does old new o c asked asks.Change answer e same (changed_does old new c answer d)
+changed_by old new o s c asked answer e same d = asks_does old new o s c asked asks.Change answer e same (changed_does old new c answer d)
 
 pub asked_does : (j : Kept) (q : Query) (answer : Answer) → IsBegun j → Answers j.machine q answer → Does (by_line (Some (Ask q))) j j answer
 asked_does j q answer b (no_room, e) = record {

@@ -2,18 +2,18 @@
 ghost use Rattle.std.specs.Prelude.{◌≡◌, false, true, Some, codes};
 ghost use Rattle.std.specs.Str.{bytes_eq};
 ghost use Rattle.sgb_script.specs.Line.{line_of, line_with};
-ghost use Rattle.sgb_script.specs.declared.command.Command.{Command};
+ghost use Rattle.sgb_script.specs.declared.command.ShortCommand.{ShortCommand};
 ghost use Rattle.sgb_script.specs.declared.command.Command.TheVariants as commands;
 ghost use Rattle.sgb_session.specs.State.{is_large};
 ghost use Rattle.sgb_shell.specs.declared.answer.Answer.TheVariants.{Refused};
 ghost use Rattle.sgb_groups.specs.declared.grouped.GroupedCommand.TheVariants.{One};
-ghost use Rattle.sgb_shell.specs.Private.Performing.{IsBegun, Does, Answers, Saves, by_command, by_line, is_change, answer_from, refusal_from};
+ghost use Rattle.sgb_shell.specs.Private.Performing.{IsBegun, Does, Answers, Saves, by_command, by_line, is_short, answer_from, refusal_from};
 ghost use Rattle.sgb_script.specs.declared.command.Line.TheVariants.{Undo, Redo};
 
 use crate::answer::Answer;
 use sgb_graph::Graph;
 use sgb_groups::{GroupedCommand, GroupedReply, GroupedSession, KeptCommand};
-use sgb_script::{Asked, Command, Query, ShellRefusal, parse_onto};
+use sgb_script::{Asked, Command, Query, ShellRefusal, ShortCommand, parse_onto};
 use sgb_session::Session;
 use sgb_text::save;
 use sgb_undo::{Journal, JournalRefusal, MOST_COMMANDS};
@@ -78,46 +78,56 @@ fn perform_words(
 )
     ensures { IsBegun journal.old → Does (by_line (line_of line.now)) journal.old journal.new answer.new }
 {
+    let mut short = ShortCommand::Next;
     let mut command = Command::Next;
-    let mut asked = Asked::Change;
-    match parse_onto(alloc, line, &mut command, &mut asked) {
+    let mut asked = Asked::Short;
+    match parse_onto(alloc, line, &mut short, &mut command, &mut asked) {
         Ok(()) => {
-            if is_change(&asked) {
-                change_by_one(alloc, journal, &mut command, answer)
+            if is_short(&asked) {
+                apply(journal, KeptCommand::short(short), answer)
             } else {
-                answer_other(alloc, journal, asked, answer)
+                answer_other(alloc, journal, &mut command, &asked, answer)
             }
         }
-        Err(refusal) => *answer = Answer::Refused(refusal),
+        Err(refusal) => refuse(refusal, answer),
     }
 }
 
-#[inline(always)]
-fn is_change(asked: &Asked) -> bool
-    ensures { result ≡ is_change asked.now }
+// It stands apart, as what follows does, so that a short command's line makes no room for it.
+#[inline(never)]
+fn refuse(refusal: ShellRefusal, answer: &mut Answer)
+    ensures { answer.new ≡ Refused refusal }
 {
-    matches!(asked, Asked::Change)
+    *answer = Answer::Refused(refusal);
 }
 
-// Does what a line says that has no command.
-// It stands apart, so that a command's line makes no room for the names of these.
+#[inline(always)]
+fn is_short(asked: &Asked) -> bool
+    ensures { result ≡ is_short asked.now }
+{
+    matches!(asked, Asked::Short)
+}
+
+// Does what a line says that has no short command, and may leave another where the command stood.
 #[inline(never)]
 fn answer_other(
     alloc: Global,
     journal: &mut Journal<GroupedSession>,
-    asked: Asked,
+    command: &mut Command,
+    asked: &Asked,
     answer: &mut Answer,
 )
-    requires other { is_change asked ≡ false }
-    ensures { (command : Command) → IsBegun journal.old
-        → Does (by_line (Some (line_with command asked))) journal.old journal.new answer.new }
+    requires other { is_short asked.now ≡ false }
+    ensures { (short : ShortCommand) → IsBegun journal.old
+        → Does (by_line (Some (line_with short command.old asked.now))) journal.old journal.new answer.new }
 {
     match asked {
         Asked::Nothing => *answer = Answer::Silent,
-        Asked::Change => unreachable!(),
+        Asked::Short => unreachable!(),
+        Asked::Change => change_by_one(alloc, journal, command, answer),
         Asked::Undo => undo(journal, answer),
         Asked::Redo => redo(journal, answer),
-        Asked::Ask(query) => *answer = ask(alloc, journal.machine().session(), query),
+        Asked::Ask(query) => *answer = ask(alloc, journal.machine().session(), *query),
         Asked::Load(_, _) => *answer = Answer::Refused(ShellRefusal::ScriptSyntax),
         Asked::Group => *answer = Answer::Refused(ShellRefusal::ScriptSyntax),
         Asked::End => *answer = Answer::Refused(ShellRefusal::ScriptSyntax),

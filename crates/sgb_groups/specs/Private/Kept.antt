@@ -3,21 +3,15 @@ use Rattle.std.specs.Prelude.{Bool, true, false, Result}
 use Rattle.sgb_groups.specs.declared.grouped.GroupedCommand.{GroupedCommand}
 use Rattle.sgb_groups.specs.declared.grouped.GroupedCommand.TheVariants as grouped
 use Rattle.sgb_groups.specs.declared.kept.Kept.{Kept}
-use Rattle.sgb_groups.specs.declared.kept.Kept.TheVariants.{Seed, Next, Unif, Empty, Edit, Drop, Large, Group}
-use Rattle.sgb_script.specs.declared.command.Command.TheVariants as commands
-use Rattle.sgb_script.specs.declared.command.Maker.TheVariants as makers
+use Rattle.sgb_groups.specs.declared.kept.Kept.TheVariants.{Short, Large, Group}
+use Rattle.sgb_script.specs.Line.{command_of}
 use Rattle.sgb_script.specs.declared.refusal.ShellRefusal.{ShellRefusal}
 use Rattle.sgb_session.specs.declared.reply.Delta.{Delta}
 use Rattle.sgb_session.specs.declared.reply.Reply.{Reply}
 use Rattle.sgb_session.specs.State.{State, Performs}
 
 abbrev pub grouped_of : Kept → GroupedCommand
-grouped_of (Seed n) = grouped.One (commands.Seed n)
-grouped_of Next = grouped.One commands.Next
-grouped_of (Unif m) = grouped.One (commands.Unif m)
-grouped_of (Empty name n) = grouped.One (commands.Make name (makers.Empty n))
-grouped_of (Edit name e) = grouped.One (commands.Edit name e)
-grouped_of (Drop name) = grouped.One (commands.Drop name)
+grouped_of (Short c) = grouped.One (command_of c)
 grouped_of (Large c) = grouped.One c.value
 grouped_of (Group cs) = grouped.Group cs
 

@@ -6,6 +6,7 @@ use Rattle.sgb_script.specs.declared.command.Maker.{Maker}
 use Rattle.sgb_script.specs.declared.command.Maker.TheVariants.{Induced}
 use Rattle.sgb_script.specs.declared.command.Asked.{Asked}
 use Rattle.sgb_script.specs.declared.command.Command.{Command}
+use Rattle.sgb_script.specs.declared.command.ShortCommand.{ShortCommand}
 use Rattle.sgb_script.specs.declared.command.Line.{Line}
 use Rattle.sgb_script.specs.declared.command.Line.TheVariants.{Nothing, Change}
 use Rattle.sgb_script.specs.declared.line.Front.{Front}
@@ -25,11 +26,11 @@ is_text (Some (utils.Vertex k)) = false
 is_text (Some (utils.Arc k)) = false
 is_text (Some (utils.Text t)) = true
 
--- what the reading of a line answers that changes nothing, and what then stands in its place, whatever stands in that of a
--- command: the line, 100 where it is none, or 1 where it takes memory
-abbrev pub Asks : Option Line → Command → Asked → Result (Unit {0}) ShellRefusal → Type 0
-Asks line c asked (Ok done) = line ≡ Some (line_with c asked)
-Asks line c asked (Err e) = ((e ≡ ScriptSyntax) × (line ≡ None)) ⊎ ((e ≡ NoRoom) × IsTrue (takes_memory line))
+-- what the reading of a line answers that changes nothing, and what then stands in its place, whatever stands in those of
+-- commands: the line, 100 where it is none, or 1 where it takes memory
+abbrev pub Asks : Option Line → ShortCommand → Command → Asked → Result (Unit {0}) ShellRefusal → Type 0
+Asks line s c asked (Ok done) = line ≡ Some (line_with s c asked)
+Asks line s c asked (Err e) = ((e ≡ ScriptSyntax) × (line ≡ None)) ⊎ ((e ≡ NoRoom) × IsTrue (takes_memory line))
 
 -- the same of one that changes the session, whose command stands in its place
 abbrev pub Reads : Option Line → Command → Result (Unit {0}) ShellRefusal → Type 0

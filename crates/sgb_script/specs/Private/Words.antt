@@ -1,9 +1,9 @@
 -- The words of a line, as the program holds them and takes them off from the left.
-use Rattle.std.specs.Prelude.{◌≡◌, ℕ, ℤ, Bool, true, false, ◌⊎◌, List, [], ◌∷◌, Option, None, Some, option_and_then}
+use Rattle.std.specs.Prelude.{◌≡◌, ℕ, ℤ, pos, Bool, true, false, ◌⊎◌, List, [], ◌∷◌, Option, None, Some, option_and_then}
 use Rattle.std.specs.Option.{option_map}
 use Rattle.sgb_graph.specs.Text.{IsText}
 use Rattle.sgb_script.specs.Words.{Word, Plain, Quoted, words_of}
-use Rattle.sgb_script.specs.Arguments.{four_numbers}
+use Rattle.sgb_script.specs.Arguments.{the_number, four_numbers}
 use Rattle.sgb_script.specs.declared.command.Maker.{Maker}
 use Rattle.sgb_script.specs.declared.words.Word.TheVariants as borrowed
 use Rattle.sgb_script.specs.declared.words.Word as borrowed_word
@@ -56,6 +56,10 @@ first_of f (Some (w ∷ ws)) = f w
 abbrev pub SplitsFirst : {A : Type 0} → (Word → Option A) → Option (List Word) → Option (A × Bor (List ℕ)) → Type 0
 SplitsFirst f words None = first_of f words ≡ None
 SplitsFirst f words (Some r) = (w : Word) × (f w ≡ Some r.0) × (words ≡ option_map (λ ws. w ∷ ws) (words_of r.1.now))
+
+-- digits, which spell a number, and what follows them
+abbrev pub SplitsDigits : Option (List Word) → ℕ → List ℕ → Type 0
+SplitsDigits words n rest = (w : Word) × (the_number w ≡ Some (pos n)) × (words ≡ option_map (λ ws. w ∷ ws) (words_of rest))
 
 -- four numbers and what follows them, by what these give
 abbrev pub SplitsNumbers : Option (List Word) → Option (ℤ × ℤ × ℤ × ℤ × Bor (List ℕ)) → Type 0

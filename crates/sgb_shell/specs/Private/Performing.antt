@@ -55,10 +55,10 @@ by_line line no_room l = line_told no_room l line
 abbrev pub by_unit : ScriptUnit → Telling
 by_unit u no_room l = unit_told no_room l u
 
--- what a line asks for is the command that was read of it
-abbrev pub is_change : Asked → Bool
-is_change asks.Change = true
-is_change asked = false
+-- what a line asks for is the short command that was read of it
+abbrev pub is_short : Asked → Bool
+is_short asks.Short = true
+is_short asked = false
 
 -- it was done, and wanted for memory or did not
 pub record Does (tells : Telling) (old new : Kept) (answer : Answer) : Type 0 where

@@ -1,4 +1,4 @@
-use Rattle.std.proofs.Common.{◌∙◌, sym, arith, refl}
+use Rattle.std.proofs.Common.{◌∙◌, arith, refl}
 use Rattle.sgb_script.specs.Line.{is_printable_byte}
 use Rattle.sgb_script.proofs.Blocks.{block_passes, block_fails, last_tells}
 use Rattle.sgb_script.proofs.printable.is_printable.Goals as goal
