@@ -1,5 +1,5 @@
 -- How the pieces that are printed make up a graph's text.
-use Rattle.std.proofs.Common.{◌≡◌, ◌<◌, ℕ, List, [], ◌∷◌, ◌++◌, codes, length, Bool, ◌&&◌, append-nil, Option, Some, None, IsSome, IfSome, true, false, slice_index_or, refl, sym, ap, ◌∙◌, append_assoc, arith}
+use Rattle.std.proofs.Common.{◌≡◌, ◌<◌, ℕ, List, [], ◌∷◌, ◌++◌, codes, length, Bool, ◌&&◌, Option, Some, None, IsSome, IfSome, true, false, slice_index_or, refl, sym, ap, ◌∙◌, append_assoc, arith}
 use Rattle.std.specs.List.{list_all}
 use Rattle.std.proofs.lemmas.List.Elements.{All-get_or}
 use Rattle.std.proofs.lemmas.Int.{to_z-of_z}
@@ -58,14 +58,9 @@ zeros_end u v zeros =
     let each = both (is_zero u) (is_zero v) zeros in
     rw (each.0, each.1) refl
 
--- pieces one behind another, with a gap around the second of them, and what stands behind them
-pub pieces_behind : (a n gap t l behind : List ℕ) → (a ++ n ++ gap ++ t ++ gap ++ l) ++ behind ≡ a ++ (n ++ ((gap ++ t ++ gap) ++ (l ++ (behind ++ []))))
-pieces_behind a n gap t l behind = rw (append-nil behind) (simp append_assoc)
-
--- a page that grew at its front by five pieces
-pub five_pieces : (a n t l behind p q r s u v : List ℕ) → p ≡ [] → q ≡ behind ++ p → r ≡ l ++ q → s ≡ t ++ r → u ≡ n ++ s → v ≡ a ++ u
-    → a ++ (n ++ (t ++ (l ++ (behind ++ [])))) ≡ v
-five_pieces a n t l behind p q r s u v none first second third fourth fifth = rw (fifth, fourth, third, second, first, none) refl
+-- a page that begins with a head in another spelling, and goes on with what stood there
+pub head_before : (head head' behind p q : List ℕ) → head ≡ head' → p ≡ behind → q ≡ head' ++ p → head ++ behind ≡ q
+head_before head head' behind p q read before put = rw (read, put, before) refl
 
 -- ---- what a sound graph has
 pub vertex_six : (g : GraphOf) (v : ℕ) → IsGraph g → v < n_of g → length (vertex_at g v).fields ≡ 6

@@ -194,35 +194,31 @@ fn print_arc<W: Write>(
         ("a", graph.util(Place::Arc(number, ArcField::A))),
         ("b", graph.util(Place::Arc(number, ArcField::B))),
     ];
+    let mut page = Page::new();
     if are_zeros(&values) {
-        return print_arc_head(writer, number, arc.tip, arc.len, b"\n");
+        page.prepend(b"\n");
+        prepend_arc(&mut page, number, arc.tip, arc.len);
+        return page.print(writer);
     }
-    print_arc_head(writer, number, arc.tip, arc.len, b"")?;
+    prepend_arc(&mut page, number, arc.tip, arc.len);
+    page.print(writer)?;
     end_with_fields(writer, &values)
 }
 
-// What stands before an arc's fields, and what follows.
-fn print_arc_head<W: Write>(
-    writer: &mut MeteredWriter<W>,
-    number: ArcNo,
-    tip: Tip,
-    len: i64,
-    behind: &[u8],
-) -> Result<(), Failed>
-    requires behind { length behind.now ≤ 1 }
-    ensures { Prints (W.contents writer.old.inner) (W.contents writer.new.inner) writer.old.failed writer.new.failed
-        result (arc_head number.0 tip len ++ behind.now) }
+// Puts what stands before an arc's fields in front.
+#[inline(always)]
+fn prepend_arc(page: &mut Page, number: ArcNo, tip: Tip, len: i64)
+    requires { length page.old ≤ 1 }
+    ensures { page.new ≡ arc_head number.0 tip len ++ page.old }
 {
-    let mut page = Page::new();
-    page.prepend(behind);
     page.prepend_signed(len);
-    prepend_tip(&mut page, tip);
+    prepend_tip(page, tip);
     page.prepend_number(number.0 as u64);
     page.prepend(b"  A");
-    page.print(writer)
 }
 
 // Puts an arc's tip in front, between spaces.
+#[inline(always)]
 fn prepend_tip(page: &mut Page, tip: Tip)
     requires { length page.old ≤ 22 }
     ensures text { page.new ≡ (codes " " ++ tip_text tip ++ codes " ") ++ page.old }

@@ -1,9 +1,9 @@
-use Rattle.std.proofs.Common.{◌++◌, codes, ap, sym, ◌∙◌, append-nil}
+use Rattle.std.proofs.Common.{[], ◌++◌, codes, ap, sym, ◌∙◌, append-nil}
 use Rattle.std.proofs.lemmas.Result.{err_from_is_err_and}
 use Rattle.sgb_graph.specs.Edit.{entry_at, util_at}
 use Rattle.sgb_print.specs.Show.{arc_head, arc_names, fields_end, arc_line}
 use Rattle.sgb_print.proofs.Printing.{fails_before, fails_same, appends_same, prints_same, prints_behind}
-use Rattle.sgb_print.proofs.Showing.{two_values, arc_two, arc_head_read, zeros_end}
+use Rattle.sgb_print.proofs.Showing.{two_values, arc_two, arc_head_read, zeros_end, head_before}
 use Rattle.sgb_print.proofs.show.print_arc.Goals as goal
 
 pub returns-then-are_zeros : goal.returns-then-are_zeros
@@ -15,19 +15,21 @@ returns-then-are_zeros g c =
     let read = arc_head_read s k c.in-Some.arc c.in-Some.ensures.graph c.requires.within c.in-Some.ensures.value in
     let values = two_values e.fields _ _ (arc_two s k c.in-Some.ensures.graph c.requires.within c.requires.live) c.util.ensures c.util-2.ensures in
     let zeros = zeros_end _ _ (sym c.are_zeros.ensures ∙ c.if-are_zeros.true) in
-    prints_same _ _ _ _ c.print_arc_head.result _ (arc_line k e) c.print_arc_head.ensures
-    (ap (λ t. arc_head k e.tip e.len ++ t) (ap (fields_end arc_names) values ∙ zeros) ∙ ap (λ t. t ++ codes "\n") read)
+    prints_same _ _ _ _ c.print.result _ (arc_line k e) c.print.ensures
+    (ap (λ t. arc_head k e.tip e.len ++ t) (ap (fields_end arc_names) values ∙ zeros)
+    ∙ head_before _ _ (codes "\n") _ _ read (c.prepend.ensures.text ∙ ap (λ t. codes "\n" ++ t) c.new-page.ensures) c.prepend_arc.ensures)
 
-pub returns-in_err-print_arc_head : goal.returns-in_err-print_arc_head
-returns-in_err-print_arc_head g c =
+pub returns-in_err-print : goal.returns-in_err-print
+returns-in_err-print g c =
     let p = err_from_is_err_and c.from_residual.result c.from_residual.ensures.1 in
     let k = c.args.number.0 in
     let e = entry_at c.args.graph.now k in
     let read = arc_head_read c.args.graph.now k c.in-Some.arc c.in-Some.ensures.graph c.requires.within c.in-Some.ensures.value in
     rw p.1 (
       fails_before _ _ (arc_head k e.tip e.len) (fields_end arc_names e.fields)
-          (fails_same _ _ _ (arc_head k e.tip e.len) c.in_err-print_arc_head.ensures.0 (read ∙ sym (append-nil _))),
-      c.in_err-print_arc_head.ensures.1,
+          (fails_same _ _ _ (arc_head k e.tip e.len) c.in_err-print.ensures.0
+          (sym (append-nil _) ∙ head_before _ _ [] _ _ read c.new-page.ensures c.prepend_arc-2.ensures)),
+      c.in_err-print.ensures.1,
     )
 
 pub returns : goal.returns
@@ -38,7 +40,8 @@ returns g c =
     let e = entry_at s k in
     let read = arc_head_read s k c.in-Some.arc c.in-Some.ensures.graph c.requires.within c.in-Some.ensures.value in
     prints_behind _ _ _ _ _ _ c.end_with_fields.result (arc_head k e.tip e.len) (fields_end arc_names e.fields)
-    (appends_same _ _ _ _ _ (arc_head k e.tip e.len) c.in_ok-print_arc_head.ensures (read ∙ sym (append-nil _)))
+    (appends_same _ _ _ _ _ (arc_head k e.tip e.len) c.in_ok-print.ensures
+    (sym (append-nil _) ∙ head_before _ _ [] _ _ read c.new-page.ensures c.prepend_arc-2.ensures))
     (prints_same _ _ _ _ c.end_with_fields.result _ (fields_end arc_names e.fields) c.end_with_fields.ensures
     (ap (fields_end arc_names)
     (two_values e.fields _ _ (arc_two s k c.in-Some.ensures.graph c.requires.within c.requires.live) c.util.ensures c.util-2.ensures)))
