@@ -1,4 +1,4 @@
-ghost use Rattle.std.specs.Prelude.{◌≡◌, ◌<◌, ◌^◌, length};
+ghost use Rattle.std.specs.Prelude.{◌≡◌, ◌+◌, ◌%◌, ◌<◌, ◌^◌, length};
 ghost use Rattle.sgb_flip.specs.Generator.{rotated, seed_number, seed_words};
 ghost use Rattle.sgb_flip.specs.Sequence.{difference};
 
@@ -19,14 +19,26 @@ pub(crate) fn fill(words: &mut [u32], number: u32)
     let mut turned = number;
     let mut before = number;
     let mut term = 1u32;
+    // Where the next term stands, counted from 1.
+    let mut place = 21usize;
     words[54] = number;
-    for j in 1..55usize {
-        words[21 * j % 55 - 1] = term;
+    for _j in 1..55usize {
+        words[place - 1] = term;
+        place = moved_on(place);
         turned = rotated_once(turned);
         let next = difference_of(difference_of(before, term), turned);
         before = term;
         term = next;
     }
+}
+
+// 21 places on in a circle of 55.
+#[inline(always)]
+fn moved_on(place: usize) -> usize
+    requires within { place < 55 }
+    ensures value { result ≡ (place + 21) % 55 }
+{
+    if place < 34 { place + 21 } else { place - 34 }
 }
 
 // Turns 31 bits right by one place.
