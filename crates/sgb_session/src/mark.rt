@@ -196,6 +196,8 @@ impl Mark {
     }
 
     /// Turns the generator back behind random work.
+    // A generator is large, so what is copied here has its room in a call of its own, and not in that of each undo.
+    #[inline(never)]
     pub(crate) fn turn_back(&mut self, source: Source)
         requires { CanTurnBack source self.old }
         ensures { self.new ≡ turned_back source self.old }

@@ -68,17 +68,20 @@ pub(crate) fn keep(marks: &mut Vec<Mark>, mark: &Mark) {
     }
 }
 
-/// The generator that this was kept of: the last of the marks where it is that one, which then leaves them, and else one
-/// that is made anew. So it is right whatever the marks are, and quick where they are those that seedings replaced.
-pub(crate) fn take_back(marks: &mut Vec<Mark>, past: Past) -> Mark
-    ensures { result ≡ past }
+/// Puts the generator that this was kept of in the place of another: the last of the marks where it is that one, which then
+/// leaves them, and else one that is made anew. So it is right whatever the marks are, and quick where they are those that
+/// seedings replaced.
+// Generators are large, so what is moved here has its room in a call of its own, and not in that of each undo.
+#[inline(never)]
+pub(crate) fn take_back(generator: &mut Mark, marks: &mut Vec<Mark>, past: Past)
+    ensures { generator.new ≡ past }
 {
     match marks.pop() {
-        Some(last) if Past::of(&last) == past => last,
+        Some(last) if Past::of(&last) == past => *generator = last,
         Some(other) => {
             marks.push_reserved(other);
-            past.mark()
+            *generator = past.mark();
         }
-        None => past.mark(),
+        None => *generator = past.mark(),
     }
 }

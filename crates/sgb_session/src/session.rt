@@ -410,7 +410,7 @@ impl Reversible for Session {
     #[inline(always)]
     fn revert(&mut self, delta: Delta) {
         match delta {
-            Delta::Seed(past) => self.generator = take_back(&mut self.marks, past),
+            Delta::Seed(past) => take_back(&mut self.generator, &mut self.marks, past),
             Delta::Draws(draws) => self.generator.back_by(draws),
             Delta::Made => self.table.pop(),
             Delta::MadeBy(source) => {
