@@ -28,7 +28,7 @@ impl Flip {
             bits = (bits >> 1) | ((bits & 1) << 30);
             now = less(now, bits);
             before = flip.words[i - 1];
-            i = (i + 21) % 55;
+            i = if i < 34 { i + 21 } else { i - 34 };
         }
         for _ in 0..5 {
             flip.cycle();
