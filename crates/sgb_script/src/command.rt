@@ -47,7 +47,7 @@ impl ShortCommand {
     ghost use Rattle.sgb_script.specs.Line.{command_of};
 
     /// The command itself.
-    pub fn command(self) -> Command
+    pub fn into_command(self) -> Command
         ensures { result ≡ command_of self }
     {
         match self {

@@ -90,7 +90,7 @@ fn line_with(short: ShortCommand, command: Command, asked: Asked) -> Line
 {
     match asked {
         Asked::Nothing => Line::Nothing,
-        Asked::Short => Line::Change(short.command()),
+        Asked::Short => Line::Change(short.into_command()),
         Asked::Change => Line::Change(command),
         Asked::Undo => Line::Undo,
         Asked::Redo => Line::Redo,
