@@ -1,13 +1,15 @@
 //! Commands and groups as a journal keeps them.
-ghost use Rattle.std.specs.Prelude.{◌≡◌, true, IfOk, OnOk, OnErr};
+ghost use Rattle.std.specs.Prelude.{◌≡◌, ◌⊎◌, true, None, Some, IsTrue, IfOk, IfErr, IfSome, OnOk, OnErr};
 ghost use Rattle.sgb_groups.specs.Private.Kept.{grouped_of, is_single};
 ghost use Rattle.sgb_groups.specs.declared.grouped.GroupedCommand.TheVariants.{One, Group};
-ghost use Rattle.sgb_script.specs.Line.{command_of};
+ghost use Rattle.sgb_script.specs.Line.{command_of, line_of, takes_memory};
+ghost use Rattle.sgb_script.specs.declared.refusal.ShellRefusal.TheVariants.{NoRoom, ScriptSyntax};
 ghost use Rattle.sgb_script.specs.declared.command.Command.TheVariants.{Next};
+ghost use Rattle.sgb_script.specs.declared.command.Line.TheVariants.{Change};
 ghost use Rattle.sgb_session.specs.State.{is_large};
 
 use sgb_graph::{ArcNo, Items};
-use sgb_script::{Command, Edit, Maker, ShortCommand};
+use sgb_script::{Command, Edit, Maker, ShellRefusal, ShortCommand, parse_short};
 use std::alloc::{AllocError, Global};
 use std::marker::Model;
 use std::mem;
@@ -66,6 +68,21 @@ impl KeptCommand {
         KeptCommand {
             kept: Kept::Group(members),
         }
+    }
+
+    /// Reads a line that has a short command, and keeps the command in place of what it kept; or refuses a line that has
+    /// none of any kind. Of other lines it tells nothing, and what it keeps then, or behind a refusal, tells nothing too.
+    #[inline(always)]
+    pub fn read(&mut self, alloc: Global, line: &[u8]) -> Option<Result<(), ShellRefusal>>
+        ensures ok { IfSome result (λ read. OnOk read ((c : Command) × (line_of line.now ≡ Some (Change c)) × (self.new ≡ One c))) }
+        ensures err { IfSome result (λ read. IfErr read (λ e. ((e ≡ ScriptSyntax) × (line_of line.now ≡ None))
+            ⊎ ((e ≡ NoRoom) × IsTrue (takes_memory (line_of line.now))))) }
+    {
+        self.kept = Kept::Short(ShortCommand::Next);
+        let Kept::Short(short) = &mut self.kept else {
+            unreachable!();
+        };
+        parse_short(alloc, line, short)
     }
 
     // Whether it is a command by itself.

@@ -1,8 +1,8 @@
 //! The session whose commands may be groups.
-ghost use Rattle.std.specs.Prelude.{◌≡◌, ◌<◌, ◌⊎◌, true, IfOk, IfErr, OnErr, vec_len, vec_capacity};
+ghost use Rattle.std.specs.Prelude.{◌≡◌, ◌<◌, ◌⊎◌, true, IfOk, IfErr, OnOk, OnErr, vec_len, vec_capacity};
 ghost use Rattle.sgb_undo.specs.Outcome.{Accepted, Refused, Keeps};
 ghost use Rattle.sgb_groups.specs.Grouped.{step, before, can_revert, may_want};
-ghost use Rattle.sgb_groups.specs.Private.Kept.{grouped_of, is_single, PerformsOne};
+ghost use Rattle.sgb_groups.specs.Private.Kept.{grouped_of, is_single, PerformsOne, PerformsAlone};
 ghost use Rattle.sgb_groups.specs.declared.grouped.GroupedCommand.TheVariants.{One};
 ghost use Rattle.sgb_session.specs.State.{is_large, Performs, told};
 ghost use Rattle.sgb_script.specs.Line.{command_of};
@@ -115,21 +115,26 @@ impl Reversible for GroupedSession {
         }
     }
 
-    /// Performs a command as `apply` does, and puts its delta last. That of a command by itself is written by the session.
+    /// Performs a command as `apply` does, puts its delta last, and writes its reply where it is wanted. Those of a command
+    /// by itself are written by the session.
     #[inline(always)]
     fn apply_onto(
         &mut self,
         command: &KeptCommand,
         deltas: &mut Vec<GroupedDelta>,
-    ) -> Result<GroupedReply, ShellRefusal> {
+        reply: &mut Option<GroupedReply>,
+    ) -> Result<(), ShellRefusal> {
         if !command.is_single() {
-            return apply_group(self, command, deltas);
+            return apply_group(self, command, deltas, reply);
         }
+        *reply = Some(GroupedReply::One(Reply::Done));
+        let Some(given) = reply else {
+            unreachable!();
+        };
         let mut delta = Delta::Made;
-        let mut reply = Reply::Done;
-        perform(&mut self.session, &command.kept, &mut delta, &mut reply)?;
+        perform_alone(&mut self.session, &command.kept, &mut delta, given)?;
         deltas.push_reserved(GroupedDelta::One(delta));
-        Ok(GroupedReply::One(reply))
+        Ok(())
     }
 
     /// Takes back a command, or each member of a group, the last first. It takes no memory.
@@ -149,6 +154,24 @@ impl Reversible for GroupedSession {
     fn is_memory(refusal: &ShellRefusal) -> bool {
         Session::is_memory(refusal)
     }
+}
+
+// Performs a command by itself, and writes its delta where another stood, and its reply as that of such a command.
+#[inline(always)]
+fn perform_alone(
+    session: &mut Session,
+    command: &Kept,
+    delta: &mut Delta,
+    reply: &mut GroupedReply,
+) -> Result<(), ShellRefusal>
+    requires single { is_single (grouped_of command.now) ≡ true }
+    ensures { PerformsAlone session.old session.new (grouped_of command.now) delta.new reply.new result }
+{
+    *reply = GroupedReply::One(Reply::Done);
+    let GroupedReply::One(given) = reply else {
+        unreachable!();
+    };
+    perform(session, command, delta, given)
 }
 
 // Performs a command by itself, and writes its delta and its reply where others stood.
@@ -216,23 +239,25 @@ fn perform_large(
     session.apply_at(command, delta, reply)
 }
 
-// Performs a group, and puts its delta last.
+// Performs a group, puts its delta last, and writes its reply where it is wanted.
 #[inline(never)]
 fn apply_group(
     session: &mut GroupedSession,
     command: &KeptCommand,
     deltas: &mut Vec<GroupedDelta>,
-) -> Result<GroupedReply, ShellRefusal>
+    reply: &mut Option<GroupedReply>,
+) -> Result<(), ShellRefusal>
     requires place { vec_len deltas.old < vec_capacity deltas.old }
-    ensures accepted { IfOk result (λ reply.
-        Keeps step before can_revert session.old command.now session.new reply deltas.old.items deltas.new.items) }
+    ensures accepted { OnOk result
+        (Keeps step before can_revert session.old command.now session.new reply.new deltas.old.items deltas.new.items) }
     ensures refused { IfErr result (λ r.
         ((is_no_room r ≡ true) × (may_want session.old command.now ≡ true)) ⊎ (step session.old command.now ≡ Refused r)) }
     ensures err { OnErr result (session.new ≡ session.old) }
     ensures same { OnErr result (deltas.new.items ≡ deltas.old.items) }
     ensures capacity { vec_capacity deltas.new ≡ vec_capacity deltas.old }
 {
-    let (delta, reply) = session.apply(command)?;
+    let (delta, given) = session.apply(command)?;
     deltas.push_reserved(delta);
-    Ok(reply)
+    *reply = Some(given);
+    Ok(())
 }

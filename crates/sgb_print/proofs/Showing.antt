@@ -48,12 +48,12 @@ two_values (_ ∷ _ ∷ _ ∷ _) x y two a b = absurd (omega arith)
 zero_field : (name : List ℕ) (u : Util) → is_zero u ≡ true → field_text name u ≡ []
 zero_field name u zero = rw zero refl
 
-both : (a b : Bool) → (a && (b && true)) ≡ true → (a ≡ true) × (b ≡ true)
+both : (a b : Bool) → (a && b) ≡ true → (a ≡ true) × (b ≡ true)
 both true true e = (refl, refl)
 both true false e = cc
 both false b e = cc
 
-pub zeros_end : (u v : Util) → list_all is_zero (u ∷ v ∷ []) ≡ true → fields_end arc_names (u ∷ v ∷ []) ≡ codes "\n"
+pub zeros_end : (u v : Util) → (is_zero u && is_zero v) ≡ true → fields_end arc_names (u ∷ v ∷ []) ≡ codes "\n"
 zeros_end u v zeros =
     let each = both (is_zero u) (is_zero v) zeros in
     rw (each.0, each.1) refl

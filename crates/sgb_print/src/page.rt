@@ -41,6 +41,14 @@ impl Page {
         }
     }
 
+    /// Takes the text away.
+    #[inline(always)]
+    pub fn clear(&mut self)
+        ensures { self.new ≡ [] }
+    {
+        self.start = PAGE_LIMIT;
+    }
+
     /// Puts bytes in front.
     #[inline]
     pub fn prepend(&mut self, bytes: &[u8])

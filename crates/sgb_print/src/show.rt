@@ -1,10 +1,10 @@
 //! Graphs as they are printed.
-ghost use Rattle.std.specs.Prelude.{◌≡◌, ◌+◌, ◌<◌, ◌≤◌, ◌++◌, codes, length, IsSome};
+ghost use Rattle.std.specs.Prelude.{◌≡◌, ◌+◌, ◌<◌, ◌≤◌, ◌∷◌, [], ◌++◌, ◌&&◌, codes, length, IsSome};
 ghost use Rattle.std.specs.List.{flat_map, list_all};
 ghost use Rattle.sgb_graph.specs.Graph.{n_of, made_of, arc_at, arcs_of};
 ghost use Rattle.sgb_graph.specs.Edit.{entry_at};
 ghost use Rattle.sgb_print.specs.Print.{Prints};
-ghost use Rattle.sgb_print.specs.Show.{made_text, graph_text, header_text, is_zero, field_text, tip_text, arc_head, arc_line, vertex_head, vertex_line, vertex_text, graph_fields_text, vertices_text, arcs_text};
+ghost use Rattle.sgb_print.specs.Show.{made_text, graph_text, header_text, is_zero, field_text, tip_text, arc_head, arc_line, arc_names, fields_end, vertex_head, vertex_line, vertex_text, graph_fields_text, vertices_text, arcs_text};
 
 use crate::meter::{Failed, MeteredWriter};
 use crate::page::Page;
@@ -170,17 +170,19 @@ fn print_arcs<W: Write>(
     ensures { Prints (W.contents writer.old.inner) (W.contents writer.new.inner) writer.old.failed writer.new.failed
         result (arcs_text graph.now (arcs_of graph.now vertex.0)) }
 {
+    let mut page = Page::new();
     for number in graph.arcs(vertex) {
-        print_arc(writer, graph, number)?;
+        print_arc(writer, graph, number, &mut page)?;
     }
     Ok(())
 }
 
-// An arc's number, tip, length and fields.
+// An arc's number, tip, length and fields, put together on a page that others used before.
 fn print_arc<W: Write>(
     writer: &mut MeteredWriter<W>,
     graph: &Graph,
     number: ArcNo,
+    page: &mut Page,
 ) -> Result<(), Failed>
     requires live { IsSome (arc_at graph.now number.0) }
     requires within { number.0 < made_of graph.now }
@@ -190,19 +192,36 @@ fn print_arc<W: Write>(
     let Some(arc) = graph.arc(number) else {
         unreachable!()
     };
-    let values = [
-        ("a", graph.util(Place::Arc(number, ArcField::A))),
-        ("b", graph.util(Place::Arc(number, ArcField::B))),
-    ];
-    let mut page = Page::new();
-    if are_zeros(&values) {
+    let a = graph.util(Place::Arc(number, ArcField::A));
+    let b = graph.util(Place::Arc(number, ArcField::B));
+    page.clear();
+    if are_both_zero(a, b) {
         page.prepend(b"\n");
-        prepend_arc(&mut page, number, arc.tip, arc.len);
+        prepend_arc(page, number, arc.tip, arc.len);
         return page.print(writer);
     }
-    prepend_arc(&mut page, number, arc.tip, arc.len);
+    prepend_arc(page, number, arc.tip, arc.len);
     page.print(writer)?;
-    end_with_fields(writer, &values)
+    end_with_arc_fields(writer, a, b)
+}
+
+// The fields of an arc that are not Zero, and the end of the line. It stands apart, so that other arcs make no room for it.
+#[inline(never)]
+fn end_with_arc_fields<W: Write>(
+    writer: &mut MeteredWriter<W>,
+    a: &Util,
+    b: &Util,
+) -> Result<(), Failed>
+    ensures { Prints (W.contents writer.old.inner) (W.contents writer.new.inner) writer.old.failed writer.new.failed
+        result (fields_end arc_names (a.now ∷ b.now ∷ [])) }
+{
+    end_with_fields(writer, &[("a", a), ("b", b)])
+}
+
+fn are_both_zero(a: &Util, b: &Util) -> bool
+    ensures { result ≡ (is_zero a.now && is_zero b.now) }
+{
+    matches!((a, b), (Util::Zero, Util::Zero))
 }
 
 // Puts what stands before an arc's fields in front.

@@ -3,8 +3,8 @@ use Rattle.std.proofs.Common.{◌≡◌, List, Option, Some, None, Result, Ok, E
 use Rattle.std.specs.Prelude.{OnOk, IfErr}
 use Rattle.std.specs.Option.{option_and_then}
 use Rattle.sgb_script.specs.Words.{Word}
-use Rattle.sgb_script.specs.Line.{line_with, line_after, takes_memory}
-use Rattle.sgb_script.specs.Private.Reading.{Asks}
+use Rattle.sgb_script.specs.Line.{line_after, takes_memory}
+use Rattle.sgb_script.specs.Private.Reading.{Asks, line_with}
 use Rattle.sgb_script.specs.declared.command.Asked.{Asked}
 use Rattle.sgb_script.specs.declared.command.Command.{Command}
 use Rattle.sgb_script.specs.declared.command.ShortCommand.{ShortCommand}

@@ -16,8 +16,6 @@ use Rattle.sgb_script.specs.declared.command.Command.TheVariants as commands
 use Rattle.sgb_script.specs.declared.command.Edit.TheVariants.{Arc, Edge, Cut, Len, Set, Types, Label, Id}
 use Rattle.sgb_script.specs.declared.command.Maker.TheVariants as makers
 use Rattle.sgb_script.specs.declared.command.Query.TheVariants as queries
-use Rattle.sgb_script.specs.declared.command.Asked.{Asked}
-use Rattle.sgb_script.specs.declared.command.Asked.TheVariants as asks
 use Rattle.sgb_script.specs.declared.command.Command.{Command}
 use Rattle.sgb_script.specs.declared.command.ShortCommand.{ShortCommand}
 use Rattle.sgb_script.specs.declared.command.ShortCommand.TheVariants as shorts
@@ -133,18 +131,6 @@ command_of (shorts.Unif bound) = Unif bound
 command_of (shorts.Empty name n) = Make name (makers.Empty n)
 command_of (shorts.Edit g edit) = Edit g edit
 command_of (shorts.Drop g) = Drop g
-
--- the line whose command, where it has one, stands in a place of its own, one place for short ones and one for others
-abbrev pub line_with : ShortCommand → Command → Asked → Line
-line_with s c asks.Short = Change (command_of s)
-line_with s c asks.Nothing = Nothing
-line_with s c asks.Change = Change c
-line_with s c asks.Undo = Undo
-line_with s c asks.Redo = Redo
-line_with s c (asks.Ask query) = Ask query
-line_with s c (asks.Load name rule) = Load name rule
-line_with s c asks.Group = Group
-line_with s c asks.End = End
 
 -- ---- memory
 

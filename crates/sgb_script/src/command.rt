@@ -150,26 +150,26 @@ pub enum Line {
     End,
 }
 
-/// What a line asks for, where its command stands in a place of its own, of which there is another for a short one.
-/// Everything else is that of [`Line`].
+// What a line asks for, where its command stands in a place of its own, of which there is another for a short one.
+// Everything else is that of `Line`.
 #[derive(Clone, Copy, Debug, PartialEq, Eq)]
-pub enum Asked {
-    /// An empty line, a line of spaces or a comment.
+pub(crate) enum Asked {
+    // An empty line, a line of spaces or a comment.
     Nothing,
-    /// The command that was written to the place of a short one.
+    // The command that was written to the place of a short one.
     Short,
-    /// The command that was written to the place of any other.
+    // The command that was written to the place of any other.
     Change,
-    /// `undo`.
+    // `undo`.
     Undo,
-    /// `redo`.
+    // `redo`.
     Redo,
-    /// A question.
+    // A question.
     Ask(Query),
-    /// `load NAME check` or `load NAME any`.
+    // `load NAME check` or `load NAME any`.
     Load(Name, CheckRule),
-    /// `group`.
+    // `group`.
     Group,
-    /// `end`.
+    // `end`.
     End,
 }

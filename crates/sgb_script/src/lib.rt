@@ -12,7 +12,7 @@ mod refusal;
 mod text;
 mod words;
 
-pub use command::{Asked, Command, Edit, Line, Maker, Query, ShortCommand};
-pub use line::{LINE_LIMIT, parse, parse_onto};
+pub use command::{Command, Edit, Line, Maker, Query, ShortCommand};
+pub use line::{LINE_LIMIT, parse, parse_short};
 pub use name::{NAME_LIMIT, Name};
 pub use refusal::ShellRefusal;

@@ -1,13 +1,14 @@
 //! Reads one line of a script.
-ghost use Rattle.std.specs.Prelude.{◌≡◌, ◌⊎◌, MatchOption, IfOk, OnOk, IfErr, IsTrue, length, ◌==◌, ◌∷◌, [], slice_index, Some, None};
+ghost use Rattle.std.specs.Prelude.{◌≡◌, ◌⊎◌, MatchOption, IfOk, OnOk, IfErr, IfSome, IsTrue, length, ◌==◌, ◌∷◌, [], slice_index, Some, None};
 ghost use Rattle.std.specs.Option.{option_and_then};
 ghost use Rattle.std.specs.Str.{bytes_eq};
 ghost use Rattle.sgb_script.specs.Words.{words_of};
 ghost use Rattle.sgb_script.specs.Arguments.{the_value};
-ghost use Rattle.sgb_script.specs.Line.{line_of, line_with, command_of, asked_of, line_after, keyword_of, step_of, whole_of, takes_memory};
+ghost use Rattle.sgb_script.specs.Line.{line_of, command_of, asked_of, line_after, keyword_of, step_of, whole_of, takes_memory};
 ghost use Rattle.sgb_script.specs.Private.Words.{seen, AreTexts, HasTexts};
-ghost use Rattle.sgb_script.specs.Private.Reading.{is_text, Begins, Asks, Reads};
+ghost use Rattle.sgb_script.specs.Private.Reading.{is_text, line_with, Begins, Asks, Reads};
 ghost use Rattle.sgb_script.specs.declared.refusal.ShellRefusal.TheVariants.{NoRoom, ScriptSyntax};
+ghost use Rattle.sgb_script.specs.declared.command.Line.TheVariants.{Change};
 ghost use Rattle.sgb_script.specs.declared.line.Keyword.TheVariants as keywords;
 
 use crate::arguments::{
@@ -101,12 +102,10 @@ fn line_with(short: ShortCommand, command: Command, asked: Asked) -> Line
     }
 }
 
-/// Reads one line of a script as [`parse`] does, and writes what it asks for where another stood, and the command of a line
-/// that changes the session where another command stood, a short one in a place of its own. Of any other line these places
-/// tell nothing, and of a refused one none does.
-// A command is large: so it is written once, where the caller keeps it, and not handed up from call to call.
-#[inline(always)]
-pub fn parse_onto(
+// Reads one line of a script, and writes what it asks for where another stood, and the command of a line that changes the
+// session where another command stood, a short one in a place of its own. Of any other line these places tell nothing, and
+// of a refused one none does.
+fn parse_onto(
     alloc: Global,
     line: &[u8],
     short: &mut ShortCommand,
@@ -153,6 +152,54 @@ pub fn parse_onto(
         Front::Asks(Keyword::Show, rest) => show(rest, asked),
         Front::Asks(Keyword::Save, rest) => save(rest, asked),
         Front::Asks(Keyword::Load, rest) => load(rest, asked),
+    }
+}
+
+/// Reads a line that has a short command, as [`parse`] does, and writes the command where another stood; or refuses a line
+/// that has none of any kind. Of other lines it tells nothing.
+// It is written once, where the caller keeps it, and takes no room for what other lines ask for.
+#[inline(always)]
+pub fn parse_short(
+    alloc: Global,
+    line: &[u8],
+    short: &mut ShortCommand,
+) -> Option<Result<(), ShellRefusal>>
+    ensures ok { IfSome result (λ read. OnOk read (line_of line.now ≡ Some (Change (command_of short.new)))) }
+    ensures err { IfSome result (λ read. IfErr read (λ e. ((e ≡ ScriptSyntax) × (line_of line.now ≡ None))
+        ⊎ ((e ≡ NoRoom) × IsTrue (takes_memory (line_of line.now))))) }
+{
+    match front_of(line) {
+        Front::Nothing => None,
+        Front::Other => Some(Err(ShellRefusal::ScriptSyntax)),
+        Front::Asks(keyword, rest) => read_short(alloc, keyword, rest, short),
+    }
+}
+
+// The same of what follows a keyword.
+#[inline(always)]
+fn read_short(
+    alloc: Global,
+    keyword: Keyword,
+    rest: &[u8],
+    short: &mut ShortCommand,
+) -> Option<Result<(), ShellRefusal>>
+    requires { HasTexts (words_of rest.now) }
+    ensures { IfSome result (λ read. Reads (option_and_then (λ ws. line_after ws keyword) (words_of rest.now)) (command_of short.new) read) }
+{
+    match keyword {
+        Keyword::Seed => Some(seed(rest, short)),
+        Keyword::Next => Some(next(rest, short)),
+        Keyword::Unif => Some(unif(rest, short)),
+        Keyword::Arc => Some(arc(rest, short)),
+        Keyword::Edge => Some(edge(rest, short)),
+        Keyword::Cut => Some(cut(rest, short)),
+        Keyword::Len => Some(len(rest, short)),
+        Keyword::Set => Some(set(alloc, rest, short)),
+        Keyword::Types => Some(types(rest, short)),
+        Keyword::Label => Some(label(alloc, rest, short)),
+        Keyword::Id => Some(id(alloc, rest, short)),
+        Keyword::Drop => Some(drop_graph(rest, short)),
+        _ => None,
     }
 }
 

@@ -37,7 +37,7 @@ pub(crate) fn make_edit(
 
 // Each edit has a function of its own, so that a call takes only the room for what its edit answers.
 
-#[inline(never)]
+#[inline(always)]
 fn make_arc(
     graph: &mut Graph,
     from: VertexNo,
@@ -54,7 +54,7 @@ fn make_arc(
     Ok(())
 }
 
-#[inline(never)]
+#[inline(always)]
 fn make_edge(
     graph: &mut Graph,
     from: VertexNo,
@@ -83,7 +83,7 @@ fn cut_arc(
     done(graph.cut(number), delta, reply)
 }
 
-#[inline(never)]
+#[inline(always)]
 fn set_len(
     graph: &mut Graph,
     number: ArcNo,
@@ -110,7 +110,7 @@ fn set_types(
     Ok(())
 }
 
-#[inline(never)]
+#[inline(always)]
 fn set_value(
     alloc: Global,
     graph: &mut Graph,
@@ -155,6 +155,7 @@ fn set_id(
 }
 
 // An edit that answers no number.
+#[inline(always)]
 fn done(
     outcome: Result<GraphDelta, Refusal>,
     delta: &mut GraphDelta,

@@ -267,7 +267,7 @@ impl Session {
     }
 
     /// Edits the graph of this name, as [`apply_at`](Session::apply_at) does.
-    #[inline(never)]
+    #[inline(always)]
     pub fn edit(
         &mut self,
         name: &Name,

@@ -163,6 +163,7 @@ impl Table {
     }
 
     /// Takes an edit of the graph at a place back.
+    #[inline(always)]
     pub(crate) fn revert(&mut self, place: usize, delta: GraphDelta)
         requires place { place < length self.old }
         requires left { (g : GraphOf) × LeftBy g delta (graph_in self.old place) }

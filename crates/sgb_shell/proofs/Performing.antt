@@ -1,6 +1,6 @@
 -- What the journal's calls do to the lists of a script's course.
-use Rattle.std.proofs.Common.{◌≡◌, ℕ, ◌↔◌, ◌⊎◌, Bool, true, false, cond, IsTrue, ◌==◌, List, [], ◌∷◌, ◌++◌, length, codes, Option, None, Some, Result, Ok, Err, refl, sym, ap, ◌∙◌, subst, inl, inr}
-use Rattle.std.specs.Prelude.{unwrap_or, bytes_eq, IfOk, OnErr, IsErrOf, ◌&&◌, ◌||◌}
+use Rattle.std.proofs.Common.{◌≡◌, ℕ, ◌+◌, ◌-◌, ◌^◌, min, arith, ◌↔◌, ◌⊎◌, Bool, true, false, cond, IsTrue, ◌==◌, List, [], ◌∷◌, ◌++◌, length, codes, Option, None, Some, Result, Ok, Err, refl, sym, ap, ◌∙◌, subst, inl, inr}
+use Rattle.std.specs.Prelude.{unwrap_or, bytes_eq, IfOk, IfErr, OnErr, IsErrOf, ◌&&◌, ◌||◌}
 use Rattle.std.proofs.lemmas.Bool.{ne_eqb, eq-eqb, or_left}
 use Rattle.std.proofs.lemmas.Slice.Eq.{bytes_eq-Decides}
 use Rattle.sgb_undo.specs.History.{IsJournal, Applies, Undoes, Redoes, FirstMayWant, grows_at}
@@ -13,6 +13,10 @@ use Rattle.sgb_shell.specs.declared.answer.Answer.TheVariants as answers
 use Rattle.sgb_groups.specs.declared.grouped.GroupedCommand.{GroupedCommand}
 use Rattle.sgb_groups.specs.declared.grouped.GroupedCommand.TheVariants.{One}
 use Rattle.sgb_groups.specs.declared.grouped.GroupedReply.{GroupedReply}
+use Rattle.sgb_groups.specs.declared.grouped.GroupedReply.TheVariants as replies
+use Rattle.sgb_session.specs.declared.reply.Reply.TheVariants.{Done}
+use Rattle.sgb_print.specs.Print.{Prints}
+use Rattle.sgb_shell.specs.Answer.{refusal_text}
 use Rattle.sgb_groups.specs.Grouped.{step, before, may_want}
 use Rattle.sgb_script.specs.declared.command.Command.{Command}
 use Rattle.sgb_script.specs.declared.command.Command.TheVariants as commands
@@ -20,19 +24,16 @@ use Rattle.sgb_script.specs.declared.command.Line.{Line}
 use Rattle.sgb_script.specs.declared.command.Line.TheVariants.{Nothing, Change, Undo, Redo, Ask, Load, Group, End}
 use Rattle.sgb_script.specs.declared.command.Query.{Query}
 use Rattle.sgb_script.specs.declared.command.Query.TheVariants as queries
-use Rattle.sgb_script.specs.Line.{line_of, line_with, command_of, takes_memory}
-use Rattle.sgb_script.specs.declared.command.Asked.{Asked}
-use Rattle.sgb_script.specs.declared.command.ShortCommand.{ShortCommand}
-use Rattle.sgb_script.specs.declared.command.Asked.TheVariants as asks
+use Rattle.sgb_script.specs.Line.{line_of, takes_memory}
 use Rattle.sgb_script.specs.Words.{words_of}
 use Rattle.sgb_script.specs.declared.refusal.ShellRefusal.{ShellRefusal}
 use Rattle.sgb_script.specs.declared.refusal.ShellRefusal.TheVariants.{NoRoom, CheckWrong, Syntax, BadSpecs, LengthRange, TooLarge, NoGraph, BadOperand, ScriptSyntax, TableFull, NameTaken, NothingToUndo, NothingToRedo, JournalFull, Stuck}
 use Rattle.sgb_shell.specs.Lines.{all_but_last}
-use Rattle.sgb_shell.specs.Private.Performing.{Kept, IsBegun, Does, Answers, by_command, by_line, by_unit, is_short, lists_of, answer_from}
+use Rattle.sgb_shell.specs.Private.Performing.{Kept, IsBegun, Does, Tells, Telling, Answers, by_command, by_line, by_unit, lists_of, answer_from}
 use Rattle.sgb_shell.specs.Private.Gathering.{IsRefused}
 use Rattle.sgb_script.specs.Refusal.{is_no_room}
 use Rattle.sgb_session.specs.State.{empty}
-use Rattle.sgb_shell.specs.Transcript.{Lists, Told, asked_of, state_of, answered, with_command, are_none, grows, changing, last_command, undoing, redoing, line_told, unit_told, has_its_text}
+use Rattle.sgb_shell.specs.Transcript.{Lists, Told, asked_of, state_of, answered, with_command, are_none, grows, changing, last_command, undoing, redoing, unit_told, has_its_text}
 use Rattle.sgb_shell.specs.Unit.{ScriptUnit, takes_text, takes_members}
 use Rattle.sgb_text.specs.declared.restoring.CheckRule.{CheckRule}
 
@@ -116,30 +117,30 @@ refused_by_machine j c f b not_full (inr refuses) = record {
 }
 
 -- a change that the journal answered
-pub changed : (old new : Kept) (c : GroupedCommand) (r : Result GroupedReply (JournalRefusal ShellRefusal)) → IsBegun old
-    → IfOk r (λ reply. Applies step before old c reply new)
+pub changed : {X : Type 0} (old new : Kept) (c : GroupedCommand) (reply_of : X → GroupedReply) (r : Result X (JournalRefusal ShellRefusal)) → IsBegun old
+    → IfOk r (λ x. Applies step before old c (reply_of x) new)
     → (IsErrOf r journals.NoRoom → (old.undone ≡ []) × IsTrue (grows_at (length old.standing)))
     → (IsErrOf r journals.Full ↔ (length old.standing ≡ 65535))
     → (IsErrOf r journals.NothingToRedo → ⊥)
     → ((f : ShellRefusal) → IsErrOf r (journals.Machine f) → ((is_no_room f ≡ true) × (may_want old.machine c ≡ true)) ⊎ (step old.machine c ≡ Refused f))
-    → OnErr r (new ≡ old) → IsJournal step before new → Does (by_command c) old new (answer_from r)
-changed old new c (Ok reply) b a no_room full nothing refused same sound =
+    → OnErr r (new ≡ old) → IsJournal step before new → Does (by_command c) old new (answer_from reply_of r)
+changed old new c reply_of (Ok x) b a no_room full nothing refused same sound =
     let not_full : (length old.standing == 65535) ≡ false = ne_eqb _ _ (λ e. let bad = full.1 e in cc) in record {
       no_room = false;
       told = rw not_full (ap (answered (lists_of old) (with_command (lists_of old) c)) (ap (λ s. step s c) (machine_is old b) ∙ a.accepted)
-          ∙ ap (λ l. tells (l) (answers.Replied reply)) (same_lists _ _ _ _ (sym a.standing) (sym a.undone)));
+          ∙ ap (λ l. tells (l) (answers.Replied (reply_of x))) (same_lists _ _ _ _ (sym a.standing) (sym a.undone)));
       begun = record { start = a.start ∙ b.start; sound = sound };
     }
-changed old new c (Err journals.NoRoom) b a no_room full nothing refused same sound =
+changed old new c reply_of (Err journals.NoRoom) b a no_room full nothing refused same sound =
     let not_full : (length old.standing == 65535) ≡ false = ne_eqb _ _ (λ e. let bad = full.1 e in cc) in record {
       no_room = true;
       told = wanting (lists_of old) c not_full (or_left _ _ (grown (lists_of old) (no_room refl))) ∙ stays old new (answers.Refused NoRoom) same;
       begun = subst IsBegun (sym same) b;
     }
-changed old new c (Err journals.Full) b a no_room full nothing refused same sound =
+changed old new c reply_of (Err journals.Full) b a no_room full nothing refused same sound =
     subst (λ j. Does (by_command c) old j (answers.Refused JournalFull)) (sym same) (full_does old c b (full.0 refl))
-changed old new c (Err journals.NothingToRedo) b a no_room full nothing refused same sound = absurd (nothing refl)
-changed old new c (Err (journals.Machine f)) b a no_room full nothing refused same sound =
+changed old new c reply_of (Err journals.NothingToRedo) b a no_room full nothing refused same sound = absurd (nothing refl)
+changed old new c reply_of (Err (journals.Machine f)) b a no_room full nothing refused same sound =
     let not_full : (length old.standing == 65535) ≡ false = ne_eqb _ _ (λ e. let bad = full.1 e in cc) in
     subst (λ j. Does (by_command c) old j (answers.Refused f)) (sym same) (refused_by_machine old c f b not_full (refused f refl))
 
@@ -151,33 +152,40 @@ undid old new b u sound = record {
   begun = record { start = u.start ∙ b.start; sound = sound };
 }
 
+pub undid_nothing : (old new : Kept) → IsBegun old → old.standing ≡ [] → new ≡ old → Does (by_line (Some Undo)) old new (answers.Refused NothingToUndo)
+undid_nothing old new b none same = record {
+  no_room = false;
+  told = ap (undoing (lists_of old)) (ap last_command none) ∙ stays old new (answers.Refused NothingToUndo) same;
+  begun = subst IsBegun (sym same) b;
+}
+
 refused_redo : (standing undone : List GroupedCommand) → FirstMayWant may_want (state_of standing) undone → redoing true standing undone ≡ tells (listed standing undone) (answers.Refused NoRoom)
 refused_redo standing [] wants = absurd wants
 refused_redo standing (c ∷ cs) wants = rw wants refl
 
-pub redid : (old new : Kept) (r : Result GroupedReply (JournalRefusal ShellRefusal)) → IsBegun old
-    → IfOk r (λ reply. Redoes step before old reply new)
+pub redid : {X : Type 0} (old new : Kept) (reply_of : X → GroupedReply) (r : Result X (JournalRefusal ShellRefusal)) → IsBegun old
+    → IfOk r (λ x. Redoes step before old (reply_of x) new)
     → (IsErrOf r journals.NothingToRedo ↔ (old.undone ≡ []))
     → (IsErrOf r journals.NoRoom → ⊥)
     → (IsErrOf r journals.Full → ⊥)
     → ((f : ShellRefusal) → IsErrOf r (journals.Machine f) → (is_no_room f ≡ true) × FirstMayWant may_want old.machine old.undone)
-    → OnErr r (new ≡ old) → IsJournal step before new → Does (by_line (Some Redo)) old new (answer_from r)
-redid old new (Ok reply) b d nothing no_room full refused same sound = record {
+    → OnErr r (new ≡ old) → IsJournal step before new → Does (by_line (Some Redo)) old new (answer_from reply_of r)
+redid old new reply_of (Ok x) b d nothing no_room full refused same sound = record {
   no_room = false;
   told = ap (redoing false old.standing) d.undone
       ∙ ap (answered (listed old.standing (d.command ∷ new.undone)) (listed (old.standing ++ d.command ∷ []) new.undone)) (ap (λ s. step s d.command) (machine_is old b) ∙ d.accepted)
-      ∙ ap (λ s. tells (listed s new.undone) (answers.Replied reply)) (sym d.standing);
+      ∙ ap (λ s. tells (listed s new.undone) (answers.Replied (reply_of x))) (sym d.standing);
   begun = record { start = d.start ∙ b.start; sound = sound };
 }
-redid old new (Err journals.NoRoom) b d nothing no_room full refused same sound = absurd (no_room refl)
-redid old new (Err journals.Full) b d nothing no_room full refused same sound = absurd (full refl)
-redid old new (Err journals.NothingToRedo) b d nothing no_room full refused same sound = record {
+redid old new reply_of (Err journals.NoRoom) b d nothing no_room full refused same sound = absurd (no_room refl)
+redid old new reply_of (Err journals.Full) b d nothing no_room full refused same sound = absurd (full refl)
+redid old new reply_of (Err journals.NothingToRedo) b d nothing no_room full refused same sound = record {
   no_room = false;
   told = ap (redoing false old.standing) (nothing.0 refl)
       ∙ ap (λ u. tells (listed old.standing u) (answers.Refused NothingToRedo)) (sym (nothing.0 refl)) ∙ stays old new (answers.Refused NothingToRedo) same;
   begun = subst IsBegun (sym same) b;
 }
-redid old new (Err (journals.Machine f)) b d nothing no_room full refused same sound =
+redid old new reply_of (Err (journals.Machine f)) b d nothing no_room full refused same sound =
     let wants = refused f refl in record {
       no_room = true;
       told = refused_redo old.standing old.undone (subst (λ s. FirstMayWant may_want s old.undone) (sym (machine_is old b)) wants.1)
@@ -187,32 +195,8 @@ redid old new (Err (journals.Machine f)) b d nothing no_room full refused same s
 
 -- ---- the line that was read
 
-pub short_is : (asked : Asked) → is_short asked ≡ true → asked ≡ asks.Short
-short_is asks.Nothing e = cc
-short_is asks.Short e = refl
-short_is asks.Change e = cc
-short_is asks.Undo e = cc
-short_is asks.Redo e = cc
-short_is (asks.Ask q) e = cc
-short_is (asks.Load name rule) e = cc
-short_is asks.Group e = cc
-short_is asks.End e = cc
-
--- the command of the line stands in a place of its own
-pub asks_does : (old new : Kept) (o : Option Line) (s : ShortCommand) (c : Command) (asked asked' : Asked) (answer : Answer) → o ≡ Some (line_with s c asked) → asked ≡ asked'
-    → Does (by_line (Some (line_with s c asked'))) old new answer → Does (by_line o) old new answer
-asks_does old new o s c asked asked' answer e same d = subst (λ p. Does (by_line p) old new answer) (sym (e ∙ ap (λ a. Some (line_with s c a)) same)) d
-
 pub changed_does : (old new : Kept) (c : Command) (answer : Answer) → Does (by_command (One c)) old new answer → Does (by_line (Some (Change c))) old new answer
 changed_does old new c answer d = record { no_room = d.no_room; told = d.told; begun = d.begun }
-
-pub shortly_changed : (old new : Kept) (o : Option Line) (s : ShortCommand) (c : Command) (asked : Asked) (answer : Answer) → o ≡ Some (line_with s c asked) → asked ≡ asks.Short
-    → Does (by_command (One (command_of s))) old new answer → Does (by_line o) old new answer
-shortly_changed old new o s c asked answer e same d = asks_does old new o s c asked asks.Short answer e same (changed_does old new (command_of s) answer d)
-
-pub changed_by : (old new : Kept) (o : Option Line) (s : ShortCommand) (c : Command) (asked : Asked) (answer : Answer) → o ≡ Some (line_with s c asked) → asked ≡ asks.Change
-    → Does (by_command (One c)) old new answer → Does (by_line o) old new answer
-changed_by old new o s c asked answer e same d = asks_does old new o s c asked asks.Change answer e same (changed_does old new c answer d)
 
 pub asked_does : (j : Kept) (q : Query) (answer : Answer) → IsBegun j → Answers j.machine q answer → Does (by_line (Some (Ask q))) j j answer
 asked_does j q answer b (no_room, e) = record {
@@ -221,26 +205,49 @@ asked_does j q answer b (no_room, e) = record {
   begun = b;
 }
 
--- a line that takes a text is no unit of its own
-pub load_does : (j : Kept) (o : Option Line) (l : Line) (name : List ℕ) (rule : CheckRule) → o ≡ Some l → l ≡ Load name rule → IsBegun j → Does (by_line o) j j (answers.Refused ScriptSyntax)
-load_does j o l name rule e same b = record {
-  no_room = false;
-  told = ap (λ p. line_told false (lists_of j) p) (e ∙ ap Some same);
-  begun = b;
+-- the line is known
+pub asked_as : (old new : Kept) (asked l : Line) (answer : Answer) → asked ≡ l → Does (by_line (Some l)) old new answer → Does (by_line (Some asked)) old new answer
+asked_as old new asked l answer same d = subst (λ k. Does (by_line (Some k)) old new answer) (sym same) d
+
+pub nothing_does : (j : Kept) → IsBegun j → Does (by_line (Some Nothing)) j j answers.Silent
+nothing_does j b = record { no_room = false; told = refl; begun = b }
+
+-- a line that takes a text, or begins or ends a group, is no unit of its own
+pub load_does : (j : Kept) (asked : Line) (name : List ℕ) (rule : CheckRule) → asked ≡ Load name rule → IsBegun j → Does (by_line (Some asked)) j j (answers.Refused ScriptSyntax)
+load_does j asked name rule same b = asked_as j j asked (Load name rule) (answers.Refused ScriptSyntax) same (record { no_room = false; told = refl; begun = b })
+
+pub group_does : (j : Kept) → IsBegun j → Does (by_line (Some Group)) j j (answers.Refused ScriptSyntax)
+group_does j b = record { no_room = false; told = refl; begun = b }
+
+pub end_does : (j : Kept) → IsBegun j → Does (by_line (Some End)) j j (answers.Refused ScriptSyntax)
+end_does j b = record { no_room = false; told = refl; begun = b }
+
+-- ---- answers that are told at once
+
+-- what is said to be the reply where none was given
+abbrev pub no_reply : Unit {0} → GroupedReply
+no_reply done = replies.One Done
+
+-- what is known of an error
+pub of_err : {X E : Type 0} (P : E → Type 0) (r : Result X E) (e : E) → r ≡ Err e → IfErr r P → P e
+of_err P r e same known = subst (λ k. IfErr k P) same known
+
+-- a refusal
+pub refused_told : {X E : Type 0} (tells : Telling) (number : ℕ) (old new : Kept) (count count' : ℕ) (held now : Option (List ℕ)) (failed failed' : Bool) (result : Result X E) (r s : ShellRefusal)
+    → Does tells old new (answers.Refused s) → r ≡ s → count' ≡ min (count + 1) (2 ^ 64 - 1) → Prints held now failed failed' result (refusal_text number r)
+    → Tells tells number old new count count' held now failed failed' result
+refused_told tells number old new count count' held now failed failed' result r s does same counted prints = record {
+  answer = answers.Refused r;
+  does = subst (λ f. Does tells old new (answers.Refused f)) (sym same) does;
+  counted = λ few. omega arith;
+  prints = prints;
 }
 
--- neither does a line that begins or ends a group
-pub other_does : (j : Kept) (o : Option Line) (l : Line) → o ≡ Some l → (l ≡ Group) ⊎ (l ≡ End) → IsBegun j → Does (by_line o) j j (answers.Refused ScriptSyntax)
-other_does j o l e (inl same) b = record {
-  no_room = false;
-  told = ap (λ p. line_told false (lists_of j) p) (e ∙ ap Some same);
-  begun = b;
-}
-other_does j o l e (inr same) b = record {
-  no_room = false;
-  told = ap (λ p. line_told false (lists_of j) p) (e ∙ ap Some same);
-  begun = b;
-}
+-- what was done is told another way
+pub told_as : {X E : Type 0} {tells tells' : Telling} {number : ℕ} {old new : Kept} {count count' : ℕ} {held now : Option (List ℕ)} {failed failed' : Bool} {result : Result X E}
+    → ((answer : Answer) → Does tells old new answer → Does tells' old new answer)
+    → Tells tells number old new count count' held now failed failed' result → Tells tells' number old new count count' held now failed failed' result
+told_as same t = record { answer = t.answer; does = same t.answer t.does; counted = t.counted; prints = t.prints }
 
 -- ---- lines of one word
 

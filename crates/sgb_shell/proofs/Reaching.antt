@@ -9,7 +9,7 @@ use Rattle.sgb_shell.specs.declared.answer.Answer.{Answer}
 use Rattle.sgb_shell.specs.declared.answer.Answer.TheVariants.{Refused}
 use Rattle.sgb_shell.specs.declared.pending.Pending.{Pending}
 use Rattle.sgb_shell.specs.Private.Gathering.{IsGathered, IsRefused}
-use Rattle.sgb_shell.specs.Private.Performing.{Kept, IsBegun, Does, by_line, by_unit, lists_of}
+use Rattle.sgb_shell.specs.Private.Performing.{Kept, IsBegun, Does, Tells, by_line, by_unit, lists_of}
 use Rattle.sgb_shell.specs.Private.Reaching.{Taken, GoesOn, Ends, Waits, Settles, unit_by, number_at, unanswered, Reached, Stopped, Finishes, Ended, StoppedAtEnd, Concludes}
 use Rattle.sgb_shell.specs.Run.{AppendsPast}
 use Rattle.sgb_shell.specs.Answer.{answer_text}
@@ -240,6 +240,18 @@ answer_taken held now now' failed failed' ls line old new pending pending' count
     ends_taken held now now' failed failed' ls line old new pending pending' count refused count' refused' told result r
     (unit_by count' (course r.no_room ls).pending line) few (counts count (length ls) count' r.lines few counting) refl s
     (grows refused (length ls) (refusals told.1) refused' within (omega arith) (refusals-few told.1) refusing) printed
+
+-- a line that is a unit of its own was answered at once
+pub told_taken : {X E : Type 0} (held now now' : Option (List ℕ)) (failed failed' : Bool) (ls : List (List ℕ)) (line : List ℕ) (old new : Kept) (pending : Option Pending)
+    (count refused count' refused' : ℕ) (result : Result X E) → Reached held now ls old pending count refused
+    → length ls < 2 ^ 32 → count' ≡ min (count + 1) (2 ^ 64 - 1) → pending ≡ None → takes_text line ≡ false → takes_members line ≡ false
+    → Tells (by_line (line_of line)) count' old new refused refused' now now' failed failed' result
+    → Finishes held now' failed failed' ls (ls ++ line ∷ []) new pending count' refused' result
+told_taken held now now' failed failed' ls line old new pending count refused count' refused' result r few counting none text members told =
+    let within : refused ≤ length ls = omega (arith, course-refused r.no_room ls, r.refused) in
+    answer_taken held now now' failed failed' ls line old new pending pending count refused count' refused' (count', told.answer) result r few counting
+    (alone_settles count' (course r.no_room ls).pending line old new pending told.answer r.waits none text members told.does)
+    (let sum = told.counted (omega arith) in let one = refusals-few told.answer in omega arith) told.prints
 
 pub nothing_reached : (held : Option (List ℕ)) (j : Kept) → IsBegun j → lists_of j ≡ record { standing = []; undone = [] } → Reached held held [] j None 0 0
 unfolding course

@@ -1,10 +1,11 @@
 //! What a unit of a script is answered, and how that is printed.
 ghost use Rattle.sgb_print.specs.Print.{Prints};
-ghost use Rattle.std.specs.Prelude.{◌<◌, ◌++◌, codes, length};
+ghost use Rattle.std.specs.Prelude.{◌≡◌, ◌+◌, ◌-◌, ◌<◌, ◌^◌, ◌++◌, codes, length, min};
 ghost use Rattle.std.specs.Fmt.{decimal};
 ghost use Rattle.std.specs.List.{flat_map};
-ghost use Rattle.sgb_shell.specs.Answer.{answer_text, reply_text, grouped_count_text, generator_text, refusal_text, count_text, list_text, entry_text, shown_text};
+ghost use Rattle.sgb_shell.specs.Answer.{answer_text, reply_text, grouped_text, grouped_count_text, generator_text, refusal_text, count_text, list_text, entry_text, shown_text};
 ghost use Rattle.sgb_session.specs.Table.{entry_in};
+ghost use Rattle.sgb_shell.specs.Transcript.{refusals};
 
 use itoa::Buffer;
 use sgb_graph::ArcNo;
@@ -36,10 +37,36 @@ pub(crate) enum Answer {
     Refused(ShellRefusal),
 }
 
-/// Prints the answer to the unit of a number, at the session after it.
+/// Counts the answer to the unit of a number where it is a refusal, and prints it.
+pub(crate) fn tell<W: Write>(
+    writer: &mut MeteredWriter<W>,
+    refused: &mut u64,
+    number: u64,
+    session: &Session,
+    answer: &Answer,
+) -> Result<(), Failed>
+    ensures refused { refused.new ≡ min (refused.old + refusals answer.now) (2 ^ 64 - 1) }
+    ensures prints { Prints (W.contents writer.old.inner) (W.contents writer.new.inner) writer.old.failed writer.new.failed
+        result (answer_text number session.now answer.now) }
+{
+    *refused = refused.saturating_add(refusal_count(answer));
+    print_answer(writer, number, session, answer)
+}
+
+// A refused unit counts once.
+fn refusal_count(answer: &Answer) -> u64
+    ensures { result ≡ refusals answer.now }
+{
+    match answer {
+        Answer::Refused(_) => 1,
+        _ => 0,
+    }
+}
+
+// Prints the answer to the unit of a number, at the session after it.
 // Each answer has a call of its own, so that a reply is printed without the room for the others.
 #[inline]
-pub(crate) fn print_answer<W: Write>(
+fn print_answer<W: Write>(
     writer: &mut MeteredWriter<W>,
     number: u64,
     session: &Session,
@@ -51,8 +78,7 @@ pub(crate) fn print_answer<W: Write>(
     match answer {
         Answer::Silent => Ok(()),
         Answer::Undone => print_undone(writer),
-        Answer::Replied(GroupedReply::One(reply)) => print_reply(writer, reply),
-        Answer::Replied(GroupedReply::Group(members)) => print_group(writer, members.as_slice()),
+        Answer::Replied(reply) => print_grouped(writer, reply),
         Answer::Generator => print_generator(writer, session),
         Answer::Graphs => print_list(writer, session),
         Answer::Graph(place) => print_graph_at(writer, session, *place),
@@ -61,12 +87,27 @@ pub(crate) fn print_answer<W: Write>(
     }
 }
 
-#[inline(never)]
-fn print_undone<W: Write>(writer: &mut MeteredWriter<W>) -> Result<(), Failed>
+#[inline]
+pub(crate) fn print_undone<W: Write>(writer: &mut MeteredWriter<W>) -> Result<(), Failed>
     ensures { Prints (W.contents writer.old.inner) (W.contents writer.new.inner) writer.old.failed writer.new.failed
         result (codes "undone\n") }
 {
     put(writer, b"undone\n")
+}
+
+/// Prints the reply to a command, or those to a group's members.
+#[inline(always)]
+pub(crate) fn print_grouped<W: Write>(
+    writer: &mut MeteredWriter<W>,
+    reply: &GroupedReply,
+) -> Result<(), Failed>
+    ensures { Prints (W.contents writer.old.inner) (W.contents writer.new.inner) writer.old.failed writer.new.failed
+        result (grouped_text reply.now) }
+{
+    match reply {
+        GroupedReply::One(reply) => print_reply(writer, reply),
+        GroupedReply::Group(members) => print_group(writer, members.as_slice()),
+    }
 }
 
 #[inline]
@@ -156,7 +197,10 @@ fn print_grouped_count<W: Write>(writer: &mut MeteredWriter<W>, count: usize) ->
 }
 
 #[inline(never)]
-fn print_generator<W: Write>(writer: &mut MeteredWriter<W>, session: &Session) -> Result<(), Failed>
+pub(crate) fn print_generator<W: Write>(
+    writer: &mut MeteredWriter<W>,
+    session: &Session,
+) -> Result<(), Failed>
     ensures { Prints (W.contents writer.old.inner) (W.contents writer.new.inner) writer.old.failed writer.new.failed
         result (generator_text session.now) }
 {
@@ -190,7 +234,7 @@ fn print_saved<W: Write>(writer: &mut MeteredWriter<W>, saved: &Saved) -> Result
 }
 
 #[inline(never)]
-fn print_refusal<W: Write>(
+pub(crate) fn print_refusal<W: Write>(
     writer: &mut MeteredWriter<W>,
     number: u64,
     refusal: ShellRefusal,

@@ -2,6 +2,7 @@
 #![tactic(auto)]
 
 mod answer;
+mod at_once;
 mod buffer;
 mod fault;
 mod first;

@@ -1,23 +1,19 @@
 //! Answers a script line by line, as its bytes come.
-ghost use Rattle.std.specs.Prelude.{◌≡◌, ◌<◌, ◌≤◌, ◌+◌, ◌-◌, ◌^◌, ◌++◌, ◌∷◌, [], min, List, ℕ, Option, None, IfOk, IfSome, false, length};
-ghost use Rattle.sgb_print.specs.Print.{Prints};
-ghost use Rattle.sgb_shell.specs.Answer.{answer_text};
+ghost use Rattle.std.specs.Prelude.{◌≡◌, ◌<◌, ◌≤◌, ◌^◌, ◌++◌, ◌∷◌, [], List, ℕ, Option, None, IfOk, IfSome, false, length};
 ghost use Rattle.sgb_shell.specs.Lines.{lines, whole_lines};
 ghost use Rattle.sgb_shell.specs.Private.Holding.{held_line, IsFirstLine};
 ghost use Rattle.sgb_shell.specs.Private.Reaching.{Reached, Finishes, Takes, TakesFront, IsUnitAhead, Progress, Concludes};
-ghost use Rattle.sgb_shell.specs.Transcript.{refusals};
 ghost use Rattle.sgb_shell.specs.Unit.{takes_text, takes_members};
 
-use crate::answer::{Answer, print_answer};
+use crate::answer::{Answer, tell};
+use crate::at_once::answer_at_once;
 use crate::buffer::LineBuffer;
 use crate::first::is_plain;
 use crate::pending::Pending;
-use crate::perform::perform;
 use crate::unit::take_line;
 use memchr::memchr;
 use sgb_groups::GroupedSession;
 use sgb_print::{Failed, MeteredWriter};
-use sgb_session::Session;
 use sgb_undo::Journal;
 use std::alloc::{AllocError, Global};
 use std::io::Write;
@@ -130,10 +126,14 @@ impl Shell {
     {
         let number = self.lines.saturating_add(1);
         self.lines = number;
-        let mut answer = Answer::Silent;
-        perform(self.alloc, &mut self.journal, line, &mut answer);
-        let session = self.journal.machine().session();
-        tell(writer, &mut self.refused, number, session, &answer)
+        answer_at_once(
+            self.alloc,
+            writer,
+            &mut self.journal,
+            &mut self.refused,
+            number,
+            line,
+        )
     }
 
     // Takes bytes one by one.
@@ -265,31 +265,5 @@ fn line_size(bytes: &[u8]) -> usize
     match first_line(bytes) {
         Some(line) => line.len() + 1,
         None => bytes.len(),
-    }
-}
-
-// Counts the answer to the unit of a number where it is a refusal, and prints it.
-fn tell<W: Write>(
-    writer: &mut MeteredWriter<W>,
-    refused: &mut u64,
-    number: u64,
-    session: &Session,
-    answer: &Answer,
-) -> Result<(), Failed>
-    ensures refused { refused.new ≡ min (refused.old + refusals answer.now) (2 ^ 64 - 1) }
-    ensures prints { Prints (W.contents writer.old.inner) (W.contents writer.new.inner) writer.old.failed writer.new.failed
-        result (answer_text number session.now answer.now) }
-{
-    *refused = refused.saturating_add(refusal_count(answer));
-    print_answer(writer, number, session, answer)
-}
-
-// A refused unit counts once.
-fn refusal_count(answer: &Answer) -> u64
-    ensures { result ≡ refusals answer.now }
-{
-    match answer {
-        Answer::Refused(_) => 1,
-        _ => 0,
     }
 }

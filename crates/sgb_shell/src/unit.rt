@@ -72,22 +72,18 @@ fn close(
     ensures { (u : ScriptUnit) (l : List ℕ) → line.now ≡ held_line l → closes u l ≡ true → IsGathered u unit → IsBegun journal.old
         → Does (by_unit (closed_by u l)) journal.old journal.new result }
 {
-    let mut answer = Answer::Silent;
     match unit.command(line) {
-        Ok(command) => change(alloc, journal, command, &mut answer),
-        Err(refusal) => answer = Answer::Refused(refusal),
+        Ok(command) => change(alloc, journal, command),
+        Err(refusal) => Answer::Refused(refusal),
     }
-    answer
 }
 
 // Answers a line that is a unit of its own.
 fn answer_line(alloc: Global, journal: &mut Journal<GroupedSession>, line: &LineBuffer) -> Answer
     ensures { (l : List ℕ) → line.now ≡ held_line l → IsBegun journal.old → Does (by_line (line_of l)) journal.old journal.new result }
 {
-    let mut answer = Answer::Silent;
     match line.whole() {
-        Some(bytes) => perform(alloc, journal, bytes, &mut answer),
-        None => answer = Answer::Refused(ShellRefusal::ScriptSyntax),
+        Some(bytes) => perform(alloc, journal, bytes),
+        None => Answer::Refused(ShellRefusal::ScriptSyntax),
     }
-    answer
 }

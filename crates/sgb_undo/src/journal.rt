@@ -59,9 +59,36 @@ impl<M: Reversible> Journal<M> {
     /// The journal takes memory only where nothing is undone and a multiple of [`GROWTH`] stand,
     /// before the machine is asked. A command that is refused is dropped, and everything stays as it
     /// was, the undone commands too.
-    #[inline(always)]
     pub fn apply(&mut self, command: M::Command) -> Result<M::Reply, JournalRefusal<M::Refusal>>
         ensures ok { IfOk result (λ reply. Applies M.step M.before self.old command reply self.new) }
+
+        ensures no_room { IsErrOf result JournalRefusal.NoRoom → (self.old.undone ≡ []) × IsTrue (grows_at (length self.old.standing)) }
+        ensures full { IsErrOf result JournalRefusal.Full ↔ (length self.old.standing ≡ 65535) }
+        ensures nothing { IsErrOf result JournalRefusal.NothingToRedo → ⊥ }
+        ensures refused { (r : M.Refusal) → IsErrOf result (JournalRefusal.Machine r)
+            → ((M.is_want_of_memory r ≡ true) × (M.may_want self.old.machine command ≡ true)) ⊎ (M.step self.old.machine command ≡ Refused r) }
+
+        ensures start { self.new.start ≡ self.old.start }
+        ensures err { OnErr result (self.new ≡ self.old) }
+        ensures sound { IsJournal M.step M.before self.new }
+    {
+        let mut reply = None;
+        match self.apply_onto(command, &mut reply) {
+            Ok(()) => Ok(reply.unwrap()),
+            Err(refusal) => Err(refusal),
+        }
+    }
+
+    /// Performs a command as [`apply`](Journal::apply) does, and writes its reply where the caller wants it; where it is
+    /// refused, what stands there tells nothing.
+    // A reply may be large: so it is written once, and not handed up from call to call.
+    #[inline(always)]
+    pub fn apply_onto(
+        &mut self,
+        command: M::Command,
+        reply: &mut Option<M::Reply>,
+    ) -> Result<(), JournalRefusal<M::Refusal>>
+        ensures ok { OnOk result ((given : M.Reply) × (reply.new ≡ Some given) × Applies M.step M.before self.old command given self.new) }
 
         ensures no_room { IsErrOf result JournalRefusal.NoRoom → (self.old.undone ≡ []) × IsTrue (grows_at (length self.old.standing)) }
         ensures full { IsErrOf result JournalRefusal.Full ↔ (length self.old.standing ≡ 65535) }
@@ -80,11 +107,11 @@ impl<M: Reversible> Journal<M> {
         if make_place(&mut self.machine, &mut self.commands, &mut self.deltas).is_err() {
             return Err(JournalRefusal::NoRoom);
         }
-        match self.machine.apply_onto(&command, &mut self.deltas) {
-            Ok(reply) => {
+        match self.machine.apply_onto(&command, &mut self.deltas, reply) {
+            Ok(()) => {
                 forget(&mut self.commands, standing);
                 self.commands.push_reserved(command);
-                Ok(reply)
+                Ok(())
             }
             Err(refusal) => Err(JournalRefusal::Machine(refusal)),
         }
@@ -112,9 +139,34 @@ impl<M: Reversible> Journal<M> {
     ///
     /// The journal itself takes no memory for it, so the machine's want of memory is the only
     /// refusal where something is undone.
-    #[inline(always)]
     pub fn redo(&mut self) -> Result<M::Reply, JournalRefusal<M::Refusal>>
         ensures ok { IfOk result (λ reply. Redoes M.step M.before self.old reply self.new) }
+
+        ensures nothing { IsErrOf result JournalRefusal.NothingToRedo ↔ (self.old.undone ≡ []) }
+        ensures no_room { IsErrOf result JournalRefusal.NoRoom → ⊥ }
+        ensures full { IsErrOf result JournalRefusal.Full → ⊥ }
+        ensures refused { (r : M.Refusal) → IsErrOf result (JournalRefusal.Machine r)
+            → (M.is_want_of_memory r ≡ true) × FirstMayWant M.may_want self.old.machine self.old.undone }
+
+        ensures start { self.new.start ≡ self.old.start }
+        ensures err { OnErr result (self.new ≡ self.old) }
+        ensures sound { IsJournal M.step M.before self.new }
+    {
+        let mut reply = None;
+        match self.redo_onto(&mut reply) {
+            Ok(()) => Ok(reply.unwrap()),
+            Err(refusal) => Err(refusal),
+        }
+    }
+
+    /// Performs the first undone command again as [`redo`](Journal::redo) does, and writes its reply as
+    /// [`apply_onto`](Journal::apply_onto) does.
+    #[inline(always)]
+    pub fn redo_onto(
+        &mut self,
+        reply: &mut Option<M::Reply>,
+    ) -> Result<(), JournalRefusal<M::Refusal>>
+        ensures ok { OnOk result ((given : M.Reply) × (reply.new ≡ Some given) × Redoes M.step M.before self.old given self.new) }
 
         ensures nothing { IsErrOf result JournalRefusal.NothingToRedo ↔ (self.old.undone ≡ []) }
         ensures no_room { IsErrOf result JournalRefusal.NoRoom → ⊥ }
@@ -130,14 +182,14 @@ impl<M: Reversible> Journal<M> {
         if next == self.commands.len() {
             return Err(JournalRefusal::NothingToRedo);
         }
-        let reply = match self
+        match self
             .machine
-            .apply_onto(&self.commands[next], &mut self.deltas)
+            .apply_onto(&self.commands[next], &mut self.deltas, reply)
         {
-            Ok(reply) => reply,
+            Ok(()) => {}
             Err(want) => return Err(JournalRefusal::Machine(want)),
-        };
-        Ok(reply)
+        }
+        Ok(())
     }
 
     /// How many commands stand.

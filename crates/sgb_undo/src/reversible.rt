@@ -1,6 +1,6 @@
 //! Machines whose commands can be taken back.
 
-ghost use Rattle.std.specs.Prelude.{◌≡◌, ◌<◌, ◌⊎◌, Bool, true, IfOk, IfErr, OnErr, vec_len, vec_capacity};
+ghost use Rattle.std.specs.Prelude.{◌≡◌, ◌<◌, ◌⊎◌, Bool, true, IfOk, IfErr, OnOk, OnErr, vec_len, vec_capacity};
 ghost use Rattle.sgb_undo.specs.Outcome.{Outcome, Accepted, Refused, Keeps};
 
 use std::alloc::AllocError;
@@ -44,24 +44,27 @@ pub trait Reversible: Drop {
             ((is_want_of_memory r ≡ true) × (may_want self.old command.now ≡ true)) ⊎ (step self.old command.now ≡ Refused r)) }
         ensures err { OnErr result (self.new ≡ self.old) };
 
-    /// Performs a command as [`apply`](Reversible::apply) does, and puts its delta behind those before it, for which
-    /// there is a place. A machine whose deltas are large may write them there at once.
+    /// Performs a command as [`apply`](Reversible::apply) does, puts its delta behind those before it, for which there is
+    /// a place, and writes its reply where the caller wants it; where the command is refused, what stands there tells
+    /// nothing. A machine whose deltas and replies are large may write them there at once.
     fn apply_onto(
         &mut self,
         command: &Self::Command,
         deltas: &mut Vec<Self::Delta>,
-    ) -> Result<Self::Reply, Self::Refusal>
+        reply: &mut Option<Self::Reply>,
+    ) -> Result<(), Self::Refusal>
         requires place { vec_len deltas.old < vec_capacity deltas.old }
-        ensures accepted { IfOk result (λ reply. Keeps step before can_revert self.old command.now self.new reply deltas.old.items deltas.new.items) }
+        ensures accepted { OnOk result (Keeps step before can_revert self.old command.now self.new reply.new deltas.old.items deltas.new.items) }
         ensures refused { IfErr result (λ r.
             ((is_want_of_memory r ≡ true) × (may_want self.old command.now ≡ true)) ⊎ (step self.old command.now ≡ Refused r)) }
         ensures err { OnErr result (self.new ≡ self.old) }
         ensures same { OnErr result (deltas.new.items ≡ deltas.old.items) }
         ensures capacity { vec_capacity deltas.new ≡ vec_capacity deltas.old }
     {
-        let (delta, reply) = self.apply(command)?;
+        let (delta, given) = self.apply(command)?;
         deltas.push_reserved(delta);
-        Ok(reply)
+        *reply = Some(given);
+        Ok(())
     }
 
     /// Takes back the command that gave the delta. It takes no memory and is never refused.

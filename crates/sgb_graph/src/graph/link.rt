@@ -123,6 +123,8 @@ pub(super) fn lay_behind(
 }
 
 // Takes the arc out of its owner's list, and makes its number a hole.
+// Inlined, so that nothing is put together of an arc that is not wanted.
+#[inline(always)]
 pub(super) fn take_out(vertices: &mut Vertices, slots: &mut Arena, number: ArcNo) -> CutArc
     requires { CanBeTakenOut vertices.old slots.old number.0 }
     ensures { TakesOut vertices.old slots.old number.0 result vertices.new slots.new }

@@ -12,6 +12,7 @@ use crate::{ArcNo, CutArc, GraphDelta, Label, Place, Text, Types, Util, VertexNo
 
 impl Graph {
     /// Undoes the edit that gave this delta and left the graph as it is. Takes no memory.
+    #[inline(always)]
     pub fn revert(&mut self, delta: GraphDelta)
         requires { (g : GraphOf) × LeftBy g delta self.old }
         ensures back { (g : GraphOf) → LeftBy g delta self.old → self.new ≡ g }

@@ -1,7 +1,9 @@
 -- What is kept of a command or a group.
-use Rattle.std.specs.Prelude.{Bool, true, false, Result}
+use Rattle.std.specs.Prelude.{◌≡◌, Bool, true, false, Result, Ok, Err}
 use Rattle.sgb_groups.specs.declared.grouped.GroupedCommand.{GroupedCommand}
 use Rattle.sgb_groups.specs.declared.grouped.GroupedCommand.TheVariants as grouped
+use Rattle.sgb_groups.specs.declared.grouped.GroupedReply.{GroupedReply}
+use Rattle.sgb_groups.specs.declared.grouped.GroupedReply.TheVariants as replies
 use Rattle.sgb_groups.specs.declared.kept.Kept.{Kept}
 use Rattle.sgb_groups.specs.declared.kept.Kept.TheVariants.{Short, Large, Group}
 use Rattle.sgb_script.specs.Line.{command_of}
@@ -24,3 +26,8 @@ is_single (grouped.Group cs) = false
 abbrev pub PerformsOne : State → State → GroupedCommand → Result (Delta × Reply) ShellRefusal → Type 0
 PerformsOne old new (grouped.One c) r = Performs old new c r
 PerformsOne old new (grouped.Group cs) r = ⊥
+
+-- and its reply is that of a command by itself
+abbrev pub PerformsAlone : State → State → GroupedCommand → Delta → GroupedReply → Result (Unit {0}) ShellRefusal → Type 0
+PerformsAlone old new c d replied (Ok done) = (r : Reply) × (replied ≡ replies.One r) × PerformsOne old new c (Ok (d, r))
+PerformsAlone old new c d replied (Err refusal) = PerformsOne old new c (Err refusal)

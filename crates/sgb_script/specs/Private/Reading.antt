@@ -5,16 +5,17 @@ use Rattle.sgb_graph.specs.declared.field.Util.TheVariants as utils
 use Rattle.sgb_script.specs.declared.command.Maker.{Maker}
 use Rattle.sgb_script.specs.declared.command.Maker.TheVariants.{Induced}
 use Rattle.sgb_script.specs.declared.command.Asked.{Asked}
+use Rattle.sgb_script.specs.declared.command.Asked.TheVariants as asks
 use Rattle.sgb_script.specs.declared.command.Command.{Command}
 use Rattle.sgb_script.specs.declared.command.ShortCommand.{ShortCommand}
 use Rattle.sgb_script.specs.declared.command.Line.{Line}
-use Rattle.sgb_script.specs.declared.command.Line.TheVariants.{Nothing, Change}
+use Rattle.sgb_script.specs.declared.command.Line.TheVariants.{Nothing, Change, Undo, Redo, Ask, Load, Group, End}
 use Rattle.sgb_script.specs.declared.line.Front.{Front}
 use Rattle.sgb_script.specs.declared.line.Front.TheVariants as fronts
 use Rattle.sgb_script.specs.declared.refusal.ShellRefusal.{ShellRefusal}
 use Rattle.sgb_script.specs.declared.refusal.ShellRefusal.TheVariants.{NoRoom, ScriptSyntax}
 use Rattle.sgb_script.specs.Words.{words_of}
-use Rattle.sgb_script.specs.Line.{line_with, line_after, takes_memory}
+use Rattle.sgb_script.specs.Line.{command_of, line_after, takes_memory}
 use Rattle.sgb_script.specs.Private.Words.{HasTexts}
 
 -- the value of a field is a text
@@ -25,6 +26,18 @@ is_text (Some (utils.Int z)) = false
 is_text (Some (utils.Vertex k)) = false
 is_text (Some (utils.Arc k)) = false
 is_text (Some (utils.Text t)) = true
+
+-- the line whose command, where it has one, stands in a place of its own, one place for short ones and one for others
+abbrev pub line_with : ShortCommand → Command → Asked → Line
+line_with s c asks.Short = Change (command_of s)
+line_with s c asks.Nothing = Nothing
+line_with s c asks.Change = Change c
+line_with s c asks.Undo = Undo
+line_with s c asks.Redo = Redo
+line_with s c (asks.Ask query) = Ask query
+line_with s c (asks.Load name rule) = Load name rule
+line_with s c asks.Group = Group
+line_with s c asks.End = End
 
 -- what the reading of a line answers that changes nothing, and what then stands in its place, whatever stands in those of
 -- commands: the line, 100 where it is none, or 1 where it takes memory

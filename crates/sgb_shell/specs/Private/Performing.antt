@@ -1,5 +1,5 @@
 -- What a line or a unit does to the session's journal.
-use Rattle.std.specs.Prelude.{◌≡◌, Bool, true, false, if◌then◌else◌, Option, Result, Ok, Err}
+use Rattle.std.specs.Prelude.{◌≡◌, ℕ, ◌+◌, ◌<◌, ◌^◌, Bool, if◌then◌else◌, List, Option, Result, Ok, Err}
 use Rattle.sgb_graph.specs.Graph.{GraphOf}
 use Rattle.sgb_undo.specs.History.{History, IsJournal}
 use Rattle.sgb_undo.specs.declared.refusal.JournalRefusal.{JournalRefusal}
@@ -10,14 +10,14 @@ use Rattle.sgb_groups.specs.declared.grouped.GroupedCommand.{GroupedCommand}
 use Rattle.sgb_groups.specs.declared.grouped.GroupedDelta.{GroupedDelta}
 use Rattle.sgb_groups.specs.declared.grouped.GroupedReply.{GroupedReply}
 use Rattle.sgb_groups.specs.Grouped.{step, before}
-use Rattle.sgb_script.specs.declared.command.Asked.{Asked}
-use Rattle.sgb_script.specs.declared.command.Asked.TheVariants as asks
 use Rattle.sgb_script.specs.declared.command.Line.{Line}
 use Rattle.sgb_script.specs.declared.command.Query.{Query}
 use Rattle.sgb_script.specs.declared.refusal.ShellRefusal.{ShellRefusal}
 use Rattle.sgb_script.specs.declared.refusal.ShellRefusal.TheVariants.{NoRoom, NothingToRedo, JournalFull}
 use Rattle.sgb_session.specs.State.{State, empty}
-use Rattle.sgb_shell.specs.Transcript.{Lists, Told, asked_of, changing, saved_of, line_told, unit_told}
+use Rattle.sgb_print.specs.Print.{Prints}
+use Rattle.sgb_shell.specs.Answer.{answer_text}
+use Rattle.sgb_shell.specs.Transcript.{Lists, Told, refusals, asked_of, changing, saved_of, line_told, unit_told}
 use Rattle.sgb_shell.specs.Unit.{ScriptUnit}
 
 -- the session's journal, as its contracts see it
@@ -38,9 +38,9 @@ refusal_from journals.Full = JournalFull
 refusal_from journals.NothingToRedo = NothingToRedo
 refusal_from (journals.Machine r) = r
 
-abbrev pub answer_from : Result GroupedReply (JournalRefusal ShellRefusal) → Answer
-answer_from (Ok reply) = Replied reply
-answer_from (Err e) = Refused (refusal_from e)
+abbrev pub answer_from : {X : Type 0} → (X → GroupedReply) → Result X (JournalRefusal ShellRefusal) → Answer
+answer_from reply_of (Ok x) = Replied (reply_of x)
+answer_from reply_of (Err e) = Refused (refusal_from e)
 
 -- what is told the lists, where memory is wanted and where it is not
 abbrev pub Telling : Type 0
@@ -55,16 +55,19 @@ by_line line no_room l = line_told no_room l line
 abbrev pub by_unit : ScriptUnit → Telling
 by_unit u no_room l = unit_told no_room l u
 
--- what a line asks for is the short command that was read of it
-abbrev pub is_short : Asked → Bool
-is_short asks.Short = true
-is_short asked = false
-
 -- it was done, and wanted for memory or did not
 pub record Does (tells : Telling) (old new : Kept) (answer : Answer) : Type 0 where
   pub no_room : Bool
   pub told : tells no_room (lists_of old) ≡ (lists_of new, answer)
   pub begun : IsBegun new
+
+-- it was done, and its answer was printed, and counted where it is a refusal
+pub record Tells {X E : Type 0} (tells : Telling) (number : ℕ) (old new : Kept) (count count' : ℕ) (held now : Option (List ℕ)) (failed failed' : Bool)
+    (result : Result X E) : Type 0 where
+  pub answer : Answer
+  pub does : Does tells old new answer
+  pub counted : count < 2 ^ 32 → count' ≡ count + refusals answer
+  pub prints : Prints held now failed failed' result (answer_text number new.machine answer)
 
 -- a graph was saved, or memory was wanted for it
 abbrev pub Saves : GraphOf → Answer → Type 0

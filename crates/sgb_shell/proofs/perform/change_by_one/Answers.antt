@@ -5,7 +5,7 @@ use Rattle.sgb_shell.specs.declared.answer.Answer.TheVariants.{Refused}
 use Rattle.sgb_shell.proofs.perform.change_by_one.Goals as goal
 
 pub returns-in-Ok : goal.returns-in-Ok
-returns-in-Ok c b = subst (λ g. Does (by_command g) c.args.journal.now c.apply.new.journal c.apply.new.answer) c.in-Ok.ensures.ok (c.apply.ensures b)
+returns-in-Ok c b = subst (λ g. Does (by_command g) c.args.journal.now c.apply.new.journal c.apply.result) c.in-Ok.ensures.ok (c.apply.ensures b)
 
 pub returns-in-Err : goal.returns-in-Err
 returns-in-Err c b =
