@@ -4,6 +4,7 @@ use lib.Seq.{take-append_seam, drop-append_seam}
 use Rattle.std.proofs.Math.ListN.{drop_of_length-le}
 use Rattle.std.specs.List.{flat_map}
 use Rattle.std.specs.Io.KnownBytes.{Appends, Keeps}
+use Rattle.std.proofs.lemmas.Grind.{flat_map-append}
 use Rattle.std.proofs.KnownBytes.{Appends-nil, Appends-trans, Appends-kept}
 use Rattle.sgb_print.specs.Print.{AppendsFront, Prints}
 
@@ -94,6 +95,27 @@ module _ {X : Type 0} (text : X → List ℕ) where
       failing_piece old mid new failed failed' bytes (x ∷ rest) 0 x (omega arith)
       (subst (λ (ys : List X). Writes old mid failed failed' bytes (flat_map text ys)) same w) more
 
+  -- the same of the first few of a list
+  pub first_items : (old mid new : Option (List ℕ)) (failed failed' failed'' : Bool) (bytes : List ℕ) (xs ys : List X)
+      → Writes old mid failed failed' bytes (flat_map text (xs ++ ys)) → Appends mid new (flat_map text xs) × (failed'' ≡ failed')
+      → Writes old new failed failed'' bytes (flat_map text ys)
+  first_items old mid new failed failed' failed'' bytes xs ys w more =
+      let few = flat_map text xs in
+      let rest = flat_map text ys in
+      let split = flat_map-append text xs ys in
+      more_written old mid new failed failed' failed'' bytes (flat_map text (xs ++ ys)) rest (length few) w
+      (subst (Appends mid new) (sym (ap (take (length few)) split ∙ take-append_seam few rest)) more.0)
+      (sym (ap (drop (length few)) split ∙ drop-append_seam few rest)) more.1
+
+  pub failing_items : (old mid new : Option (List ℕ)) (failed failed' : Bool) (bytes : List ℕ) (xs ys : List X)
+      → Writes old mid failed failed' bytes (flat_map text (xs ++ ys)) → AppendsFront mid new (flat_map text xs) → AppendsFront old new bytes
+  failing_items old mid new failed failed' bytes xs ys w more = record {
+    front = w.front ++ more.front;
+    rest = more.rest ++ flat_map text ys;
+    whole = w.whole ∙ ap (λ r. w.front ++ r) (flat_map-append text xs ys ∙ ap (λ p. p ++ flat_map text ys) more.whole) ∙ simp append_assoc;
+    appends = Appends-trans old mid new w.front more.front w.appends more.appends;
+  }
+
 -- ---- one text behind another
 pub prints_behind : {X E : Type 0} (old mid new : Option (List ℕ)) (failed failed' failed'' : Bool) (result : Result X E) (first second : List ℕ)
     → Appends old mid first × (failed' ≡ failed) → Prints mid new failed' failed'' result second → Prints old new failed failed'' result (first ++ second)
@@ -107,6 +129,13 @@ prints_behind old mid new failed failed' failed'' (Err e) first second before mo
   },
   more.1,
 )
+
+-- the rest, behind a front
+pub prints_rest : {X E : Type 0} (old mid new : Option (List ℕ)) (failed failed' failed'' : Bool) (result : Result X E) (bytes rest rest' : List ℕ)
+    → Writes old mid failed failed' bytes rest → rest ≡ rest' → Prints mid new failed' failed'' result rest' → Prints old new failed failed'' result bytes
+prints_rest old mid new failed failed' failed'' result bytes rest rest' w same more =
+    subst (Prints old new failed failed'' result) (sym (w.whole ∙ ap (λ r. w.front ++ r) same))
+    (prints_behind old mid new failed failed' failed'' result w.front rest' (w.appends, w.same) more)
 
 -- the first text was not written, so neither are both
 pub fails_before : (old new : Option (List ℕ)) (first second : List ℕ) → AppendsFront old new first → AppendsFront old new (first ++ second)

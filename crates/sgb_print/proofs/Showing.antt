@@ -1,7 +1,7 @@
 -- How the pieces that are printed make up a graph's text.
-use Rattle.std.proofs.Common.{◌≡◌, ◌<◌, ℕ, List, [], ◌∷◌, ◌++◌, codes, length, Bool, ◌&&◌, Option, Some, None, IsSome, IfSome, true, false, slice_index_or, refl, sym, ap, ◌∙◌, append_assoc, arith}
+use Rattle.std.proofs.Common.{◌≡◌, ◌<◌, ℕ, List, [], ◌∷◌, All, ◌++◌, codes, length, Bool, ◌&&◌, Option, Some, None, IsSome, IfSome, true, false, slice_index_or, refl, sym, ap, ◌∙◌, append_assoc, arith}
 use Rattle.std.specs.List.{list_all}
-use Rattle.std.proofs.lemmas.List.Elements.{All-get_or}
+use Rattle.std.proofs.lemmas.List.Elements.{All-get_or, All-tail}
 use Rattle.std.proofs.lemmas.Int.{to_z-of_z}
 use mir.Val.{to_z, of_z}
 use Rattle.std.specs.Int.{w64}
@@ -62,6 +62,10 @@ zeros_end u v zeros =
 pub head_before : (head head' behind p q : List ℕ) → head ≡ head' → p ≡ behind → q ≡ head' ++ p → head ++ behind ≡ q
 head_before head head' behind p q read before put = rw (read, put, before) refl
 
+-- the same of a line, whose end is another text in another spelling
+pub line_before : (head head' behind behind' p q r : List ℕ) → head ≡ head' → behind ≡ behind' → q ≡ behind' ++ p → r ≡ head' ++ q → r ≡ (head ++ behind) ++ p
+line_before head head' behind behind' p q r read ends put before = rw (before, put, read, ends) (sym (append_assoc head' behind' p))
+
 -- ---- what a sound graph has
 pub vertex_six : (g : GraphOf) (v : ℕ) → IsGraph g → v < n_of g → length (vertex_at g v).fields ≡ 6
 vertex_six g v sound within = (All-get_or (IsVertex (n_of g) g.entries) g.vertices v no_vertex within sound.vertices).six
@@ -88,6 +92,14 @@ pub arc_head_read : (g : GraphOf) (k : ℕ) (a : ArcView) → IsGraph g → k < 
 arc_head_read g k a sound within same =
     view_head k (owner_of g k) (n_of g) g.entries (arc_at g k) a
     (All-get_or (λ o. IfSome o (IsArc (n_of g) g.entries)) g.entries k None within sound.arcs) same
+
+-- ---- a list of which the first few are done
+pub All-behind : (P : ℕ → Type 0) (xs ys : List ℕ) → All P (xs ++ ys) → All P ys
+All-behind P [] ys h = h
+All-behind P (x ∷ xs) ys h = All-behind P xs ys (All-tail P x (xs ++ ys) h)
+
+pub one_more : (few few' left rest : List ℕ) (k : ℕ) → left ≡ k ∷ rest → few' ≡ few ++ k ∷ [] → few ++ left ≡ few' ++ rest
+one_more few few' left rest k next pushed = rw (next, pushed) (sym (append_assoc few (k ∷ []) rest))
 
 -- ---- the graph's fields
 pub without_fields : (us : List Util) → list_all is_zero us ≡ true → graph_fields_text us ≡ []

@@ -9,35 +9,35 @@ use itoa::write_digits;
 use std::io::Write;
 use std::marker::Model;
 
-/// The most bytes of a page.
+/// The most bytes of an answer that is put together.
 pub const PAGE_LIMIT: usize = 96;
 
-/// A text of at most 96 bytes, which grows at its front and is then written by one call. It takes no memory.
+/// A text of at most `ROOM` bytes, which grows at its front and is then written by one call. It takes no memory.
 #[derive(Drop)]
-pub struct Page {
-    bytes: [u8; PAGE_LIMIT],
+pub struct Page<const ROOM: usize> {
+    bytes: [u8; ROOM],
     // Where the text begins, which goes on to the last byte.
     start: usize,
 }
 
-impl Model for Page {
+impl<const ROOM: usize> Model for Page<ROOM> {
     ghost use Rattle.std.specs.Prelude.{◌≤◌, List, ℕ, drop};
 
     ghost Value = { List ℕ };
 
     ghost view = { λ p. drop p.start p.bytes };
 
-    ghost invariant = { λ p. p.start ≤ 96 };
+    ghost invariant = { λ p. p.start ≤ ROOM };
 }
 
-impl Page {
+impl<const ROOM: usize> Page<ROOM> {
     /// No text.
-    pub fn new() -> Page
+    pub fn new() -> Self
         ensures { result ≡ [] }
     {
         Page {
-            bytes: [0; PAGE_LIMIT],
-            start: PAGE_LIMIT,
+            bytes: [0; ROOM],
+            start: ROOM,
         }
     }
 
@@ -46,13 +46,13 @@ impl Page {
     pub fn clear(&mut self)
         ensures { self.new ≡ [] }
     {
-        self.start = PAGE_LIMIT;
+        self.start = ROOM;
     }
 
     /// Puts bytes in front.
     #[inline]
     pub fn prepend(&mut self, bytes: &[u8])
-        requires { length self.old + length bytes.now ≤ 96 }
+        requires { length self.old + length bytes.now ≤ ROOM }
         ensures text { self.new ≡ bytes.now ++ self.old }
         ensures count { length self.new ≡ length self.old + length bytes.now }
     {
@@ -66,7 +66,7 @@ impl Page {
     /// Puts the digits of a number in front.
     #[inline]
     pub fn prepend_number(&mut self, number: u64)
-        requires { length self.old + 20 ≤ 96 }
+        requires { length self.old + 20 ≤ ROOM }
         ensures text { self.new ≡ decimal number ++ self.old }
         ensures count { length self.new ≤ length self.old + 20 }
     {
@@ -76,7 +76,7 @@ impl Page {
     /// Puts the digits of a number in front, and its sign where it is below 0.
     #[inline]
     pub fn prepend_signed(&mut self, number: i64)
-        requires { length self.old + 21 ≤ 96 }
+        requires { length self.old + 21 ≤ ROOM }
         ensures text { self.new ≡ signed_decimal number ++ self.old }
         ensures count { length self.new ≤ length self.old + 21 }
     {

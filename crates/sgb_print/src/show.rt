@@ -1,5 +1,5 @@
 //! Graphs as they are printed.
-ghost use Rattle.std.specs.Prelude.{◌≡◌, ◌+◌, ◌<◌, ◌≤◌, ◌∷◌, [], ◌++◌, ◌&&◌, codes, length, IsSome};
+ghost use Rattle.std.specs.Prelude.{◌≡◌, ◌+◌, ◌<◌, ◌≤◌, ◌∷◌, [], ◌++◌, ◌&&◌, codes, length, All, IsSome, IsTrue};
 ghost use Rattle.std.specs.List.{flat_map, list_all};
 ghost use Rattle.sgb_graph.specs.Graph.{n_of, made_of, arc_at, arcs_of};
 ghost use Rattle.sgb_graph.specs.Edit.{entry_at};
@@ -9,9 +9,15 @@ ghost use Rattle.sgb_print.specs.Show.{made_text, graph_text, header_text, is_ze
 use crate::meter::{Failed, MeteredWriter};
 use crate::page::Page;
 use crate::print::{put, put_all};
+use arrayvec::ArrayVec;
 use itoa::Buffer;
 use sgb_graph::{ArcField, ArcNo, Graph, GraphField, Place, Tip, Util, VertexField, VertexNo};
 use std::io::Write;
+
+// How many arcs are printed at a time.
+const FEW: usize = 8;
+// The most bytes of their lines where they have no fields.
+const LINES_LIMIT: usize = 544;
 
 /// Prints a name with the counts of vertices and arcs, on one line.
 pub fn print_made<W: Write>(
@@ -103,24 +109,26 @@ fn print_vertices<W: Write>(writer: &mut MeteredWriter<W>, graph: &Graph) -> Res
     ensures { Prints (W.contents writer.old.inner) (W.contents writer.new.inner) writer.old.failed writer.new.failed
         result (vertices_text graph.now) }
 {
+    let mut page = Page::new();
     for v in 0..graph.n() {
-        print_vertex(writer, graph, VertexNo(v))?;
+        print_vertex(writer, graph, VertexNo(v), &mut page)?;
     }
     Ok(())
 }
 
-// A vertex with its arcs.
+// A vertex with its arcs, put together on a page that others used before.
 fn print_vertex<W: Write>(
     writer: &mut MeteredWriter<W>,
     graph: &Graph,
     vertex: VertexNo,
+    page: &mut Page<LINES_LIMIT>,
 ) -> Result<(), Failed>
     requires { vertex.0 < n_of graph.now }
     ensures { Prints (W.contents writer.old.inner) (W.contents writer.new.inner) writer.old.failed writer.new.failed
         result (vertex_text graph.now vertex.0) }
 {
     print_vertex_line(writer, graph, vertex)?;
-    print_arcs(writer, graph, vertex)
+    print_arcs(writer, graph, vertex, page)
 }
 
 // A vertex's name and fields.
@@ -160,29 +168,89 @@ fn print_vertex_head<W: Write>(
     put_all(writer, &[b"V", digits, b" \"", label, b"\""])
 }
 
-// The arcs of a vertex, the newest first.
+// The arcs of a vertex, the newest first, a few at a time.
 fn print_arcs<W: Write>(
     writer: &mut MeteredWriter<W>,
     graph: &Graph,
     vertex: VertexNo,
+    page: &mut Page<LINES_LIMIT>,
 ) -> Result<(), Failed>
     requires { vertex.0 < n_of graph.now }
     ensures { Prints (W.contents writer.old.inner) (W.contents writer.new.inner) writer.old.failed writer.new.failed
         result (arcs_text graph.now (arcs_of graph.now vertex.0)) }
 {
-    let mut page = Page::new();
+    let mut few = ArrayVec::<u32, FEW>::new();
     for number in graph.arcs(vertex) {
-        print_arc(writer, graph, number, &mut page)?;
+        if few.is_full() {
+            print_few(writer, graph, few.as_slice(), page)?;
+            few.clear();
+        }
+        few.push(number.0);
+    }
+    print_few(writer, graph, few.as_slice(), page)
+}
+
+// A few arcs, by one write where none has fields.
+fn print_few<W: Write>(
+    writer: &mut MeteredWriter<W>,
+    graph: &Graph,
+    numbers: &[u32],
+    page: &mut Page<LINES_LIMIT>,
+) -> Result<(), Failed>
+    requires few { length numbers.now ≤ 8 }
+    requires live { All (λ k. IsSome (arc_at graph.now k)) numbers.now }
+    requires within { All (λ k. k < made_of graph.now) numbers.now }
+    ensures { Prints (W.contents writer.old.inner) (W.contents writer.new.inner) writer.old.failed writer.new.failed
+        result (arcs_text graph.now numbers.now) }
+{
+    if lay_lines(page, graph, numbers) {
+        page.print(writer)
+    } else {
+        print_each(writer, graph, numbers, page)
+    }
+}
+
+// Lays the lines of a few arcs on the page, and tells whether none of them has fields; else the page is of no use.
+fn lay_lines(page: &mut Page<LINES_LIMIT>, graph: &Graph, numbers: &[u32]) -> bool
+    requires few { length numbers.now ≤ 8 }
+    requires live { All (λ k. IsSome (arc_at graph.now k)) numbers.now }
+    requires within { All (λ k. k < made_of graph.now) numbers.now }
+    ensures { IsTrue result → page.new ≡ arcs_text graph.now numbers.now }
+{
+    page.clear();
+    for at in (0..numbers.len()).rev() {
+        if !prepend_line(page, graph, ArcNo(numbers[at])) {
+            return false;
+        }
+    }
+    true
+}
+
+// A few arcs, each by itself.
+#[inline(never)]
+fn print_each<W: Write>(
+    writer: &mut MeteredWriter<W>,
+    graph: &Graph,
+    numbers: &[u32],
+    page: &mut Page<LINES_LIMIT>,
+) -> Result<(), Failed>
+    requires live { All (λ k. IsSome (arc_at graph.now k)) numbers.now }
+    requires within { All (λ k. k < made_of graph.now) numbers.now }
+    ensures { Prints (W.contents writer.old.inner) (W.contents writer.new.inner) writer.old.failed writer.new.failed
+        result (arcs_text graph.now numbers.now) }
+{
+    for number in numbers {
+        print_arc(writer, graph, ArcNo(*number), page)?;
     }
     Ok(())
 }
 
-// An arc's number, tip, length and fields, put together on a page that others used before.
+// An arc's number, tip, length and fields.
 fn print_arc<W: Write>(
     writer: &mut MeteredWriter<W>,
     graph: &Graph,
     number: ArcNo,
-    page: &mut Page,
+    page: &mut Page<LINES_LIMIT>,
 ) -> Result<(), Failed>
     requires live { IsSome (arc_at graph.now number.0) }
     requires within { number.0 < made_of graph.now }
@@ -192,30 +260,34 @@ fn print_arc<W: Write>(
     let Some(arc) = graph.arc(number) else {
         unreachable!()
     };
-    let a = graph.util(Place::Arc(number, ArcField::A));
-    let b = graph.util(Place::Arc(number, ArcField::B));
     page.clear();
-    if are_both_zero(a, b) {
-        page.prepend(b"\n");
-        prepend_arc(page, number, arc.tip, arc.len);
-        return page.print(writer);
-    }
     prepend_arc(page, number, arc.tip, arc.len);
     page.print(writer)?;
-    end_with_arc_fields(writer, a, b)
+    let a = graph.util(Place::Arc(number, ArcField::A));
+    let b = graph.util(Place::Arc(number, ArcField::B));
+    end_with_fields(writer, &[("a", a), ("b", b)])
 }
 
-// The fields of an arc that are not Zero, and the end of the line. It stands apart, so that other arcs make no room for it.
-#[inline(never)]
-fn end_with_arc_fields<W: Write>(
-    writer: &mut MeteredWriter<W>,
-    a: &Util,
-    b: &Util,
-) -> Result<(), Failed>
-    ensures { Prints (W.contents writer.old.inner) (W.contents writer.new.inner) writer.old.failed writer.new.failed
-        result (fields_end arc_names (a.now ∷ b.now ∷ [])) }
+// Puts an arc's line in front where it has no fields, and tells whether it did.
+#[inline(always)]
+fn prepend_line(page: &mut Page<LINES_LIMIT>, graph: &Graph, number: ArcNo) -> bool
+    requires room { length page.old ≤ 476 }
+    requires live { IsSome (arc_at graph.now number.0) }
+    requires within { number.0 < made_of graph.now }
+    ensures text { IsTrue result → page.new ≡ arc_line number.0 (entry_at graph.now number.0) ++ page.old }
+    ensures count { length page.new ≤ length page.old + 68 }
 {
-    end_with_fields(writer, &[("a", a), ("b", b)])
+    let Some(arc) = graph.arc(number) else {
+        unreachable!()
+    };
+    let a = graph.util(Place::Arc(number, ArcField::A));
+    let b = graph.util(Place::Arc(number, ArcField::B));
+    if !are_both_zero(a, b) {
+        return false;
+    }
+    page.prepend(b"\n");
+    prepend_arc(page, number, arc.tip, arc.len);
+    true
 }
 
 fn are_both_zero(a: &Util, b: &Util) -> bool
@@ -226,9 +298,10 @@ fn are_both_zero(a: &Util, b: &Util) -> bool
 
 // Puts what stands before an arc's fields in front.
 #[inline(always)]
-fn prepend_arc(page: &mut Page, number: ArcNo, tip: Tip, len: i64)
-    requires { length page.old ≤ 1 }
-    ensures { page.new ≡ arc_head number.0 tip len ++ page.old }
+fn prepend_arc(page: &mut Page<LINES_LIMIT>, number: ArcNo, tip: Tip, len: i64)
+    requires { length page.old ≤ 477 }
+    ensures text { page.new ≡ arc_head number.0 tip len ++ page.old }
+    ensures count { length page.new ≤ length page.old + 67 }
 {
     page.prepend_signed(len);
     prepend_tip(page, tip);
@@ -238,8 +311,8 @@ fn prepend_arc(page: &mut Page, number: ArcNo, tip: Tip, len: i64)
 
 // Puts an arc's tip in front, between spaces.
 #[inline(always)]
-fn prepend_tip(page: &mut Page, tip: Tip)
-    requires { length page.old ≤ 22 }
+fn prepend_tip(page: &mut Page<LINES_LIMIT>, tip: Tip)
+    requires { length page.old ≤ 498 }
     ensures text { page.new ≡ (codes " " ++ tip_text tip ++ codes " ") ++ page.old }
     ensures count { length page.new ≤ length page.old + 23 }
 {

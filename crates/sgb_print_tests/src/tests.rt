@@ -27,6 +27,31 @@ V0 \"\" u=\"y\" z=-7
 V1 \"w\"
 ";
 
+// More arcs in a list than are printed at a time, one of which has a field.
+const LONG: &str = "\"gb_new_graph(2)\" ZZZZZZIZZZZZZZ
+2 vertices, 18 arcs, 18 numbers
+V0 \"\"
+  A17 V1 17
+  A16 V1 16
+  A15 V1 15
+  A14 V1 14
+  A13 V1 13
+  A12 V1 12
+  A11 V1 11
+  A10 V1 10
+  A9 V1 9
+  A8 V1 8
+  A7 V1 7
+  A6 V1 6
+  A5 V1 5
+  A4 V1 4
+  A3 V1 3 a=-7
+  A2 V1 2
+  A1 V1 1
+  A0 V1 0
+V1 \"\"
+";
+
 // The edits, without what undoes them.
 fn arc(graph: &mut Graph, from: u32, to: u32, len: i64) -> Result<(), Fail> {
     let _made = graph.new_arc(VertexNo(from), VertexNo(to), len)?;
@@ -107,6 +132,16 @@ fn with_fields(alloc: Global) -> Result<Graph, Fail> {
     Ok(graph)
 }
 
+fn with_long_list(alloc: Global) -> Result<Graph, Fail> {
+    let mut graph = Graph::new(alloc, 2)?;
+    for len in 0..18i64 {
+        arc(&mut graph, 0, 1, len)?;
+    }
+    set_types(&mut graph, b"ZZZZZZIZZZZZZZ");
+    set(&mut graph, Place::Arc(ArcNo(3), ArcField::A), Util::Int(-7))?;
+    Ok(graph)
+}
+
 fn printed(alloc: Global, graph: &Graph) -> Result<Vec<u8>, Fail> {
     let mut writer = MeteredWriter::new(Vec::new(alloc));
     print_graph(&mut writer, graph)?;
@@ -124,6 +159,13 @@ fn a_board_is_printed(rt: HostRuntime) -> Result<(), Fail> {
 fn fields_and_a_hole_are_printed(rt: HostRuntime) -> Result<(), Fail> {
     let text = printed(rt.alloc(), &with_fields(rt.alloc())?)?;
     assert!(rt; text.as_slice() == FIELDS.as_bytes());
+    Ok(())
+}
+
+#[test]
+fn a_long_list_is_printed(rt: HostRuntime) -> Result<(), Fail> {
+    let text = printed(rt.alloc(), &with_long_list(rt.alloc())?)?;
+    assert!(rt; text.as_slice() == LONG.as_bytes());
     Ok(())
 }
 
@@ -193,6 +235,13 @@ fn failed_writes_are_told(rt: HostRuntime) -> Result<(), Fail> {
     for room in 0..BOARD.len() {
         assert!(rt;
             fails_after(rt.alloc(), &graph, &BOARD.as_bytes()[..room]),
+            "room for {room}"
+        );
+    }
+    let graph = with_long_list(rt.alloc())?;
+    for room in 0..LONG.len() {
+        assert!(rt;
+            fails_after(rt.alloc(), &graph, &LONG.as_bytes()[..room]),
             "room for {room}"
         );
     }

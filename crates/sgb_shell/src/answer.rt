@@ -10,7 +10,7 @@ ghost use Rattle.sgb_shell.specs.Transcript.{refusals};
 use itoa::Buffer;
 use sgb_graph::ArcNo;
 use sgb_groups::GroupedReply;
-use sgb_print::{Failed, MeteredWriter, Page, print_graph, print_made, put, put_all};
+use sgb_print::{Failed, MeteredWriter, PAGE_LIMIT, Page, print_graph, print_made, put, put_all};
 use sgb_script::ShellRefusal;
 use sgb_session::{Reply, Session};
 use sgb_text::Saved;
@@ -129,7 +129,7 @@ fn print_number<W: Write>(writer: &mut MeteredWriter<W>, number: u32) -> Result<
     ensures { Prints (W.contents writer.old.inner) (W.contents writer.new.inner) writer.old.failed writer.new.failed
         result (decimal number ++ codes "\n") }
 {
-    let mut page = Page::new();
+    let mut page = Page::<PAGE_LIMIT>::new();
     page.prepend(b"\n");
     page.prepend_number(number as u64);
     page.print(writer)
@@ -140,7 +140,7 @@ fn print_arc<W: Write>(writer: &mut MeteredWriter<W>, number: ArcNo) -> Result<(
     ensures { Prints (W.contents writer.old.inner) (W.contents writer.new.inner) writer.old.failed writer.new.failed
         result (codes "A" ++ decimal number.0 ++ codes "\n") }
 {
-    let mut page = Page::new();
+    let mut page = Page::<PAGE_LIMIT>::new();
     page.prepend(b"\n");
     page.prepend_number(number.0 as u64);
     page.prepend(b"A");
@@ -156,7 +156,7 @@ fn print_edge<W: Write>(
     ensures { Prints (W.contents writer.old.inner) (W.contents writer.new.inner) writer.old.failed writer.new.failed
         result (codes "A" ++ decimal first.0 ++ codes " A" ++ decimal second.0 ++ codes "\n") }
 {
-    let mut page = Page::new();
+    let mut page = Page::<PAGE_LIMIT>::new();
     page.prepend(b"\n");
     page.prepend_number(second.0 as u64);
     page.prepend(b" A");
@@ -205,7 +205,7 @@ pub(crate) fn print_generator<W: Write>(
         result (generator_text session.now) }
 {
     let (seed, draws, unread) = session.generator();
-    let mut page = Page::new();
+    let mut page = Page::<PAGE_LIMIT>::new();
     page.prepend(b"\n");
     page.prepend_number(unread as u64);
     page.prepend(b", unread ");
