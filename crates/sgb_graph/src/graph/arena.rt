@@ -29,7 +29,8 @@ use std::alloc::{AllocError, Global};
 use std::marker::Model;
 use std::mem;
 
-// A graph with room for so many arcs has room for the fields of all that it can have, and these take more than 32 MiB.
+// A graph with room for so many arcs has room for the fields of all that it can have, and these take more than 32 MiB; one
+// that grows beyond them gets room for all its arcs, so that these are not moved again.
 const MANY: usize = 131_072;
 
 const MAPPED: usize = 1_048_600;
@@ -300,6 +301,7 @@ impl Arena {
     }
 
     /// Puts an arc that no field names in place of a hole.
+    #[inline(always)]
     pub fn put(
         &mut self,
         number: ArcNo,
@@ -761,10 +763,12 @@ fn grow_slots(
     ensures err { IfErr result (IsRefusedAt (vec_len cells.old + count)) }
 {
     let most = MOST_ARCS as usize;
-    if count > most - cells.len() {
+    let left = most - cells.len();
+    if count > left {
         return Err(Refusal::TooLarge);
     }
-    let grown = grow_room(cells, fields, count)?;
+    let more = if cells.len() < MANY { count } else { left };
+    let grown = grow_room(cells, fields, more)?;
     *room = grown.min(most);
     Ok(())
 }
@@ -850,6 +854,7 @@ fn fill_to(fields: &mut Vec<[Util; 2]>, count: usize)
 }
 
 // Gives the arc of this number these fields.
+#[inline(always)]
 fn put_fields(fields: &mut Vec<[Util; 2]>, index: usize, values: [Util; 2])
     requires { index < vec_capacity fields.old }
     ensures puts { PutsFields fields.old.items index values fields.new.items }
