@@ -1,5 +1,5 @@
 -- Bytes that were written, piece by piece.
-use Rattle.std.proofs.Common.{◌+◌, ◌<◌, ◌≤◌, length, get_or, drop-cons, add-one, ◌≡◌, ℕ, Bool, true, false, ◌||◌, List, [], ◌∷◌, ◌++◌, take, drop, Option, Result, Ok, Err, refl, sym, ap, ◌∙◌, subst, append_assoc, append-nil, arith, take-append-drop}
+use Rattle.std.proofs.Common.{◌+◌, ◌<◌, ◌≤◌, length, get_or, drop-cons, add-one, ◌≡◌, ℕ, Bool, true, false, ◌||◌, List, [], ◌∷◌, ◌++◌, take, drop, Option, Result, Ok, Err, refl, sym, ap, ◌∙◌, subst, append_assoc, append-nil, take-append-drop}
 use lib.Seq.{take-append_seam, drop-append_seam}
 use Rattle.std.proofs.Math.ListN.{drop_of_length-le}
 use Rattle.std.specs.List.{flat_map}
@@ -81,20 +81,6 @@ module _ {X : Type 0} (text : X → List ℕ) where
   last_item old new failed failed' bytes xs i all w =
       all_written old new failed failed' bytes (flat_map text (drop i xs)) (ap (flat_map text) (drop_of_length-le xs all)) w
 
-  -- the same of the first of a list
-  pub first_item : (old mid new : Option (List ℕ)) (failed failed' failed'' : Bool) (bytes : List ℕ) (xs : List X) (x : X) (rest : List X) → xs ≡ x ∷ rest
-      → Writes old mid failed failed' bytes (flat_map text xs) → Appends mid new (text x) × (failed'' ≡ failed')
-      → Writes old new failed failed'' bytes (flat_map text rest)
-  first_item old mid new failed failed' failed'' bytes xs x rest same w more =
-      one_piece old mid new failed failed' failed'' bytes (x ∷ rest) 0 x (omega arith)
-      (subst (λ (ys : List X). Writes old mid failed failed' bytes (flat_map text ys)) same w) more
-
-  pub failing_first : (old mid new : Option (List ℕ)) (failed failed' : Bool) (bytes : List ℕ) (xs : List X) (x : X) (rest : List X) → xs ≡ x ∷ rest
-      → Writes old mid failed failed' bytes (flat_map text xs) → AppendsFront mid new (text x) → AppendsFront old new bytes
-  failing_first old mid new failed failed' bytes xs x rest same w more =
-      failing_piece old mid new failed failed' bytes (x ∷ rest) 0 x (omega arith)
-      (subst (λ (ys : List X). Writes old mid failed failed' bytes (flat_map text ys)) same w) more
-
   -- the same of the first few of a list
   pub first_items : (old mid new : Option (List ℕ)) (failed failed' failed'' : Bool) (bytes : List ℕ) (xs ys : List X)
       → Writes old mid failed failed' bytes (flat_map text (xs ++ ys)) → Appends mid new (flat_map text xs) × (failed'' ≡ failed')
@@ -129,13 +115,6 @@ prints_behind old mid new failed failed' failed'' (Err e) first second before mo
   },
   more.1,
 )
-
--- the rest, behind a front
-pub prints_rest : {X E : Type 0} (old mid new : Option (List ℕ)) (failed failed' failed'' : Bool) (result : Result X E) (bytes rest rest' : List ℕ)
-    → Writes old mid failed failed' bytes rest → rest ≡ rest' → Prints mid new failed' failed'' result rest' → Prints old new failed failed'' result bytes
-prints_rest old mid new failed failed' failed'' result bytes rest rest' w same more =
-    subst (Prints old new failed failed'' result) (sym (w.whole ∙ ap (λ r. w.front ++ r) same))
-    (prints_behind old mid new failed failed' failed'' result w.front rest' (w.appends, w.same) more)
 
 -- the first text was not written, so neither are both
 pub fails_before : (old new : Option (List ℕ)) (first second : List ℕ) → AppendsFront old new first → AppendsFront old new (first ++ second)

@@ -98,9 +98,6 @@ pub All-behind : (P : ℕ → Type 0) (xs ys : List ℕ) → All P (xs ++ ys) �
 All-behind P [] ys h = h
 All-behind P (x ∷ xs) ys h = All-behind P xs ys (All-tail P x (xs ++ ys) h)
 
-pub one_more : (few few' left rest : List ℕ) (k : ℕ) → left ≡ k ∷ rest → few' ≡ few ++ k ∷ [] → few ++ left ≡ few' ++ rest
-one_more few few' left rest k next pushed = rw (next, pushed) (sym (append_assoc few (k ∷ []) rest))
-
 -- ---- the graph's fields
 pub without_fields : (us : List Util) → list_all is_zero us ≡ true → graph_fields_text us ≡ []
 without_fields us zeros = rw zeros refl

@@ -1,5 +1,5 @@
 //! Graphs as they are printed.
-ghost use Rattle.std.specs.Prelude.{◌≡◌, ◌+◌, ◌<◌, ◌≤◌, ◌∷◌, [], ◌++◌, ◌&&◌, codes, length, All, IsSome, IsTrue};
+ghost use Rattle.std.specs.Prelude.{◌≡◌, ◌+◌, ◌<◌, ◌≤◌, ◌∷◌, [], ◌++◌, ◌&&◌, codes, length, All, IfOk, IsSome, IsTrue};
 ghost use Rattle.std.specs.List.{flat_map, list_all};
 ghost use Rattle.sgb_graph.specs.Graph.{n_of, made_of, arc_at, arcs_of};
 ghost use Rattle.sgb_graph.specs.Edit.{entry_at};
@@ -11,13 +11,18 @@ use crate::page::Page;
 use crate::print::{put, put_all};
 use arrayvec::ArrayVec;
 use itoa::Buffer;
-use sgb_graph::{ArcField, ArcNo, Graph, GraphField, Place, Tip, Util, VertexField, VertexNo};
+use sgb_graph::{
+    ArcField, ArcNo, Arcs, Graph, GraphField, Place, Tip, Util, VertexField, VertexNo,
+};
 use std::io::Write;
 
 // How many arcs are printed at a time.
 const FEW: usize = 8;
 // The most bytes of their lines where they have no fields.
 const LINES_LIMIT: usize = 544;
+
+// The numbers of a few arcs.
+type Few = ArrayVec<u32, FEW>;
 
 /// Prints a name with the counts of vertices and arcs, on one line.
 pub fn print_made<W: Write>(
@@ -179,51 +184,108 @@ fn print_arcs<W: Write>(
     ensures { Prints (W.contents writer.old.inner) (W.contents writer.new.inner) writer.old.failed writer.new.failed
         result (arcs_text graph.now (arcs_of graph.now vertex.0)) }
 {
-    let mut few = ArrayVec::<u32, FEW>::new();
-    for number in graph.arcs(vertex) {
-        if few.is_full() {
-            print_few(writer, graph, few.as_slice(), page)?;
-            few.clear();
-        }
-        few.push(number.0);
+    let mut left = graph.arcs(vertex);
+    let mut few = Few::new();
+    fill_up(&mut few, &mut left);
+    while !few.is_empty() {
+        few = print_few(writer, graph, few.as_slice(), &mut left, page)?;
     }
-    print_few(writer, graph, few.as_slice(), page)
+    Ok(())
 }
 
-// A few arcs, by one write where none has fields.
+// Prints a few arcs, by one write where none has fields, and takes the next few of those that are left.
 fn print_few<W: Write>(
     writer: &mut MeteredWriter<W>,
     graph: &Graph,
     numbers: &[u32],
+    left: &mut Arcs<'_>,
     page: &mut Page<LINES_LIMIT>,
-) -> Result<(), Failed>
+) -> Result<Few, Failed>
     requires few { length numbers.now ≤ 8 }
     requires live { All (λ k. IsSome (arc_at graph.now k)) numbers.now }
     requires within { All (λ k. k < made_of graph.now) numbers.now }
-    ensures { Prints (W.contents writer.old.inner) (W.contents writer.new.inner) writer.old.failed writer.new.failed
+    ensures text { Prints (W.contents writer.old.inner) (W.contents writer.new.inner) writer.old.failed writer.new.failed
         result (arcs_text graph.now numbers.now) }
+    ensures behind { IfOk result (λ few. few.items ++ left.new ≡ left.old) }
+    ensures last { IfOk result (λ few. few.items ≡ [] → left.new ≡ []) }
 {
-    if lay_lines(page, graph, numbers) {
-        page.print(writer)
-    } else {
-        print_each(writer, graph, numbers, page)
+    let mut behind = Few::new();
+    let are_laid = lay_lines(page, graph, numbers, left, &mut behind);
+    fill_up(&mut behind, left);
+    print_laid(writer, graph, numbers, page, are_laid)?;
+    Ok(behind)
+}
+
+// Takes as many arcs of those that are left as there is room for.
+fn fill_up(few: &mut Few, left: &mut Arcs<'_>)
+    ensures all { few.new.items ++ left.new ≡ few.old.items ++ left.old }
+    ensures last { few.new.items ≡ [] → left.new ≡ [] }
+{
+    for _gap in few.len()..FEW {
+        let Some(number) = left.next() else {
+            return;
+        };
+        few.push(number.0);
     }
 }
 
-// Lays the lines of a few arcs on the page, and tells whether none of them has fields; else the page is of no use.
-fn lay_lines(page: &mut Page<LINES_LIMIT>, graph: &Graph, numbers: &[u32]) -> bool
+// Lays the lines of a few arcs on the page, and tells whether none of them has fields; else the page is of no use. For each
+// of them the next of those that are left is taken: to find it may take as long as to lay a line, and so it takes no longer.
+fn lay_lines(
+    page: &mut Page<LINES_LIMIT>,
+    graph: &Graph,
+    numbers: &[u32],
+    left: &mut Arcs<'_>,
+    behind: &mut Few,
+) -> bool
     requires few { length numbers.now ≤ 8 }
     requires live { All (λ k. IsSome (arc_at graph.now k)) numbers.now }
     requires within { All (λ k. k < made_of graph.now) numbers.now }
-    ensures { IsTrue result → page.new ≡ arcs_text graph.now numbers.now }
+    requires behind { behind.old.items ≡ [] }
+    ensures text { IsTrue result → page.new ≡ arcs_text graph.now numbers.now }
+    ensures behind { behind.new.items ++ left.new ≡ left.old }
 {
     page.clear();
     for at in (0..numbers.len()).rev() {
+        take_next(behind, left);
         if !prepend_line(page, graph, ArcNo(numbers[at])) {
             return false;
         }
     }
     true
+}
+
+// Takes the next arc of those that are left, where there is one.
+#[inline(always)]
+fn take_next(few: &mut Few, left: &mut Arcs<'_>)
+    requires { length few.old.items < 8 }
+    ensures all { few.new.items ++ left.new ≡ few.old.items ++ left.old }
+    ensures count { length few.new.items ≤ length few.old.items + 1 }
+{
+    if let Some(number) = left.next() {
+        few.push(number.0);
+    }
+}
+
+// Writes the page where the lines were laid on it, and else prints each arc by itself.
+fn print_laid<W: Write>(
+    writer: &mut MeteredWriter<W>,
+    graph: &Graph,
+    numbers: &[u32],
+    page: &mut Page<LINES_LIMIT>,
+    are_laid: bool,
+) -> Result<(), Failed>
+    requires page { IsTrue are_laid → page.old ≡ arcs_text graph.now numbers.now }
+    requires live { All (λ k. IsSome (arc_at graph.now k)) numbers.now }
+    requires within { All (λ k. k < made_of graph.now) numbers.now }
+    ensures { Prints (W.contents writer.old.inner) (W.contents writer.new.inner) writer.old.failed writer.new.failed
+        result (arcs_text graph.now numbers.now) }
+{
+    if are_laid {
+        page.print(writer)
+    } else {
+        print_each(writer, graph, numbers, page)
+    }
 }
 
 // A few arcs, each by itself.

@@ -1,6 +1,6 @@
-use Rattle.std.proofs.Common.{◌++◌, codes, ap, sym, ◌∙◌, append_assoc}
+use Rattle.std.proofs.Common.{codes, ap, sym, ◌∙◌}
 use Rattle.sgb_graph.specs.Edit.{entry_at, util_at}
-use Rattle.sgb_print.specs.Show.{arc_head, arc_names, fields_end}
+use Rattle.sgb_print.specs.Show.{arc_names, fields_end}
 use Rattle.sgb_print.proofs.Showing.{two_values, arc_two, arc_head_read, zeros_end, line_before}
 use Rattle.sgb_print.proofs.show.prepend_line.Goals as goal
 
