@@ -156,39 +156,59 @@ fn parts() -> (Vec<Vertex>, Vec<u32>, Vec<ArcPart>) {
     (vertices, firsts, arcs)
 }
 
+// Each is made several times in a row, so that it finds memory that was taken before.
+const ROUNDS: u32 = 5;
+
 fn main() {
-    for _ in 0..5 {
-        let mut graph = Graph::new(VERTICES);
-        let start = Instant::now();
-        for i in 0..ARCS {
-            let (from, to) = ends(i);
-            let _ = graph.new_arc(from, to, 1);
-        }
-        tell("new_arc", start, ARCS, u64::from(graph.arena.live()));
-        let start = Instant::now();
-        let sum = graph.walk();
-        tell("walk", start, ARCS, sum);
-        let start = Instant::now();
-        for i in 0..CUTS {
-            let number = i.wrapping_mul(4001) % ARCS;
-            if let Ok(cut) = graph.cut(number) {
-                graph.arena.revert(number, &cut);
-            }
-        }
-        tell("cut_and_revert", start, CUTS, u64::from(graph.arena.live()));
-        let lens: i64 = graph.arena.arcs.iter().map(|arc| arc.len).sum();
-        let mut graph = Graph::new(VERTICES);
-        let start = Instant::now();
-        for i in 0..ARCS / 2 {
-            let (from, to) = ends(i);
-            let _ = graph.new_edge(from, to, 1);
-        }
-        tell("new_edge", start, ARCS / 2, lens as u64);
-        let tips: u64 = graph.arena.arcs.iter().map(|arc| u64::from(arc.tip)).sum();
-        assert!(tips > 0);
-        let (vertices, firsts, arcs) = parts();
-        let start = Instant::now();
-        let built = Graph::build(vertices, firsts, arcs);
-        tell("build", start, RECORDS, built.map_or(0, |graph| u64::from(graph.arena.live())));
+    for _ in 0..ROUNDS {
+        time_arcs();
     }
+    for _ in 0..ROUNDS {
+        time_edges();
+    }
+    for _ in 0..ROUNDS {
+        time_build();
+    }
+}
+
+fn time_arcs() {
+    let mut graph = Graph::new(VERTICES);
+    let start = Instant::now();
+    for i in 0..ARCS {
+        let (from, to) = ends(i);
+        let _ = graph.new_arc(from, to, 1);
+    }
+    tell("new_arc", start, ARCS, u64::from(graph.arena.live()));
+    let start = Instant::now();
+    let sum = graph.walk();
+    tell("walk", start, ARCS, sum);
+    let start = Instant::now();
+    for i in 0..CUTS {
+        let number = i.wrapping_mul(4001) % ARCS;
+        if let Ok(cut) = graph.cut(number) {
+            graph.arena.revert(number, &cut);
+        }
+    }
+    tell("cut_and_revert", start, CUTS, u64::from(graph.arena.live()));
+    let lens: i64 = graph.arena.arcs.iter().map(|arc| arc.len).sum();
+    assert!(lens > 0);
+}
+
+fn time_edges() {
+    let mut graph = Graph::new(VERTICES);
+    let start = Instant::now();
+    for i in 0..ARCS / 2 {
+        let (from, to) = ends(i);
+        let _ = graph.new_edge(from, to, 1);
+    }
+    tell("new_edge", start, ARCS / 2, u64::from(graph.arena.live()));
+    let tips: u64 = graph.arena.arcs.iter().map(|arc| u64::from(arc.tip)).sum();
+    assert!(tips > 0);
+}
+
+fn time_build() {
+    let (vertices, firsts, arcs) = parts();
+    let start = Instant::now();
+    let built = Graph::build(vertices, firsts, arcs);
+    tell("build", start, RECORDS, built.map_or(0, |graph| u64::from(graph.arena.live())));
 }
