@@ -81,6 +81,20 @@ module _ {X : Type 0} (text : X → List ℕ) where
   last_item old new failed failed' bytes xs i all w =
       all_written old new failed failed' bytes (flat_map text (drop i xs)) (ap (flat_map text) (drop_of_length-le xs all)) w
 
+  -- the same of the first of a list
+  pub first_item : (old mid new : Option (List ℕ)) (failed failed' failed'' : Bool) (bytes : List ℕ) (xs : List X) (x : X) (rest : List X) → xs ≡ x ∷ rest
+      → Writes old mid failed failed' bytes (flat_map text xs) → Appends mid new (text x) × (failed'' ≡ failed')
+      → Writes old new failed failed'' bytes (flat_map text rest)
+  first_item old mid new failed failed' failed'' bytes xs x rest same w more =
+      one_piece old mid new failed failed' failed'' bytes (x ∷ rest) 0 x (omega arith)
+      (subst (λ (ys : List X). Writes old mid failed failed' bytes (flat_map text ys)) same w) more
+
+  pub failing_first : (old mid new : Option (List ℕ)) (failed failed' : Bool) (bytes : List ℕ) (xs : List X) (x : X) (rest : List X) → xs ≡ x ∷ rest
+      → Writes old mid failed failed' bytes (flat_map text xs) → AppendsFront mid new (text x) → AppendsFront old new bytes
+  failing_first old mid new failed failed' bytes xs x rest same w more =
+      failing_piece old mid new failed failed' bytes (x ∷ rest) 0 x (omega arith)
+      (subst (λ (ys : List X). Writes old mid failed failed' bytes (flat_map text ys)) same w) more
+
   -- the same of the first few of a list
   pub first_items : (old mid new : Option (List ℕ)) (failed failed' failed'' : Bool) (bytes : List ℕ) (xs ys : List X)
       → Writes old mid failed failed' bytes (flat_map text (xs ++ ys)) → Appends mid new (flat_map text xs) × (failed'' ≡ failed')
