@@ -1,5 +1,5 @@
 -- How the pieces that are printed make up a graph's text.
-use Rattle.std.proofs.Common.{◌≡◌, ◌<◌, ℕ, List, [], ◌∷◌, All, ◌++◌, codes, length, Bool, ◌&&◌, Option, Some, None, IsSome, IfSome, true, false, slice_index_or, refl, sym, ap, ◌∙◌, append_assoc, arith}
+use Rattle.std.proofs.Common.{◌≡◌, ◌<◌, ℕ, List, [], ◌∷◌, All, ◌++◌, codes, length, Option, Some, None, IsSome, IfSome, true, false, slice_index_or, refl, sym, ap, ◌∙◌, append_assoc, arith}
 use Rattle.std.specs.List.{list_all}
 use Rattle.std.proofs.lemmas.List.Elements.{All-get_or, All-tail}
 use Rattle.std.proofs.lemmas.Int.{to_z-of_z}
@@ -11,7 +11,7 @@ use Rattle.sgb_graph.specs.declared.graph.read.ArcView.{ArcView}
 use Rattle.sgb_graph.specs.Graph.{GraphOf, ArcOf, n_of, made_of, vertex_at, no_vertex, arc_at, IsGraph, IsVertex, IsArc}
 use Rattle.sgb_graph.specs.Edit.{entry_at, arc_or, no_arc, owner_of}
 use Rattle.sgb_graph.specs.Read.{entry_view, arc_view}
-use Rattle.sgb_print.specs.Show.{is_zero, field_text, arc_head, fields_end, arc_names, graph_names, graph_fields_text}
+use Rattle.sgb_print.specs.Show.{is_zero, arc_head, fields_end, graph_names, graph_fields_text}
 
 pub made_pieces : (name n m n' m' : List ℕ) → n' ≡ n → m' ≡ m
     → name ++ codes ": " ++ n ++ codes " vertices, " ++ m ++ codes " arcs\n"
@@ -43,20 +43,6 @@ two_values [] x y two a b = absurd (omega arith)
 two_values (_ ∷ []) x y two a b = absurd (omega arith)
 two_values (_ ∷ _ ∷ []) x y two a b = rw (a, b) refl
 two_values (_ ∷ _ ∷ _ ∷ _) x y two a b = absurd (omega arith)
-
--- two fields that are Zero leave the end of the line
-zero_field : (name : List ℕ) (u : Util) → is_zero u ≡ true → field_text name u ≡ []
-zero_field name u zero = rw zero refl
-
-both : (a b : Bool) → (a && b) ≡ true → (a ≡ true) × (b ≡ true)
-both true true e = (refl, refl)
-both true false e = cc
-both false b e = cc
-
-pub zeros_end : (u v : Util) → (is_zero u && is_zero v) ≡ true → fields_end arc_names (u ∷ v ∷ []) ≡ codes "\n"
-zeros_end u v zeros =
-    let each = both (is_zero u) (is_zero v) zeros in
-    rw (each.0, each.1) refl
 
 -- a page that begins with a head in another spelling, and goes on with what stood there
 pub head_before : (head head' behind p q : List ℕ) → head ≡ head' → p ≡ behind → q ≡ head' ++ p → head ++ behind ≡ q

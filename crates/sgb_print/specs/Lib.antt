@@ -1,3 +1,4 @@
 pub mod Meter
 pub mod Print
+pub mod Private
 pub mod Show

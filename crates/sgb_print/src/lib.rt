@@ -2,6 +2,7 @@
 #![tactic(auto)]
 
 mod fault;
+mod line;
 mod meter;
 mod page;
 mod print;

@@ -1,11 +1,12 @@
 //! Graphs as they are printed.
-ghost use Rattle.std.specs.Prelude.{◌≡◌, ◌+◌, ◌<◌, ◌≤◌, ◌∷◌, [], ◌++◌, ◌&&◌, codes, length, All, IfOk, IsSome, IsTrue};
+ghost use Rattle.std.specs.Prelude.{◌≡◌, ◌+◌, ◌<◌, ◌≤◌, ◌∷◌, [], ◌++◌, ◌&&◌, codes, length, drop, All, IfOk, IsSome, IsTrue, IsFalse};
 ghost use Rattle.std.specs.List.{flat_map, list_all};
 ghost use Rattle.sgb_graph.specs.Graph.{n_of, made_of, arc_at, arcs_of};
 ghost use Rattle.sgb_graph.specs.Edit.{entry_at};
 ghost use Rattle.sgb_print.specs.Print.{Prints};
-ghost use Rattle.sgb_print.specs.Show.{made_text, graph_text, header_text, is_zero, field_text, tip_text, arc_head, arc_line, arc_names, fields_end, vertex_head, vertex_line, vertex_text, graph_fields_text, vertices_text, arcs_text};
+ghost use Rattle.sgb_print.specs.Show.{made_text, graph_text, header_text, is_zero, value_text, field_text, tip_text, arc_head, arc_line, arc_names, fields_end, vertex_head, vertex_line, vertex_text, graph_fields_text, vertices_text, arcs_text};
 
+use crate::line::{LINE_LIMIT, prepend_arc, prepend_line};
 use crate::meter::{Failed, MeteredWriter};
 use crate::page::Page;
 use crate::print::{put, put_all};
@@ -18,8 +19,8 @@ use std::io::Write;
 
 // How many arcs are printed at a time.
 const FEW: usize = 8;
-// The most bytes of their lines where they have no fields.
-const LINES_LIMIT: usize = 544;
+// The most bytes of their lines where they are short.
+const LINES_LIMIT: usize = FEW * LINE_LIMIT;
 
 // The numbers of a few arcs.
 type Few = ArrayVec<u32, FEW>;
@@ -193,7 +194,7 @@ fn print_arcs<W: Write>(
     Ok(())
 }
 
-// Prints a few arcs, by one write where none has fields, and takes the next few of those that are left.
+// Prints a few arcs, by one write where none has long texts, and takes the next few of those that are left.
 fn print_few<W: Write>(
     writer: &mut MeteredWriter<W>,
     graph: &Graph,
@@ -210,9 +211,11 @@ fn print_few<W: Write>(
     ensures last { IfOk result (λ few. few.items ≡ [] → left.new ≡ []) }
 {
     let mut behind = Few::new();
-    let are_laid = lay_lines(page, graph, numbers, left, &mut behind);
+    let apart = lay_lines(page, graph, numbers, left, &mut behind);
     fill_up(&mut behind, left);
-    print_laid(writer, graph, numbers, page, are_laid)?;
+    let (apart, _) = numbers.split_at(apart);
+    print_each(writer, graph, apart)?;
+    page.print(writer)?;
     Ok(behind)
 }
 
@@ -229,30 +232,32 @@ fn fill_up(few: &mut Few, left: &mut Arcs<'_>)
     }
 }
 
-// Lays the lines of a few arcs on the page, and tells whether none of them has fields; else the page is of no use. For each
-// of them the next of those that are left is taken: to find it may take as long as to lay a line, and so it takes no longer.
+// Lays the lines of a few arcs on the page, the last ones first, up to one that has a long text, and tells how many are not
+// laid. For each of them the next of those that are left is taken: to find it may take as long as to lay a line, and so it
+// takes no longer.
 fn lay_lines(
     page: &mut Page<LINES_LIMIT>,
     graph: &Graph,
     numbers: &[u32],
     left: &mut Arcs<'_>,
     behind: &mut Few,
-) -> bool
+) -> usize
     requires few { length numbers.now ≤ 8 }
     requires live { All (λ k. IsSome (arc_at graph.now k)) numbers.now }
     requires within { All (λ k. k < made_of graph.now) numbers.now }
     requires behind { behind.old.items ≡ [] }
-    ensures text { IsTrue result → page.new ≡ arcs_text graph.now numbers.now }
+    ensures apart { result ≤ length numbers.now }
+    ensures text { page.new ≡ arcs_text graph.now (drop result numbers.now) }
     ensures behind { behind.new.items ++ left.new ≡ left.old }
 {
     page.clear();
     for at in (0..numbers.len()).rev() {
         take_next(behind, left);
         if !prepend_line(page, graph, ArcNo(numbers[at])) {
-            return false;
+            return at + 1;
         }
     }
-    true
+    0
 }
 
 // Takes the next arc of those that are left, where there is one.
@@ -267,34 +272,11 @@ fn take_next(few: &mut Few, left: &mut Arcs<'_>)
     }
 }
 
-// Writes the page where the lines were laid on it, and else prints each arc by itself.
-fn print_laid<W: Write>(
-    writer: &mut MeteredWriter<W>,
-    graph: &Graph,
-    numbers: &[u32],
-    page: &mut Page<LINES_LIMIT>,
-    are_laid: bool,
-) -> Result<(), Failed>
-    requires page { IsTrue are_laid → page.old ≡ arcs_text graph.now numbers.now }
-    requires live { All (λ k. IsSome (arc_at graph.now k)) numbers.now }
-    requires within { All (λ k. k < made_of graph.now) numbers.now }
-    ensures { Prints (W.contents writer.old.inner) (W.contents writer.new.inner) writer.old.failed writer.new.failed
-        result (arcs_text graph.now numbers.now) }
-{
-    if are_laid {
-        page.print(writer)
-    } else {
-        print_each(writer, graph, numbers, page)
-    }
-}
-
 // A few arcs, each by itself.
-#[inline(never)]
 fn print_each<W: Write>(
     writer: &mut MeteredWriter<W>,
     graph: &Graph,
     numbers: &[u32],
-    page: &mut Page<LINES_LIMIT>,
 ) -> Result<(), Failed>
     requires live { All (λ k. IsSome (arc_at graph.now k)) numbers.now }
     requires within { All (λ k. k < made_of graph.now) numbers.now }
@@ -302,18 +284,39 @@ fn print_each<W: Write>(
         result (arcs_text graph.now numbers.now) }
 {
     for number in numbers {
-        print_arc(writer, graph, ArcNo(*number), page)?;
+        print_arc(writer, graph, ArcNo(*number))?;
     }
     Ok(())
 }
 
-// An arc's number, tip, length and fields.
+// An arc's line, by one write where it has no long text.
+#[inline(never)]
 fn print_arc<W: Write>(
     writer: &mut MeteredWriter<W>,
     graph: &Graph,
     number: ArcNo,
-    page: &mut Page<LINES_LIMIT>,
 ) -> Result<(), Failed>
+    requires live { IsSome (arc_at graph.now number.0) }
+    requires within { number.0 < made_of graph.now }
+    ensures { Prints (W.contents writer.old.inner) (W.contents writer.new.inner) writer.old.failed writer.new.failed
+        result (arc_line number.0 (entry_at graph.now number.0)) }
+{
+    let mut page = Page::<LINE_LIMIT>::new();
+    if prepend_line(&mut page, graph, number) {
+        page.print(writer)
+    } else {
+        print_long_arc(writer, graph, number, &mut page)
+    }
+}
+
+// An arc's number, tip and length, and then its fields, piece by piece.
+fn print_long_arc<W: Write>(
+    writer: &mut MeteredWriter<W>,
+    graph: &Graph,
+    number: ArcNo,
+    page: &mut Page<LINE_LIMIT>,
+) -> Result<(), Failed>
+    requires page { page.old ≡ [] }
     requires live { IsSome (arc_at graph.now number.0) }
     requires within { number.0 < made_of graph.now }
     ensures { Prints (W.contents writer.old.inner) (W.contents writer.new.inner) writer.old.failed writer.new.failed
@@ -322,71 +325,11 @@ fn print_arc<W: Write>(
     let Some(arc) = graph.arc(number) else {
         unreachable!()
     };
-    page.clear();
     prepend_arc(page, number, arc.tip, arc.len);
     page.print(writer)?;
     let a = graph.util(Place::Arc(number, ArcField::A));
     let b = graph.util(Place::Arc(number, ArcField::B));
     end_with_fields(writer, &[("a", a), ("b", b)])
-}
-
-// Puts an arc's line in front where it has no fields, and tells whether it did.
-#[inline(always)]
-fn prepend_line(page: &mut Page<LINES_LIMIT>, graph: &Graph, number: ArcNo) -> bool
-    requires room { length page.old ≤ 476 }
-    requires live { IsSome (arc_at graph.now number.0) }
-    requires within { number.0 < made_of graph.now }
-    ensures text { IsTrue result → page.new ≡ arc_line number.0 (entry_at graph.now number.0) ++ page.old }
-    ensures count { length page.new ≤ length page.old + 68 }
-{
-    let Some(arc) = graph.arc(number) else {
-        unreachable!()
-    };
-    let a = graph.util(Place::Arc(number, ArcField::A));
-    let b = graph.util(Place::Arc(number, ArcField::B));
-    if !are_both_zero(a, b) {
-        return false;
-    }
-    page.prepend(b"\n");
-    prepend_arc(page, number, arc.tip, arc.len);
-    true
-}
-
-fn are_both_zero(a: &Util, b: &Util) -> bool
-    ensures { result ≡ (is_zero a.now && is_zero b.now) }
-{
-    matches!((a, b), (Util::Zero, Util::Zero))
-}
-
-// Puts what stands before an arc's fields in front.
-#[inline(always)]
-fn prepend_arc(page: &mut Page<LINES_LIMIT>, number: ArcNo, tip: Tip, len: i64)
-    requires { length page.old ≤ 477 }
-    ensures text { page.new ≡ arc_head number.0 tip len ++ page.old }
-    ensures count { length page.new ≤ length page.old + 67 }
-{
-    page.prepend_signed(len);
-    prepend_tip(page, tip);
-    page.prepend_number(number.0 as u64);
-    page.prepend(b"  A");
-}
-
-// Puts an arc's tip in front, between spaces.
-#[inline(always)]
-fn prepend_tip(page: &mut Page<LINES_LIMIT>, tip: Tip)
-    requires { length page.old ≤ 498 }
-    ensures text { page.new ≡ (codes " " ++ tip_text tip ++ codes " ") ++ page.old }
-    ensures count { length page.new ≤ length page.old + 23 }
-{
-    match tip {
-        Tip::Zero => page.prepend(b" 0 "),
-        Tip::One => page.prepend(b" 1 "),
-        Tip::To(vertex) => {
-            page.prepend(b" ");
-            page.prepend_number(vertex.0 as u64);
-            page.prepend(b" V");
-        }
-    }
 }
 
 // Whether each value is Zero.

@@ -27,8 +27,9 @@ V0 \"\" u=\"y\" z=-7
 V1 \"w\"
 ";
 
-// More arcs in a list than are printed at a time, one of which has a field.
-const LONG: &str = "\"gb_new_graph(2)\" ZZZZZZIZZZZZZZ
+// More arcs in a list than are printed at a time, with fields of the shortest and the longest kinds that are printed with
+// others, and with one that is printed by itself.
+const LONG: &str = "\"gb_new_graph(2)\" ZZZZZZASZZZZZZ
 2 vertices, 18 arcs, 18 numbers
 V0 \"\"
   A17 V1 17
@@ -36,16 +37,16 @@ V0 \"\"
   A15 V1 15
   A14 V1 14
   A13 V1 13
-  A12 V1 12
+  A12 V1 12 b=\"twenty letters here.\"
   A11 V1 11
   A10 V1 10
   A9 V1 9
   A8 V1 8
   A7 V1 7
-  A6 V1 6
+  A6 V1 6 a=A17 b=\"nineteen letters...\"
   A5 V1 5
   A4 V1 4
-  A3 V1 3 a=-7
+  A3 V1 3 a=-9223372036854775808 b=V1
   A2 V1 2
   A1 V1 1
   A0 V1 0
@@ -71,6 +72,10 @@ fn cut(graph: &mut Graph, number: u32) -> Result<(), Fail> {
 fn set(graph: &mut Graph, place: Place, value: Util) -> Result<(), Fail> {
     let _delta = graph.set_util(place, value)?;
     Ok(())
+}
+
+fn set_arc(graph: &mut Graph, number: u32, field: ArcField, value: Util) -> Result<(), Fail> {
+    set(graph, Place::Arc(ArcNo(number), field), value)
 }
 
 fn set_label(graph: &mut Graph, vertex: u32, label: Text) -> Result<(), Fail> {
@@ -137,8 +142,14 @@ fn with_long_list(alloc: Global) -> Result<Graph, Fail> {
     for len in 0..18i64 {
         arc(&mut graph, 0, 1, len)?;
     }
-    set_types(&mut graph, b"ZZZZZZIZZZZZZZ");
-    set(&mut graph, Place::Arc(ArcNo(3), ArcField::A), Util::Int(-7))?;
+    set_types(&mut graph, b"ZZZZZZASZZZZZZ");
+    set_arc(&mut graph, 3, ArcField::A, Util::Int(i64::MIN))?;
+    set_arc(&mut graph, 3, ArcField::B, Util::Vertex(VertexNo(1)))?;
+    set_arc(&mut graph, 6, ArcField::A, Util::Arc(ArcNo(17)))?;
+    let short = Text::new(alloc, b"nineteen letters...")?;
+    set_arc(&mut graph, 6, ArcField::B, Util::Text(short))?;
+    let long = Text::new(alloc, b"twenty letters here.")?;
+    set_arc(&mut graph, 12, ArcField::B, Util::Text(long))?;
     Ok(graph)
 }
 
