@@ -54,6 +54,12 @@ def scattered(count):
     return ['graph g 1000'] + ['arc g %d %d %d' % (u, v, k % 1000) for k, (u, v) in enumerate(pairs)]
 
 
+def with_fields(count):
+    """A number in each arc, and a text in each eighth."""
+    return (scattered(count) + ['types g ZZZZZZISZZZZZZ'] + ['set g A%d a %d' % (k, k) for k in range(count)]
+            + ['set g A%d b "%d"' % (k, k) for k in range(0, count, 8)])
+
+
 def rows(million, shows):
     """Of each row its name, the lines in front, its lines, and by how many it is divided."""
     bounds = (6, 1000, 2 ** 30 + 1)
@@ -72,6 +78,7 @@ def rows(million, shows):
     yield row('their undo', ['undo'] * EDITS, made)
     yield row('their redo', ['redo'] * EDITS, made + ['undo'] * EDITS)
     yield 'show of 60,000 arcs, an arc', scattered(EDITS), ['show g'] * shows, shows * EDITS
+    yield 'of 30,000 with fields, an arc', with_fields(EDITS // 2), ['show g'] * shows, shows * EDITS // 2
 
 
 def processor_time(program, script):
