@@ -74,16 +74,19 @@ fn set(graph: &mut Graph, place: Place, value: Util) -> Result<(), Fail> {
     Ok(())
 }
 
-fn set_arc(graph: &mut Graph, number: u32, field: ArcField, value: Util) -> Result<(), Fail> {
-    set(graph, Place::Arc(ArcNo(number), field), value)
+fn set_text(alloc: Global, graph: &mut Graph, place: Place, text: &[u8]) -> Result<(), Fail> {
+    let text = Text::new(alloc, text)?;
+    set(graph, place, Util::Text(text))
 }
 
-fn set_label(graph: &mut Graph, vertex: u32, label: Text) -> Result<(), Fail> {
+fn set_label(alloc: Global, graph: &mut Graph, vertex: u32, label: &[u8]) -> Result<(), Fail> {
+    let label = Text::new(alloc, label)?;
     let _delta = graph.set_label(VertexNo(vertex), label)?;
     Ok(())
 }
 
-fn set_id(graph: &mut Graph, id: Text) -> Result<(), Fail> {
+fn set_id(alloc: Global, graph: &mut Graph, id: &[u8]) -> Result<(), Fail> {
+    let id = Text::new(alloc, id)?;
     let _delta = graph.set_id(id)?;
     Ok(())
 }
@@ -94,63 +97,98 @@ fn set_types(graph: &mut Graph, letters: &[u8]) {
     }
 }
 
+// Whoever owns a graph calls little that can fail, since each such call is a way on which the graph is dropped.
 fn board(alloc: Global) -> Result<Graph, Fail> {
     let mut graph = Graph::new(alloc, 1)?;
-    set_types(&mut graph, b"ZZZIIIZZZZZZZZ");
-    set_id(&mut graph, Text::new(alloc, b"board(1,0,0,0,1,1,0)")?)?;
-    set_label(&mut graph, 0, Text::new(alloc, b"0")?)?;
-    edge(&mut graph, 0, 0, 1)?;
+    make_board(alloc, &mut graph)?;
     Ok(graph)
 }
 
-// Two arcs and a hole.
-fn with_hole(alloc: Global) -> Result<Graph, Fail> {
-    let mut graph = Graph::new(alloc, 2)?;
-    arc(&mut graph, 0, 1, -5)?;
-    arc(&mut graph, 0, 0, 7)?;
-    arc(&mut graph, 1, 0, 3)?;
-    cut(&mut graph, 2)?;
-    Ok(graph)
+fn make_board(alloc: Global, graph: &mut Graph) -> Result<(), Fail> {
+    set_types(graph, b"ZZZIIIZZZZZZZZ");
+    set_id(alloc, graph, b"board(1,0,0,0,1,1,0)")?;
+    set_label(alloc, graph, 0, b"0")?;
+    edge(graph, 0, 0, 1)
 }
 
 fn with_fields(alloc: Global) -> Result<Graph, Fail> {
-    let mut graph = with_hole(alloc)?;
-    set_label(&mut graph, 1, Text::new(alloc, b"w")?)?;
-    let text = Util::Text(Text::new(alloc, b"y")?);
+    let mut graph = Graph::new(alloc, 2)?;
+    set_fields(alloc, &mut graph)?;
+    Ok(graph)
+}
+
+fn set_fields(alloc: Global, graph: &mut Graph) -> Result<(), Fail> {
+    add_arcs_and_hole(graph)?;
+    set_label(alloc, graph, 1, b"w")?;
+    set_vertex_fields(alloc, graph)?;
+    set_other_fields(graph)
+}
+
+fn add_arcs_and_hole(graph: &mut Graph) -> Result<(), Fail> {
+    arc(graph, 0, 1, -5)?;
+    arc(graph, 0, 0, 7)?;
+    arc(graph, 1, 0, 3)?;
+    cut(graph, 2)
+}
+
+fn set_vertex_fields(alloc: Global, graph: &mut Graph) -> Result<(), Fail> {
     let vertex = VertexNo(0);
+    set_text(alloc, graph, Place::Vertex(vertex, VertexField::U), b"y")?;
+    set(graph, Place::Vertex(vertex, VertexField::Z), Util::Int(-7))
+}
+
+fn set_other_fields(graph: &mut Graph) -> Result<(), Fail> {
     set(
-        &mut graph,
+        graph,
         Place::Graph(GraphField::Zz),
         Util::Vertex(VertexNo(1)),
     )?;
-    set(&mut graph, Place::Vertex(vertex, VertexField::U), text)?;
-    set(
-        &mut graph,
-        Place::Vertex(vertex, VertexField::Z),
-        Util::Int(-7),
-    )?;
-    set(
-        &mut graph,
-        Place::Arc(ArcNo(1), ArcField::B),
-        Util::Arc(ArcNo(0)),
-    )?;
-    Ok(graph)
+    set(graph, arc_field(1, ArcField::B), Util::Arc(ArcNo(0)))
+}
+
+fn arc_field(number: u32, field: ArcField) -> Place {
+    Place::Arc(ArcNo(number), field)
 }
 
 fn with_long_list(alloc: Global) -> Result<Graph, Fail> {
     let mut graph = Graph::new(alloc, 2)?;
-    for len in 0..18i64 {
-        arc(&mut graph, 0, 1, len)?;
-    }
-    set_types(&mut graph, b"ZZZZZZASZZZZZZ");
-    set_arc(&mut graph, 3, ArcField::A, Util::Int(i64::MIN))?;
-    set_arc(&mut graph, 3, ArcField::B, Util::Vertex(VertexNo(1)))?;
-    set_arc(&mut graph, 6, ArcField::A, Util::Arc(ArcNo(17)))?;
-    let short = Text::new(alloc, b"nineteen letters...")?;
-    set_arc(&mut graph, 6, ArcField::B, Util::Text(short))?;
-    let long = Text::new(alloc, b"twenty letters here.")?;
-    set_arc(&mut graph, 12, ArcField::B, Util::Text(long))?;
+    make_long_list(alloc, &mut graph)?;
     Ok(graph)
+}
+
+fn make_long_list(alloc: Global, graph: &mut Graph) -> Result<(), Fail> {
+    add_long_list(graph)?;
+    set_numbers(graph)?;
+    set_texts(alloc, graph)
+}
+
+fn add_long_list(graph: &mut Graph) -> Result<(), Fail> {
+    set_types(graph, b"ZZZZZZASZZZZZZ");
+    for len in 0..18i64 {
+        arc(graph, 0, 1, len)?;
+    }
+    Ok(())
+}
+
+fn set_numbers(graph: &mut Graph) -> Result<(), Fail> {
+    set(graph, arc_field(3, ArcField::A), Util::Int(i64::MIN))?;
+    set(graph, arc_field(3, ArcField::B), Util::Vertex(VertexNo(1)))?;
+    set(graph, arc_field(6, ArcField::A), Util::Arc(ArcNo(17)))
+}
+
+fn set_texts(alloc: Global, graph: &mut Graph) -> Result<(), Fail> {
+    set_text(
+        alloc,
+        graph,
+        arc_field(6, ArcField::B),
+        b"nineteen letters...",
+    )?;
+    set_text(
+        alloc,
+        graph,
+        arc_field(12, ArcField::B),
+        b"twenty letters here.",
+    )
 }
 
 fn printed(alloc: Global, graph: &Graph) -> Result<Vec<u8>, Fail> {
@@ -240,22 +278,27 @@ fn fails_after(alloc: Global, graph: &Graph, text: &[u8]) -> bool {
     }
 }
 
+// Whether each writer with less room than the text needs keeps what it had room for, and fails.
+fn fail_all(alloc: Global, graph: &Graph, text: &[u8]) -> bool {
+    for room in 0..text.len() {
+        if !fails_after(alloc, graph, &text[..room]) {
+            return false;
+        }
+    }
+    true
+}
+
 #[test]
-fn failed_writes_are_told(rt: HostRuntime) -> Result<(), Fail> {
+fn failed_writes_of_a_board_are_told(rt: HostRuntime) -> Result<(), Fail> {
     let graph = board(rt.alloc())?;
-    for room in 0..BOARD.len() {
-        assert!(rt;
-            fails_after(rt.alloc(), &graph, &BOARD.as_bytes()[..room]),
-            "room for {room}"
-        );
-    }
+    assert!(rt; fail_all(rt.alloc(), &graph, BOARD.as_bytes()));
+    Ok(())
+}
+
+#[test]
+fn failed_writes_of_a_long_list_are_told(rt: HostRuntime) -> Result<(), Fail> {
     let graph = with_long_list(rt.alloc())?;
-    for room in 0..LONG.len() {
-        assert!(rt;
-            fails_after(rt.alloc(), &graph, &LONG.as_bytes()[..room]),
-            "room for {room}"
-        );
-    }
+    assert!(rt; fail_all(rt.alloc(), &graph, LONG.as_bytes()));
     Ok(())
 }
 
