@@ -3,7 +3,7 @@
 
     test_edits.py
 
-It runs edits.py once on its own, and once on crates that another run is said to have proved.
+It runs edits.py twice, which has to say the same both times, and once more on crates that another run is said to have proved.
 """
 import os
 import re
@@ -123,13 +123,15 @@ def run(room, *flags):
 def main():
     with tempfile.TemporaryDirectory(prefix='sgb-test-edits-') as room:
         make(room)
-        (alone, is_well), (behind, _) = run(room), run(room, '--as-proved')
+        (first, is_well), (second, _), (third, _) = run(room), run(room), run(room, '--as-proved')
     wanted = TOLD + ['crates/%s/edits/%s.edit: %s' % (crate, name, told) for crate, name, _, _, told in EDITS_TRIED if told]
-    lacking = [(it, lines) for lines in (alone, behind) for it in wanted if not any(line.startswith(it) for line in lines)]
-    lacking += [('a status of failure', alone)] * is_well
+    lacking = [(it, lines) for lines in (first, third) for it in wanted if not any(line.startswith(it) for line in lines)]
+    lacking += [('a status of failure', first)] * is_well
+    # (the lines of one crate may come before those of another)
+    lacking += [('the second run as the first', second)] * (sorted(first) != sorted(second))
     for it, lines in lacking:
         print('test_edits: not told: %s' % it, *lines, sep='\n')
-    print('test_edits: %d passed, %d failed' % (2 * len(wanted) + 1 - len(lacking), len(lacking)))
+    print('test_edits: %d passed, %d failed' % (2 * len(wanted) + 2 - len(lacking), len(lacking)))
     return 1 if lacking else 0
 
 
