@@ -3,7 +3,8 @@
 
     test_edits.py
 
-It runs edits.py twice, which has to say the same both times, and once more on crates that another run is said to have proved.
+It runs edits.py twice, the second time on crates that another run is said to have proved: over what the first run left, it
+has to say the same.
 """
 import os
 import re
@@ -114,18 +115,20 @@ def make(room):
 
 
 def run(room, *flags):
-    """The lines of a run, without its times, and whether it passed. The crate `tiny` is named to it as one that is proved."""
+    """The lines of a run that tell of edits, without its times, and whether it passed. The crate `tiny` is named to it as one that is
+    proved."""
     ran = subprocess.run([sys.executable, EDITS, '-v', *flags], cwd=room, input='tiny\n', stdout=subprocess.PIPE,
                          stderr=subprocess.STDOUT, errors='replace', encoding='utf-8')
-    return re.sub(r'\d+ s\b', '_ s', ran.stdout).splitlines(), ran.returncode == 0
+    lines = re.sub(r'\d+ s\b', '_ s', ran.stdout).splitlines()
+    return [it for it in lines if it.startswith(('crates/', 'tiny:', 'open:', 'edits:'))] or lines, ran.returncode == 0
 
 
 def main():
     with tempfile.TemporaryDirectory(prefix='sgb-test-edits-') as room:
         make(room)
-        (first, is_well), (second, _), (third, _) = run(room), run(room), run(room, '--as-proved')
+        (first, is_well), (second, _) = run(room), run(room, '--as-proved')
     wanted = TOLD + ['crates/%s/edits/%s.edit: %s' % (crate, name, told) for crate, name, _, _, told in EDITS_TRIED if told]
-    lacking = [(it, lines) for lines in (first, third) for it in wanted if not any(line.startswith(it) for line in lines)]
+    lacking = [(it, lines) for lines in (first, second) for it in wanted if not any(line.startswith(it) for line in lines)]
     lacking += [('a status of failure', first)] * is_well
     # (the lines of one crate may come before those of another)
     lacking += [('the second run as the first', second)] * (sorted(first) != sorted(second))

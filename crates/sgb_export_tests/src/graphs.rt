@@ -82,39 +82,54 @@ pub fn loops(alloc: Global, directed: bool) -> Made {
 }
 
 /// Three vertices with these names, and an edge between each two.
+// Whoever owns a graph calls little that can fail, since each such call is a way on which the graph is dropped.
 pub fn triangle(alloc: Global, first: &[u8], second: &[u8], third: &[u8]) -> Made {
-    let mut graph = named(alloc, first, second, third)?;
-    edge(&mut graph, 0, 1, 1)?;
-    edge(&mut graph, 0, 2, 2)?;
-    edge(&mut graph, 1, 2, 3)?;
+    let mut graph = Graph::new(alloc, 3)?;
+    make_triangle(alloc, &mut graph, first, second, third)?;
     Ok(graph)
 }
 
-fn named(alloc: Global, first: &[u8], second: &[u8], third: &[u8]) -> Made {
-    let mut graph = Graph::new(alloc, 3)?;
-    label(alloc, &mut graph, 0, first)?;
-    label(alloc, &mut graph, 1, second)?;
-    label(alloc, &mut graph, 2, third)?;
-    Ok(graph)
+fn make_triangle(
+    alloc: Global,
+    graph: &mut Graph,
+    first: &[u8],
+    second: &[u8],
+    third: &[u8],
+) -> Result<(), Refusal> {
+    label(alloc, graph, 0, first)?;
+    label(alloc, graph, 1, second)?;
+    label(alloc, graph, 2, third)?;
+    edge(graph, 0, 1, 1)?;
+    edge(graph, 0, 2, 2)?;
+    edge(graph, 1, 2, 3)
 }
 
 /// One vertex, with this id and this name.
 pub fn single(alloc: Global, id: &[u8], name: &[u8]) -> Made {
     let mut graph = Graph::new(alloc, 1)?;
-    set_id(alloc, &mut graph, id)?;
-    label(alloc, &mut graph, 0, name)?;
+    name_single(alloc, &mut graph, id, name)?;
     Ok(graph)
+}
+
+fn name_single(alloc: Global, graph: &mut Graph, id: &[u8], name: &[u8]) -> Result<(), Refusal> {
+    set_id(alloc, graph, id)?;
+    label(alloc, graph, 0, name)
 }
 
 /// The Petersen graph: five vertices in a ring, five in a star, and an edge between each two that are alike.
 pub fn petersen(alloc: Global) -> Made {
     let mut graph = Graph::new(alloc, 10)?;
-    for v in 0..5u32 {
-        edge(&mut graph, v, (v + 1) % 5, 1)?;
-        edge(&mut graph, v, v + 5, 1)?;
-        edge(&mut graph, v + 5, (v + 2) % 5 + 5, 1)?;
-    }
+    make_petersen(&mut graph)?;
     Ok(graph)
+}
+
+fn make_petersen(graph: &mut Graph) -> Result<(), Refusal> {
+    for v in 0..5u32 {
+        edge(graph, v, (v + 1) % 5, 1)?;
+        edge(graph, v, v + 5, 1)?;
+        edge(graph, v + 5, (v + 2) % 5 + 5, 1)?;
+    }
+    Ok(())
 }
 
 /// One vertex, whose arc has this tip.
@@ -161,9 +176,9 @@ pub fn text_of(alloc: Global, made: &Made, format: Format) -> Result<Vec<u8>, Ex
     Ok(writer.into_inner())
 }
 
-/// Whether the graph has this text.
-pub fn is_text(alloc: Global, made: &Made, format: Format, text: &str) -> bool {
-    match text_of(alloc, made, format) {
+/// Whether the graph has this text. It takes the graph, so that a test has none of its own.
+pub fn is_text(alloc: Global, made: Made, format: Format, text: &str) -> bool {
+    match text_of(alloc, &made, format) {
         Ok(written) => written.as_slice() == text.as_bytes(),
         Err(_) => false,
     }

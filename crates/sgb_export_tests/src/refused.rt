@@ -8,26 +8,26 @@ use std::alloc::Global;
 
 const BAD: Option<ExportFault> = Some(ExportFault::Refused(Refusal::BadOperand));
 
-fn fault_of(alloc: Global, made: &Made, format: Format) -> Option<ExportFault> {
-    text_of(alloc, made, format).err()
+fn fault_of(alloc: Global, made: Made, format: Format) -> Option<ExportFault> {
+    text_of(alloc, &made, format).err()
+}
+
+// What is told of an arc with this tip.
+fn fault_of_tip(alloc: Global, tip: Tip, format: Format) -> Option<ExportFault> {
+    fault_of(alloc, leading_to(alloc, tip), format)
 }
 
 #[test]
 fn arcs_to_no_vertex(rt: HostRuntime) {
-    let zero = leading_to(rt.alloc(), Tip::Zero);
-    assert!(rt; fault_of(rt.alloc(), &zero, Format::Dimacs) == BAD);
-    let one = leading_to(rt.alloc(), Tip::One);
-    assert!(rt; fault_of(rt.alloc(), &one, Format::Edges) == BAD);
-    assert!(rt; fault_of(rt.alloc(), &one, Format::Dot) == BAD);
+    assert!(rt; fault_of_tip(rt.alloc(), Tip::Zero, Format::Dimacs) == BAD);
+    assert!(rt; fault_of_tip(rt.alloc(), Tip::One, Format::Edges) == BAD);
+    assert!(rt; fault_of_tip(rt.alloc(), Tip::One, Format::Dot) == BAD);
 }
 
 // What is told where these names stand for the vertices.
 fn fault_of_names(alloc: Global, second: &[u8], third: &[u8]) -> Option<ExportFault> {
-    fault_of(
-        alloc,
-        &triangle(alloc, b"a", second, third),
-        Format::NamedEdges,
-    )
+    let named = triangle(alloc, b"a", second, third);
+    fault_of(alloc, named, Format::NamedEdges)
 }
 
 #[test]

@@ -61,79 +61,65 @@ const GRAPHML_UNEVEN: &str = "<?xml version=\"1.0\" encoding=\"UTF-8\"?>
 
 #[test]
 fn dot(rt: HostRuntime) {
-    let edge = one_edge(rt.alloc());
-    assert!(rt; is_text(rt.alloc(), &edge, Format::Dot, DOT_EDGE));
-    let arc = one_arc(rt.alloc());
-    assert!(rt; is_text(rt.alloc(), &arc, Format::Dot, DOT_ARC));
-    let none = empty(rt.alloc());
-    assert!(rt;
-        is_text(
-            rt.alloc(),
-            &none,
-            Format::Dot,
-            "graph \"gb_new_graph(0)\" {\n}\n"
-        )
-    );
+    let alloc = rt.alloc();
+    assert!(rt; is_text(alloc, one_edge(alloc), Format::Dot, DOT_EDGE));
+    assert!(rt; is_text(alloc, one_arc(alloc), Format::Dot, DOT_ARC));
+    let nothing = "graph \"gb_new_graph(0)\" {\n}\n";
+    assert!(rt; is_text(alloc, empty(alloc), Format::Dot, nothing));
 }
 
 #[test]
 fn dimacs(rt: HostRuntime) {
-    let three = triangle(rt.alloc(), b"", b"", b"");
-    assert!(rt; is_text(rt.alloc(), &three, Format::Dimacs, DIMACS_TRIANGLE));
-    let none = empty(rt.alloc());
-    assert!(rt;
-        is_text(
-            rt.alloc(),
-            &none,
-            Format::Dimacs,
-            "c gb_new_graph(0)\np sp 0 0\n"
-        )
-    );
+    let alloc = rt.alloc();
+    let three = triangle(alloc, b"", b"", b"");
+    assert!(rt; is_text(alloc, three, Format::Dimacs, DIMACS_TRIANGLE));
+    let nothing = "c gb_new_graph(0)\np sp 0 0\n";
+    assert!(rt; is_text(alloc, empty(alloc), Format::Dimacs, nothing));
 }
 
 #[test]
 fn graphml(rt: HostRuntime) {
-    let one = single(rt.alloc(), b"a<b", b"<R&D> x");
-    assert!(rt; is_text(rt.alloc(), &one, Format::Graphml, GRAPHML_SINGLE));
-    let two = uneven(rt.alloc());
-    assert!(rt; is_text(rt.alloc(), &two, Format::Graphml, GRAPHML_UNEVEN));
+    let alloc = rt.alloc();
+    let one = single(alloc, b"a<b", b"<R&D> x");
+    assert!(rt; is_text(alloc, one, Format::Graphml, GRAPHML_SINGLE));
+    assert!(rt; is_text(alloc, uneven(alloc), Format::Graphml, GRAPHML_UNEVEN));
 }
 
 // Whether the graph has this list of edges.
-fn is_list(alloc: Global, made: &Made, text: &str) -> bool {
+fn is_list(alloc: Global, made: Made, text: &str) -> bool {
     is_text(alloc, made, Format::Edges, text)
 }
 
 #[test]
 fn edges(rt: HostRuntime) {
-    assert!(rt; is_list(rt.alloc(), &empty(rt.alloc()), "# graph 0 0\n"));
-    assert!(rt; is_list(rt.alloc(), &one_edge(rt.alloc()), "# graph 2 1\n0 1 5\n"));
-    let two = two_edges(rt.alloc());
-    assert!(rt; is_list(rt.alloc(), &two, "# graph 2 2\n0 1 6\n0 1 5\n"));
+    let alloc = rt.alloc();
+    assert!(rt; is_list(alloc, empty(alloc), "# graph 0 0\n"));
+    assert!(rt; is_list(alloc, one_edge(alloc), "# graph 2 1\n0 1 5\n"));
+    assert!(rt; is_list(alloc, two_edges(alloc), "# graph 2 2\n0 1 6\n0 1 5\n"));
 }
 
 #[test]
 fn arcs(rt: HostRuntime) {
-    assert!(rt; is_list(rt.alloc(), &one_arc(rt.alloc()), "# digraph 2 1\n0 1 -5\n"));
-    let two = uneven(rt.alloc());
-    assert!(rt; is_list(rt.alloc(), &two, "# digraph 2 2\n0 1 5\n1 0 6\n"));
+    let alloc = rt.alloc();
+    assert!(rt; is_list(alloc, one_arc(alloc), "# digraph 2 1\n0 1 -5\n"));
+    assert!(rt; is_list(alloc, uneven(alloc), "# digraph 2 2\n0 1 5\n1 0 6\n"));
 }
 
 #[test]
 fn loops_as_edges_and_as_arcs(rt: HostRuntime) {
-    let edge = loops(rt.alloc(), false);
-    assert!(rt; is_list(rt.alloc(), &edge, "# graph 1 1\n0 0 7\n"));
-    let arc = loops(rt.alloc(), true);
-    assert!(rt; is_list(rt.alloc(), &arc, "# digraph 1 1\n0 0 7\n"));
-    let to_itself = leading_to(rt.alloc(), Tip::To(VertexNo(0)));
-    assert!(rt; is_list(rt.alloc(), &to_itself, "# digraph 1 1\n0 0 1\n"));
+    let alloc = rt.alloc();
+    assert!(rt; is_list(alloc, loops(alloc, false), "# graph 1 1\n0 0 7\n"));
+    assert!(rt; is_list(alloc, loops(alloc, true), "# digraph 1 1\n0 0 7\n"));
+    let to_itself = leading_to(alloc, Tip::To(VertexNo(0)));
+    assert!(rt; is_list(alloc, to_itself, "# digraph 1 1\n0 0 1\n"));
 }
 
 #[test]
 fn names(rt: HostRuntime) {
-    let three = triangle(rt.alloc(), b"Ada", b"B#", b"ada");
+    let alloc = rt.alloc();
+    let three = triangle(alloc, b"Ada", b"B#", b"ada");
     let text = "# graph 3 3\nAda ada 2\nAda B# 1\nB# ada 3\n";
-    assert!(rt; is_text(rt.alloc(), &three, Format::NamedEdges, text));
+    assert!(rt; is_text(alloc, three, Format::NamedEdges, text));
 }
 
 // How many lines the text has, and whether it begins so.

@@ -34,15 +34,19 @@ fn insert(builder: &mut Builder, from: u32, to: u32, len: i64) -> Result<(), Ref
     builder.insert(VertexNo(from), VertexNo(to), len)
 }
 
-// Two vertices, a and b, and one insertion between them.
+// Two vertices, a and b, and one insertion between them. Whoever owns a builder calls little that can fail.
 fn two_vertices(alloc: Global, directed: bool) -> Result<Graph, Refusal> {
     let mut builder = begun(alloc, directed)?;
+    insert_one(alloc, &mut builder)?;
+    Ok(builder.finish())
+}
+
+fn insert_one(alloc: Global, builder: &mut Builder) -> Result<(), Refusal> {
     builder.reserve_vertices(2)?;
     builder.reserve(1)?;
-    push_vertex(alloc, &mut builder, b"a")?;
-    push_vertex(alloc, &mut builder, b"b")?;
-    insert(&mut builder, 1, 0, 9)?;
-    Ok(builder.finish())
+    push_vertex(alloc, builder, b"a")?;
+    push_vertex(alloc, builder, b"b")?;
+    insert(builder, 1, 0, 9)
 }
 
 // Where a growth is refused, the graph is asked for once more.
@@ -79,6 +83,12 @@ fn expect_arc(rt: &impl Abort, graph: &Graph) {
     assert!(rt; is_arc(graph, 0, 1, 0, 9));
 }
 
+fn push_three(alloc: Global, builder: &mut Builder) -> Result<(), Refusal> {
+    push_vertex(alloc, builder, b"")?;
+    push_vertex(alloc, builder, b"")?;
+    push_vertex(alloc, builder, b"")
+}
+
 fn insert_row(builder: &mut Builder) -> Result<(), Refusal> {
     if builder.graph().n() < 3 {
         return Err(Refusal::BadOperand);
@@ -89,9 +99,7 @@ fn insert_row(builder: &mut Builder) -> Result<(), Refusal> {
 // Three vertices, and insertions from the first to the two others.
 fn three_vertices(alloc: Global, directed: bool) -> Result<Graph, Refusal> {
     let mut builder = begun(alloc, directed)?;
-    push_vertex(alloc, &mut builder, b"")?;
-    push_vertex(alloc, &mut builder, b"")?;
-    push_vertex(alloc, &mut builder, b"")?;
+    push_three(alloc, &mut builder)?;
     insert_row(&mut builder)?;
     Ok(builder.finish())
 }
@@ -128,9 +136,7 @@ fn insert_along(builder: &mut Builder) -> Result<(), Refusal> {
 // Three vertices, and insertions from the first along two spokes.
 fn three_along(alloc: Global, directed: bool) -> Result<Graph, Refusal> {
     let mut builder = begun(alloc, directed)?;
-    push_vertex(alloc, &mut builder, b"")?;
-    push_vertex(alloc, &mut builder, b"")?;
-    push_vertex(alloc, &mut builder, b"")?;
+    push_three(alloc, &mut builder)?;
     insert_along(&mut builder)?;
     Ok(builder.finish())
 }

@@ -8,7 +8,8 @@ ghost use Rattle.sgb_print.specs.Show.{is_zero, value_text, field_text, tip_text
 use crate::page::Page;
 use sgb_graph::{ArcField, ArcNo, Graph, Place, Tip, Util};
 
-// The most bytes of an arc's line where its fields are short.
+// The most bytes of an arc's line where its fields are short: 67 before them, and 49 from there. A signed number is given
+// 21 of them and another number 20, so a tip with its letter and spaces takes 23, a value 21, and a field 23 beside its name.
 pub(crate) const LINE_LIMIT: usize = 116;
 // The most bytes of a text that is short: between its quotes it is no longer than a number.
 const SHORT_TEXT: usize = 19;

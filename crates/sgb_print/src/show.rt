@@ -1,10 +1,10 @@
 //! Graphs as they are printed.
-ghost use Rattle.std.specs.Prelude.{◌≡◌, ◌+◌, ◌<◌, ◌≤◌, ◌∷◌, [], ◌++◌, ◌&&◌, codes, length, drop, All, IfOk, IsSome, IsTrue, IsFalse};
+ghost use Rattle.std.specs.Prelude.{◌≡◌, ◌+◌, ◌<◌, ◌≤◌, [], ◌++◌, codes, length, drop, All, IfOk, IsSome};
 ghost use Rattle.std.specs.List.{flat_map, list_all};
 ghost use Rattle.sgb_graph.specs.Graph.{n_of, made_of, arc_at, arcs_of};
 ghost use Rattle.sgb_graph.specs.Edit.{entry_at};
 ghost use Rattle.sgb_print.specs.Print.{Prints};
-ghost use Rattle.sgb_print.specs.Show.{made_text, graph_text, header_text, is_zero, value_text, field_text, tip_text, arc_head, arc_line, arc_names, fields_end, vertex_head, vertex_line, vertex_text, graph_fields_text, vertices_text, arcs_text};
+ghost use Rattle.sgb_print.specs.Show.{made_text, graph_text, header_text, is_zero, field_text, arc_line, vertex_head, vertex_line, vertex_text, graph_fields_text, vertices_text, arcs_text};
 
 use crate::line::{LINE_LIMIT, prepend_arc, prepend_line};
 use crate::meter::{Failed, MeteredWriter};
@@ -289,7 +289,7 @@ fn print_each<W: Write>(
     Ok(())
 }
 
-// An arc's line, by one write where it has no long text.
+// An arc's line, by one write where it has no long text. Inlined it would take registers from the lines that are laid.
 #[inline(never)]
 fn print_arc<W: Write>(
     writer: &mut MeteredWriter<W>,

@@ -7,6 +7,7 @@ use sgb_graph::{
 use sgb_print::{Failed, MeteredReader, MeteredWriter, print_graph, print_made, put, put_all};
 use std::alloc::Global;
 use std::io::{Error, ErrorKind, Write};
+use std::process::Abort;
 use std::test::Fail;
 
 // A loop on one vertex, as the board of one square has it.
@@ -278,27 +279,24 @@ fn fails_after(alloc: Global, graph: &Graph, text: &[u8]) -> bool {
     }
 }
 
-// Whether each writer with less room than the text needs keeps what it had room for, and fails.
-fn fail_all(alloc: Global, graph: &Graph, text: &[u8]) -> bool {
+// Each writer with less room than the text needs keeps what it had room for, and fails.
+fn fail_all(rt: &impl Abort, alloc: Global, graph: &Graph, text: &[u8]) {
     for room in 0..text.len() {
-        if !fails_after(alloc, graph, &text[..room]) {
-            return false;
-        }
+        assert!(rt; fails_after(alloc, graph, &text[..room]), "room for {room}");
     }
-    true
 }
 
 #[test]
 fn failed_writes_of_a_board_are_told(rt: HostRuntime) -> Result<(), Fail> {
     let graph = board(rt.alloc())?;
-    assert!(rt; fail_all(rt.alloc(), &graph, BOARD.as_bytes()));
+    fail_all(&rt, rt.alloc(), &graph, BOARD.as_bytes());
     Ok(())
 }
 
 #[test]
 fn failed_writes_of_a_long_list_are_told(rt: HostRuntime) -> Result<(), Fail> {
     let graph = with_long_list(rt.alloc())?;
-    assert!(rt; fail_all(rt.alloc(), &graph, LONG.as_bytes()));
+    fail_all(&rt, rt.alloc(), &graph, LONG.as_bytes());
     Ok(())
 }
 

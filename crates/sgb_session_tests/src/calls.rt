@@ -3,6 +3,7 @@
 use sgb_shell::{Command, Delta, Line, Name, Reply, Session, ShellRefusal, parse};
 use sgb_undo::Reversible;
 use std::alloc::Global;
+use std::process::Abort;
 use std::test::Fail;
 
 // What a line asks for.
@@ -26,14 +27,24 @@ fn named(bytes: &[u8]) -> Result<Name, ShellRefusal> {
     Name::new(bytes).ok_or(ShellRefusal::ScriptSyntax)
 }
 
-// Two graphs, a and b; b has an arc and an edge.
+// Performs a line, whatever it answers.
+fn perform(alloc: Global, session: &mut Session, line: &[u8]) -> Result<(), ShellRefusal> {
+    let _answer = done(alloc, session, line)?;
+    Ok(())
+}
+
+// Two graphs, a and b; b has an arc and an edge. Whoever owns a session calls little that can fail.
 fn two_graphs(alloc: Global) -> Result<Session, ShellRefusal> {
     let mut session = Session::new(alloc);
-    let _made = done(alloc, &mut session, b"graph a 1")?;
-    let _made = done(alloc, &mut session, b"graph b 2")?;
-    let _made = done(alloc, &mut session, b"arc b 0 1 5")?;
-    let _made = done(alloc, &mut session, b"edge b 1 0 6")?;
+    make_two(alloc, &mut session)?;
     Ok(session)
+}
+
+fn make_two(alloc: Global, session: &mut Session) -> Result<(), ShellRefusal> {
+    perform(alloc, session, b"graph a 1")?;
+    perform(alloc, session, b"graph b 2")?;
+    perform(alloc, session, b"arc b 0 1 5")?;
+    perform(alloc, session, b"edge b 1 0 6")
 }
 
 // Whether the graph at this place has this name.
@@ -57,11 +68,15 @@ fn found(session: &Session, name: &[u8]) -> Result<Option<usize>, ShellRefusal> 
 #[test]
 fn graphs_are_counted_and_found(rt: HostRuntime) -> Result<(), Fail> {
     let session = two_graphs(rt.alloc())?;
+    expect_two(&rt, &session)
+}
+
+fn expect_two(rt: &impl Abort, session: &Session) -> Result<(), Fail> {
     assert!(rt; session.len() == 2);
-    assert!(rt; is_named(&session, 0, b"a"));
-    assert!(rt; counts_of(&session, 1) == Some((2, 3, 3)));
+    assert!(rt; is_named(session, 0, b"a"));
+    assert!(rt; counts_of(session, 1) == Some((2, 3, 3)));
     for (name, place) in [(b"a", Some(0)), (b"b", Some(1)), (b"A", None)] {
-        assert!(rt; found(&session, name)? == place);
+        assert!(rt; found(session, name)? == place);
     }
     assert!(rt; named(b"9").is_err());
     Ok(())
@@ -102,10 +117,14 @@ fn kind_of(
 #[test]
 fn each_kind_of_delta_is_left(rt: HostRuntime) -> Result<(), Fail> {
     let mut session = two_graphs(rt.alloc())?;
-    assert!(rt; kind_of(rt.alloc(), &mut session, b"seed 3")? == "seed");
-    assert!(rt; kind_of(rt.alloc(), &mut session, b"unif 1")? == "draw");
-    assert!(rt; kind_of(rt.alloc(), &mut session, b"graph c 3")? == "graph");
-    assert!(rt; kind_of(rt.alloc(), &mut session, b"drop b")? == "drop");
+    expect_kinds(&rt, rt.alloc(), &mut session)
+}
+
+fn expect_kinds(rt: &impl Abort, alloc: Global, session: &mut Session) -> Result<(), Fail> {
+    assert!(rt; kind_of(alloc, session, b"seed 3")? == "seed");
+    assert!(rt; kind_of(alloc, session, b"unif 1")? == "draw");
+    assert!(rt; kind_of(alloc, session, b"graph c 3")? == "graph");
+    assert!(rt; kind_of(alloc, session, b"drop b")? == "drop");
     Ok(())
 }
 
@@ -118,6 +137,10 @@ fn edits_b(alloc: Global, session: &mut Session, line: &str) -> Result<bool, She
 #[test]
 fn an_edit_tells_its_place(rt: HostRuntime) -> Result<(), Fail> {
     let mut session = two_graphs(rt.alloc())?;
+    expect_edits(&rt, rt.alloc(), &mut session)
+}
+
+fn expect_edits(rt: &impl Abort, alloc: Global, session: &mut Session) -> Result<(), Fail> {
     let edits: [&str; 8] = [
         "arc b 0 1 1",
         "edge b 0 1 1",
@@ -129,7 +152,7 @@ fn an_edit_tells_its_place(rt: HostRuntime) -> Result<(), Fail> {
         "id b \"y\"",
     ];
     for edit in edits {
-        assert!(rt; edits_b(rt.alloc(), &mut session, edit)?, "{edit}");
+        assert!(rt; edits_b(alloc, session, edit)?, "{edit}");
     }
     Ok(())
 }
@@ -145,8 +168,12 @@ fn arc_made(alloc: Global, session: &mut Session) -> Result<u32, ShellRefusal> {
 #[test]
 fn thousands_of_arcs_are_applied(rt: HostRuntime) -> Result<(), Fail> {
     let mut session = two_graphs(rt.alloc())?;
+    make_thousands(&rt, rt.alloc(), &mut session)
+}
+
+fn make_thousands(rt: &impl Abort, alloc: Global, session: &mut Session) -> Result<(), Fail> {
     for number in 3..10_000u32 {
-        assert!(rt; arc_made(rt.alloc(), &mut session)? == number);
+        assert!(rt; arc_made(alloc, session)? == number);
     }
     Ok(())
 }

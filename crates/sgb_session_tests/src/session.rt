@@ -2,6 +2,7 @@
 
 use sgb_shell::{Command, Delta, Mark, Reply, RunFault, Session, ShellRefusal, exit_status};
 use sgb_undo::Reversible;
+use std::process::Abort;
 use std::test::Fail;
 
 // The number that is drawn, where the delta counts one draw.
@@ -33,11 +34,15 @@ fn seed_and_back(
 #[test]
 fn a_seed_is_taken_back(rt: HostRuntime) -> Result<(), Fail> {
     let mut session = Session::new(rt.alloc());
+    draw_and_seed(&rt, &mut session)
+}
+
+fn draw_and_seed(rt: &impl Abort, session: &mut Session) -> Result<(), Fail> {
     assert!(rt; session.generator() == (0, 0, 54));
-    assert!(rt; drawn(&mut session) == Some(2_029_883_356));
+    assert!(rt; drawn(session) == Some(2_029_883_356));
     let mut mark = Mark::new(0);
     assert!(rt; number(&mut mark) == Some(2_029_883_356));
-    let between = seed_and_back(&mut session, -1, &mark)?;
+    let between = seed_and_back(session, -1, &mark)?;
     assert!(rt; between == Some((2_147_483_647, 0, 54)));
     assert!(rt; session.generator() == (0, 1, 53));
     Ok(())
