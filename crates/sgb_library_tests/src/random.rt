@@ -18,11 +18,21 @@ pub fn drawn(alloc: Global, seed: i64) -> Result<Graph, Refusal> {
     Ok(graph)
 }
 
+/// How many arcs the graph of a seed has: two for each edge.
+fn arcs_of(alloc: Global, seed: i64) -> Result<u32, Refusal> {
+    Ok(drawn(alloc, seed)?.m())
+}
+
+/// Whether two seeds have the same graph.
+fn have_one_graph(alloc: Global, first: i64, second: i64) -> Result<bool, Refusal> {
+    let graph = drawn(alloc, first)?;
+    Ok(drawn(alloc, second)? == graph)
+}
+
 #[test]
 fn a_seed_has_one_graph(rt: HostRuntime) -> Result<(), Fail> {
-    let graph = drawn(rt.alloc(), 5)?;
-    assert!(rt; graph.m() == 600);
-    assert!(rt; drawn(rt.alloc(), 5)? == graph);
-    assert!(rt; drawn(rt.alloc(), 6)? != graph);
+    assert!(rt; arcs_of(rt.alloc(), 5)? == 600);
+    assert!(rt; have_one_graph(rt.alloc(), 5, 5)?);
+    assert!(rt; !have_one_graph(rt.alloc(), 5, 6)?);
     Ok(())
 }

@@ -17,20 +17,17 @@ fn refusal(min: i64, max: i64) -> Option<Refusal> {
 // 2029883356 is the first number.
 #[test]
 fn drawn(rt: HostRuntime) {
-    assert_eq!(rt; first_length(1, 6), Some((5, 1)));
-    assert_eq!(rt; first_length(-3, -2), Some((-3, 1)));
-    assert_eq!(rt;
-        first_length(i64::MIN, i64::MIN + 0x7fff_ffff),
-        Some((i64::MIN + 2029883356, 1))
-    );
-    assert_eq!(rt; first_length(5, 5), Some((5, 0)));
+    assert!(rt; first_length(1, 6) == Some((5, 1)));
+    assert!(rt; first_length(-3, -2) == Some((-3, 1)));
+    assert!(rt; first_length(i64::MIN, i64::MIN + 0x7fff_ffff) == Some((i64::MIN + 2029883356, 1)));
+    assert!(rt; first_length(5, 5) == Some((5, 0)));
 }
 
 #[test]
 fn refused(rt: HostRuntime) {
-    assert_eq!(rt; refusal(5, 4), Some(Refusal::TooLarge));
-    assert_eq!(rt; refusal(i64::MAX, i64::MIN), Some(Refusal::TooLarge));
-    assert_eq!(rt; refusal(0, 2147483648), Some(Refusal::LengthRange));
-    assert_eq!(rt; refusal(i64::MIN, i64::MAX), Some(Refusal::LengthRange));
-    assert_eq!(rt; refusal(0, 2147483647), None);
+    assert!(rt; refusal(5, 4) == Some(Refusal::TooLarge));
+    assert!(rt; refusal(i64::MAX, i64::MIN) == Some(Refusal::TooLarge));
+    assert!(rt; refusal(0, 2147483648) == Some(Refusal::LengthRange));
+    assert!(rt; refusal(i64::MIN, i64::MAX) == Some(Refusal::LengthRange));
+    assert!(rt; refusal(0, 2147483647).is_none());
 }

@@ -31,17 +31,17 @@ fn length(alloc: Global, numbers: &[i64], more: u32) -> Result<usize, Refusal> {
 #[test]
 fn longest(rt: HostRuntime) -> Result<(), Fail> {
     let alloc = rt.alloc();
-    assert_eq!(rt; length(alloc, &[1, -16], 0), Ok(16));
-    assert_eq!(rt; length(alloc, &[1, -16], 1), Err(Refusal::BadSpecs));
-    assert_eq!(rt; length(alloc, &[1, i64::MIN], 1), Err(Refusal::BadSpecs));
+    assert!(rt; length(alloc, &[1, -16], 0) == Ok(16));
+    assert!(rt; length(alloc, &[1, -16], 1) == Err(Refusal::BadSpecs));
+    assert!(rt; length(alloc, &[1, i64::MIN], 1) == Err(Refusal::BadSpecs));
     Ok(())
 }
 
 #[test]
 fn shown(rt: HostRuntime) -> Result<(), Fail> {
     let numbers = [3, 4, -5, 9];
-    assert_eq!(rt; shown_at(&numbers, 1), 4);
-    assert_eq!(rt; shown_at(&numbers, 2), -5);
-    assert_eq!(rt; shown_at(&numbers, 3), 0);
+    assert!(rt; shown_at(&numbers, 1) == 4);
+    assert!(rt; shown_at(&numbers, 2) == -5);
+    assert!(rt; shown_at(&numbers, 3) == 0);
     Ok(())
 }

@@ -28,6 +28,6 @@ fn two_in_one_buffer(rt: HostRuntime) -> Result<(), Fail> {
     let mut names = Vec::new(rt.alloc());
     append_dotted(&mut names, &[0, 10])?;
     append_dotted(&mut names, &[7, 8, 9])?;
-    assert_eq!(rt; names.as_slice(), b"0.107.8.9".as_slice());
+    assert!(rt; names.as_slice() == b"0.107.8.9".as_slice());
     Ok(())
 }

@@ -12,19 +12,16 @@ fn three_in_a_row(rt: HostRuntime) -> Result<(), Fail> {
 }
 
 fn look_at_three(rt: &impl Abort, graph: &Graph) {
-    assert_eq!(rt; graph.id(), b"path(3)".as_slice());
-    assert_eq!(rt; graph.n(), 3);
-    assert_eq!(rt; graph.m(), 2);
+    assert!(rt; graph.id() == b"path(3)".as_slice());
+    assert!(rt; graph.n() == 3);
+    assert!(rt; graph.m() == 2);
 }
 
 #[test]
 fn refused(rt: HostRuntime) -> Result<(), Fail> {
-    assert_eq!(rt; path(rt.alloc(), 0, false).err(), Some(Refusal::BadSpecs));
-    assert_eq!(rt;
-        path(rt.alloc(), 65_536, true).err(),
-        Some(Refusal::TooLarge)
-    );
+    assert!(rt; path(rt.alloc(), 0, false).err() == Some(Refusal::BadSpecs));
+    assert!(rt; path(rt.alloc(), 65_536, true).err() == Some(Refusal::TooLarge));
     let longest = path(rt.alloc(), 65_535, false)?;
-    assert_eq!(rt; longest.made(), 131_068);
+    assert!(rt; longest.made() == 131_068);
     Ok(())
 }
