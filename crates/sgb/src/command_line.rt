@@ -48,16 +48,17 @@ pub enum Task<'a> {
 
 /// Reads the command line. Help and the version are printed at once.
 pub fn read_task<'a>(rt: &HostRuntime, words: &'a [String]) -> Result<Task<'a>, Complaint<'a>> {
-    let matches = match command(rt.alloc())?.try_get_matches_from(words) {
-        Ok(matches) => matches,
-        Err(error) if error.use_stderr() => return Err(Complaint::from(error)),
-        Err(error) => {
-            return match error.print(rt) {
-                Ok(()) => Ok(Task::Explained),
-                Err(_) => Err(Complaint::Fault(RunFault::Write)),
-            };
-        }
-    };
+    match command(rt.alloc())?.try_get_matches_from(words) {
+        Ok(matches) => task_of(rt.alloc(), &matches),
+        Err(error) if error.use_stderr() => Err(Complaint::from(error)),
+        Err(error) => match error.print(rt) {
+            Ok(()) => Ok(Task::Explained),
+            Err(_) => Err(Complaint::Fault(RunFault::Write)),
+        },
+    }
+}
+
+fn task_of<'a>(alloc: Global, matches: &ArgMatches<'a>) -> Result<Task<'a>, Complaint<'a>> {
     if let Some(run) = matches.subcommand_matches("run") {
         return Ok(Task::Run(run.get_str("FILE")));
     }
@@ -68,7 +69,7 @@ pub fn read_task<'a>(rt: &HostRuntime, words: &'a [String]) -> Result<Task<'a>, 
         return task_of_export(export);
     }
     if let Some(make) = matches.subcommand_matches("make") {
-        return task_of_make(rt.alloc(), make);
+        return task_of_make(alloc, make);
     }
     match matches.subcommand_matches("queen") {
         Some(_) => Ok(Task::Queen),
@@ -135,11 +136,10 @@ fn command<'a>(alloc: Global) -> Result<Command<'a>, AllocError> {
 }
 
 fn run_command<'a>(alloc: Global) -> Result<Command<'a>, AllocError> {
-    let file = Arg::new(alloc, "FILE").help("the script; without it, standard input");
     Command::new(alloc, "run")
         .about("Runs a script and writes its transcript")
         .after_help(MORE_HELP)
-        .arg(file)
+        .arg(Arg::new(alloc, "FILE").help("the script; without it, standard input"))
 }
 
 fn queen_command<'a>(alloc: Global) -> Command<'a> {
@@ -149,14 +149,15 @@ fn queen_command<'a>(alloc: Global) -> Command<'a> {
 }
 
 fn check_command<'a>(alloc: Global) -> Result<Command<'a>, AllocError> {
-    let file = Arg::new(alloc, "FILE")
-        .required(true)
-        .help("the saved graph");
     Command::new(alloc, "check")
         .about("Tells the id and the counts of a saved graph, or why it is refused")
         .after_help(MORE_HELP)
         .arg(any_flag(alloc))?
-        .arg(file)
+        .arg(
+            Arg::new(alloc, "FILE")
+                .required(true)
+                .help("the saved graph"),
+        )
 }
 
 fn any_flag<'a>(alloc: Global) -> Arg<'a> {
@@ -167,38 +168,49 @@ fn any_flag<'a>(alloc: Global) -> Arg<'a> {
 }
 
 fn export_command<'a>(alloc: Global) -> Result<Command<'a>, AllocError> {
-    let format = Arg::new(alloc, "as")
+    Command::new(alloc, "export")
+        .about("Writes a saved graph in the form of another tool")
+        .after_help(MORE_HELP)
+        .arg(format_option(alloc))?
+        .arg(any_flag(alloc))?
+        .arg(names_flag(alloc))?
+        .arg(Arg::new(alloc, "FILE").help("the saved graph; without it, standard input"))
+}
+
+fn format_option<'a>(alloc: Global) -> Arg<'a> {
+    Arg::new(alloc, "as")
         .long("as")
         .value_name("FORMAT")
         .required(true)
         .value_parser(FORMATS.as_slice())
-        .help("the form that is written");
-    let names = Arg::new(alloc, "names")
+        .help("the form that is written")
+}
+
+fn names_flag<'a>(alloc: Global) -> Arg<'a> {
+    Arg::new(alloc, "names")
         .long("names")
         .action(ArgAction::SetTrue)
-        .help("in a list of edges, names in place of numbers");
-    let file = Arg::new(alloc, "FILE").help("the saved graph; without it, standard input");
-    Command::new(alloc, "export")
-        .about("Writes a saved graph in the form of another tool")
-        .after_help(MORE_HELP)
-        .arg(format)?
-        .arg(any_flag(alloc))?
-        .arg(names)?
-        .arg(file)
+        .help("in a list of edges, names in place of numbers")
 }
 
 fn make_command<'a>(alloc: Global) -> Result<Command<'a>, AllocError> {
-    let command = Arg::new(alloc, "COMMAND")
-        .required(true)
-        .value_parser(MAKERS.as_slice())
-        .help("how the graph is made");
-    let words = Arg::new(alloc, "WORD")
-        .num_args(0..)
-        .allow_negative_numbers(true)
-        .help("the words that stand behind the name in a script");
     Command::new(alloc, "make")
         .about("Writes a graph without arcs, a standard graph or a random one as a saved graph")
         .after_help(MORE_HELP)
-        .arg(command)?
-        .arg(words)
+        .arg(maker(alloc))?
+        .arg(maker_words(alloc))
+}
+
+fn maker<'a>(alloc: Global) -> Arg<'a> {
+    Arg::new(alloc, "COMMAND")
+        .required(true)
+        .value_parser(MAKERS.as_slice())
+        .help("how the graph is made")
+}
+
+fn maker_words<'a>(alloc: Global) -> Arg<'a> {
+    Arg::new(alloc, "WORD")
+        .num_args(0..)
+        .allow_negative_numbers(true)
+        .help("the words that stand behind the name in a script")
 }
