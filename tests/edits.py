@@ -12,7 +12,7 @@ edits of those crates alone, with files those edits, also of must-fail/, and wit
 
 With --as-proved it reads names of crates, one a line, as another run proves them and leaves their libraries, and tries
 the edits of each from then on; those of a crate that was not named in the end fail. There the first check, with few
-edits, begins from nothing, and what it proves is kept for the others.
+edits, begins from nothing: it proves what edits turn and what that calls, and that is kept for the others.
 """
 import importlib.machinery
 import importlib.util
@@ -62,6 +62,10 @@ class Function:
     def __init__(self, module, owner, name, lines):
         self.module, self.owner, self.name, self.lines = module, owner, name, lines
         self.key = ('/'.join(module), owner, name)
+
+    def path(self):
+        """By what a check finds the function: by the end of its name where it is a method, which stands where its type does."""
+        return '::'.join([''.join(self.owner), self.name] if self.owner else [*self.module, self.name])
 
     def is_at(self, path):
         """Whether this is the function, or one of its closures, that the check calls by this path."""
@@ -311,6 +315,12 @@ def only(crate, edits):
     return [word for found in names for it in found for word in ('--only', it)] if all(names) else []
 
 
+def only_edited(groups):
+    """The flags with which the first check of a crate passes over what no edit turns nor that calls, as its derived impls."""
+    return [word for path in sorted({it.path() for edits in groups for edit in edits for it in edit.functions})
+            for word in ('--only', path)]
+
+
 def check(crate, edits, flags=(), is_first=False):
     """What the check says of the crate with these edits, and those that are not in it. The first one leaves what it proves."""
     with tempfile.TemporaryDirectory(prefix='sgb-edits-') as room:
@@ -339,13 +349,16 @@ def try_alone(edit):
     return bool(well), why
 
 
-def try_group(edits, is_first=False):
+def try_group(edits, is_first=False, flags=()):
     """Tries the edits of a group, and returns what came of each, with the number of checks."""
     crate = edits[0].crate
-    flags = only(crate, edits)
+    flags = flags or only(crate, edits)
     if len(edits) == 1 and not is_first and not flags:
         return {edits[0]: try_alone(edits[0])}, 1
     said, left = check(crate, edits, flags, is_first)
+    if is_first and not TOLD[crate.name]:
+        # (a name fits several functions, say: then all are checked)
+        said, left = check(crate, edits, (), is_first)
     found, checks = {}, 1
     if said.unread:
         broken = [it for it in edits if any(said.unread.startswith((at + ':', './%s:' % at)) for at in it.places)]
@@ -440,7 +453,8 @@ class Tally:
         tried, groups = [], groups_of(good)
         if self.proved and groups:
             os.makedirs(kept(crate), exist_ok=True)
-            tried.append(self.pool.submit(timed, try_group, groups.pop(0), True))
+            flags = only_edited(groups)
+            tried.append(self.pool.submit(timed, try_group, groups.pop(0), True, flags))
             tried[0].result()
         tried += [self.pool.submit(timed, try_group, it) for it in reversed(groups)]
         checks, spent, refused = 0, 0, 0
