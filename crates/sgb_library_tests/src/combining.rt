@@ -29,15 +29,15 @@ fn all(alloc: Global, graph: &Graph) -> Result<Graph, Refusal> {
     both(alloc, graph, &rest)
 }
 
-/// The counts of a graph, where it was made.
-fn counts_of(made: Result<Graph, Refusal>) -> Option<(u32, u32)> {
-    made.ok().map(|graph| counts(&graph))
+/// The counts of a graph that was made, or why it was not.
+fn counts_of(made: Result<Graph, Refusal>) -> Result<(u32, u32), Refusal> {
+    Ok(counts(&made?))
 }
 
 #[test]
 fn a_graph_and_its_complement_join_all(rt: HostRuntime) -> Result<(), Fail> {
     let graph = petersen(rt.alloc())?;
-    assert!(rt; counts_of(others(rt.alloc(), &graph)) == Some((10, 60)));
-    assert!(rt; counts_of(all(rt.alloc(), &graph)) == Some((10, 90)));
+    assert!(rt; counts_of(others(rt.alloc(), &graph))? == (10, 60));
+    assert!(rt; counts_of(all(rt.alloc(), &graph))? == (10, 90));
     Ok(())
 }
