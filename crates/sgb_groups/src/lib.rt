@@ -1,6 +1,7 @@
 //! The session with groups: several commands count as one, and are undone as one.
 #![tactic(auto)]
 
+mod brief;
 mod grouped;
 mod kept;
 mod session;

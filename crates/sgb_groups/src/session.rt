@@ -1,5 +1,5 @@
 //! The session whose commands may be groups.
-ghost use Rattle.std.specs.Prelude.{◌≡◌, ◌<◌, ◌⊎◌, true, IfOk, IfErr, OnOk, OnErr, vec_len, vec_capacity};
+ghost use Rattle.std.specs.Prelude.{◌≡◌, ◌<◌, ◌⊎◌, length, true, IfOk, IfErr, OnOk, OnErr};
 ghost use Rattle.sgb_undo.specs.Outcome.{Accepted, Refused, Keeps};
 ghost use Rattle.sgb_groups.specs.Grouped.{step, before, can_revert, may_want};
 ghost use Rattle.sgb_groups.specs.Private.Kept.{grouped_of, is_single, PerformsOne, PerformsAlone};
@@ -12,8 +12,9 @@ ghost use Rattle.sgb_script.specs.declared.command.Maker.TheVariants as makers;
 
 use crate::grouped::{GroupedDelta, GroupedReply};
 use crate::kept::{Kept, KeptCommand};
-use sgb_script::{Command, Maker, Name, ShellRefusal, ShortCommand};
-use sgb_session::{Delta, Reply, Session};
+use sgb_rows::Rows;
+use sgb_script::{BriefCommand, Command, Maker, Name, ShellRefusal, ShortCommand};
+use sgb_session::{BriefDelta, BriefReply, Delta, Reply, Session};
 use sgb_undo::{GroupRefusal, Reversible, apply_all, revert_all};
 use std::alloc::{AllocError, Global};
 use std::marker::Model;
@@ -65,7 +66,7 @@ impl GroupedSession {
 }
 
 impl Reversible for GroupedSession {
-    ghost use Rattle.sgb_groups.specs.Grouped.{step, before, can_revert, may_want};
+    ghost use Rattle.sgb_groups.specs.Grouped.{step, before, can_revert, may_want, reply_in};
     ghost use Rattle.sgb_script.specs.Refusal.{is_no_room};
 
     type Command = KeptCommand;
@@ -74,6 +75,8 @@ impl Reversible for GroupedSession {
 
     type Reply = GroupedReply;
 
+    type BriefReply = BriefReply;
+
     type Refusal = ShellRefusal;
 
     ghost step = { step };
@@ -81,6 +84,8 @@ impl Reversible for GroupedSession {
     ghost before = { before };
 
     ghost can_revert = { can_revert };
+
+    ghost reply_in = { reply_in };
 
     ghost is_want_of_memory = { is_no_room };
 
@@ -121,7 +126,7 @@ impl Reversible for GroupedSession {
     fn apply_onto(
         &mut self,
         command: &KeptCommand,
-        deltas: &mut Vec<GroupedDelta>,
+        deltas: &mut Rows<GroupedDelta>,
         reply: &mut Option<GroupedReply>,
     ) -> Result<(), ShellRefusal> {
         if !command.is_single() {
@@ -133,8 +138,24 @@ impl Reversible for GroupedSession {
         };
         let mut delta = Delta::Made;
         perform_alone(&mut self.session, &command.kept, &mut delta, given)?;
-        deltas.push_reserved(GroupedDelta::One(delta));
+        deltas.push_apart(GroupedDelta::One(delta));
         Ok(())
+    }
+
+    /// Performs a command that takes little room, where what undoes it does too.
+    #[inline(always)]
+    fn apply_row(
+        &mut self,
+        command: BriefCommand,
+        deltas: &mut Rows<GroupedDelta>,
+        reply: &mut BriefReply,
+    ) -> Result<bool, ShellRefusal> {
+        let Some(performed) = self.session.perform_brief(command, reply) else {
+            return Ok(false);
+        };
+        let delta = performed?;
+        deltas.push_row(delta);
+        Ok(true)
     }
 
     /// Takes back a command, or each member of a group, the last first. It takes no memory.
@@ -144,6 +165,12 @@ impl Reversible for GroupedSession {
             GroupedDelta::One(one) => self.session.revert(one),
             GroupedDelta::Group(members) => revert_all(&mut self.session, members),
         }
+    }
+
+    /// Takes back a command that takes little room. It takes no memory.
+    #[inline(always)]
+    fn revert_row(&mut self, delta: BriefDelta) {
+        self.session.revert_brief(delta);
     }
 
     /// Takes the room that the session takes.
@@ -244,20 +271,20 @@ fn perform_large(
 fn apply_group(
     session: &mut GroupedSession,
     command: &KeptCommand,
-    deltas: &mut Vec<GroupedDelta>,
+    deltas: &mut Rows<GroupedDelta>,
     reply: &mut Option<GroupedReply>,
 ) -> Result<(), ShellRefusal>
-    requires place { vec_len deltas.old < vec_capacity deltas.old }
+    requires place { length deltas.old.items < deltas.old.places }
     ensures accepted { OnOk result
         (Keeps step before can_revert session.old command.now session.new reply.new deltas.old.items deltas.new.items) }
     ensures refused { IfErr result (λ r.
         ((is_no_room r ≡ true) × (may_want session.old command.now ≡ true)) ⊎ (step session.old command.now ≡ Refused r)) }
     ensures err { OnErr result (session.new ≡ session.old) }
     ensures same { OnErr result (deltas.new.items ≡ deltas.old.items) }
-    ensures capacity { vec_capacity deltas.new ≡ vec_capacity deltas.old }
+    ensures places { deltas.new.places ≡ deltas.old.places }
 {
     let (delta, given) = session.apply(command)?;
-    deltas.push_reserved(delta);
+    deltas.push_apart(delta);
     *reply = Some(given);
     Ok(())
 }

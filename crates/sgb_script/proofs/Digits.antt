@@ -64,7 +64,7 @@ number_read (c ∷ cs) r h plus = elim (cases_Bool (c == 45)) [
 ascii_digits : (ds : List ℕ) → all_ascii_digits ds ≡ true → IsAscii ds
 ascii_digits ds h = IsAscii-from_digits ds (own.to ds h)
 
-natural_none : (ds : List ℕ) → all_ascii_digits ds ≡ false → natural_of ds ≡ None
+pub natural_none : (ds : List ℕ) → all_ascii_digits ds ≡ false → natural_of ds ≡ None
 unfolding natural_of
 natural_none ds h = rw (and_right (not (length ds == 0)) (all_ascii_digits ds) h) refl
 

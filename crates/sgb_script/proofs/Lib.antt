@@ -1,5 +1,7 @@
 mod Asking
 mod Blocks
+mod Briefly
+mod Coded
 mod Digits
 mod Names
 mod Numbered

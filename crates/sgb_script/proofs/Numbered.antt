@@ -36,7 +36,7 @@ all_three f (Some m) None z = refl
 all_three f (Some m) (Some n) None = refl
 all_three f (Some m) (Some n) (Some k) = refl
 
-two_ends : {R : Type 0} (f : VertexNo → VertexNo → ℤ → R) (ws : List Word) → three the_vertex the_vertex the_number f ws ≡ numbers_of (three the_number the_number the_number (λ m n k. (m, n, k)) ws) f
+pub two_ends : {R : Type 0} (f : VertexNo → VertexNo → ℤ → R) (ws : List Word) → three the_vertex the_vertex the_number f ws ≡ numbers_of (three the_number the_number the_number (λ m n k. (m, n, k)) ws) f
 two_ends f [] = refl
 two_ends f (a ∷ []) = one_short f (the_number a)
 two_ends f (a ∷ b ∷ []) = two_short f (the_number a) (the_number b)

@@ -4,5 +4,6 @@ pub mod Numbers
 pub mod Arguments
 pub mod Makers
 pub mod Line
+pub mod Brief
 pub mod Refusal
 pub mod Private

@@ -33,7 +33,7 @@ pub const LINE_LIMIT: usize = 8192;
 
 /// The first word of a line.
 #[derive(Clone, Copy)]
-enum Keyword {
+pub(crate) enum Keyword {
     Seed,
     Next,
     Unif,
@@ -59,13 +59,13 @@ enum Keyword {
     End,
 }
 
-// How a line begins.
-enum Front<'a> {
-    // It is blank, or a comment.
+/// How a line begins.
+pub(crate) enum Front<'a> {
+    /// It is blank, or a comment.
     Nothing,
-    // A keyword, and what follows it.
+    /// A keyword, and what follows it.
     Asks(Keyword, &'a [u8]),
-    // No line of the language begins so.
+    /// No line of the language begins so.
     Other,
 }
 
@@ -203,9 +203,9 @@ fn read_short(
     }
 }
 
-// The keyword and what follows it, where the line has one.
+/// The keyword and what follows it, where the line has one.
 #[tactic(auto, unfolding(crate::specs::Line::line_of))]
-fn front_of(line: &[u8]) -> Front<'_>
+pub(crate) fn front_of(line: &[u8]) -> Front<'_>
     ensures { Begins (line_of line.now) result }
 {
     if line.len() > LINE_LIMIT || !is_printable(line) {

@@ -2,6 +2,7 @@
 ghost use Rattle.std.specs.Prelude.{◌≡◌, IfSome, IfNone, IsTrue, slice_index};
 ghost use Rattle.std.specs.List.{list_all};
 ghost use Rattle.sgb_script.specs.Name.{is_name, is_letter, is_name_byte};
+ghost use Rattle.sgb_script.specs.Private.Coding.{encoded};
 
 use std::marker::Model;
 
@@ -87,10 +88,20 @@ impl Name {
     {
         &self.bytes[..self.len as usize]
     }
+
+    /// The first eight bytes, and zeros behind fewer of them, as a [`ShortName`](crate::ShortName) holds them.
+    #[inline(always)]
+    pub(crate) fn code(&self) -> u64
+        ensures value { result ≡ encoded self.now }
+        ensures name { IsTrue (is_name self.now) }
+    {
+        let b = &self.bytes;
+        u64::from_le_bytes([b[0], b[1], b[2], b[3], b[4], b[5], b[6], b[7]])
+    }
 }
 
 #[inline]
-fn is_name(bytes: &[u8]) -> bool
+pub(crate) fn is_name(bytes: &[u8]) -> bool
     ensures { result ≡ is_name bytes.now }
 {
     if bytes.len() > NAME_LIMIT {

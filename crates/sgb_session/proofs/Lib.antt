@@ -3,3 +3,4 @@ mod Tables
 mod Sessions
 mod Makings
 mod Lengthenings
+mod ShortEdits

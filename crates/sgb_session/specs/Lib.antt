@@ -4,4 +4,5 @@ pub mod Make
 pub mod Source
 pub mod State
 pub mod Table
+pub mod Brief
 pub mod Private

@@ -3,3 +3,4 @@ pub mod Slots
 pub mod Past
 pub mod Working
 pub mod Making
+pub mod Briefly

@@ -2,6 +2,9 @@
 #![tactic(auto)]
 
 mod boxed;
+mod brief;
+mod brief_edit;
+mod briefly;
 mod edit;
 mod making;
 mod mark;
@@ -11,6 +14,7 @@ mod session;
 mod table;
 
 pub use boxed::Boxed;
+pub use brief::{BriefDelta, BriefReply};
 pub use mark::Mark;
 pub use past::Past;
 pub use reply::{Delta, Reply, Source};

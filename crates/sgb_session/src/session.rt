@@ -8,6 +8,7 @@ ghost use Rattle.sgb_session.specs.Edits.{refusal_from};
 ghost use Rattle.sgb_session.specs.Private.Making.{Judges};
 ghost use Rattle.sgb_session.specs.State.{is_large, is_spent, Performs, told};
 
+use crate::brief::BriefReply;
 use crate::making::{find_operands, goes_on, make_boxed};
 use crate::mark::Mark;
 use crate::past::{Past, keep, take_back};
@@ -31,10 +32,10 @@ pub const MOST_UNIFORM: i64 = 1 << 31;
 #[derive(Drop)]
 pub struct Session {
     alloc: Global,
-    generator: Mark,
+    pub(crate) generator: Mark,
     // Generators that seedings replaced, as far as there was room for them. They make the undoing of a seeding quick.
     marks: Vec<Mark>,
-    table: Table,
+    pub(crate) table: Table,
 }
 
 impl Model for Session {
@@ -352,7 +353,7 @@ fn is_spent(generator: &Mark, seed: Seed) -> bool
     }
 }
 
-fn refusal_of(refusal: Refusal) -> ShellRefusal
+pub(crate) fn refusal_of(refusal: Refusal) -> ShellRefusal
     ensures { result ≡ refusal_from refusal }
 {
     match refusal {
@@ -369,6 +370,7 @@ fn refusal_of(refusal: Refusal) -> ShellRefusal
 
 impl Reversible for Session {
     ghost use Rattle.sgb_session.specs.State.{step, before, can_revert, takes_memory, may_want};
+    ghost use Rattle.sgb_session.specs.Brief.{reply_in};
     ghost use Rattle.sgb_script.specs.Refusal.{is_no_room};
 
     type Command = Command;
@@ -377,6 +379,8 @@ impl Reversible for Session {
 
     type Reply = Reply;
 
+    type BriefReply = BriefReply;
+
     type Refusal = ShellRefusal;
 
     ghost step = { step };
@@ -384,6 +388,8 @@ impl Reversible for Session {
     ghost before = { before };
 
     ghost can_revert = { can_revert };
+
+    ghost reply_in = { reply_in };
 
     ghost is_want_of_memory = { is_no_room };
 

@@ -1,5 +1,5 @@
 //! The named graphs of a session.
-ghost use Rattle.std.specs.Prelude.{◌≡◌, ◌<◌, ◌≤◌, ◌^◌, ◌-◌, ◌++◌, ◌∷◌, [], length, take, insert, remove, IsSome, IfSome};
+ghost use Rattle.std.specs.Prelude.{◌≡◌, ◌<◌, ◌≤◌, ◌^◌, ◌-◌, ◌++◌, ◌∷◌, [], length, take, insert, remove, IsSome, IfSome, true};
 ghost use Rattle.std.specs.List.{position};
 ghost use Rattle.std.specs.Str.{bytes_eq};
 ghost use Rattle.sgb_graph.specs.Graph.{GraphOf};
@@ -8,12 +8,15 @@ ghost use Rattle.sgb_graph.specs.Reverted.{reverted};
 ghost use Rattle.sgb_lengths.specs.Lengths.{CanRevertLengths, before_lengths};
 ghost use Rattle.sgb_session.specs.Drawing.{drawn_from};
 ghost use Rattle.sgb_session.specs.Private.Making.{AtPlace, InSlot, Edits};
+ghost use Rattle.sgb_session.specs.Private.Briefly.{EditsBriefly, leaves_plainly};
 ghost use Rattle.sgb_session.specs.State.{told};
 ghost use Rattle.sgb_session.specs.Private.Slots.{held, slot_in, slot_with_graph};
 ghost use Rattle.sgb_session.specs.Private.Working.{Lengthens};
 ghost use Rattle.sgb_session.specs.Table.{find, entry_in, graph_in, with_graph};
 
 use crate::boxed::Boxed;
+use crate::brief::{BriefDelta, BriefEdit, BriefReply};
+use crate::brief_edit::make_brief_edit;
 use crate::edit::make_edit;
 use crate::mark::Mark;
 use crate::reply::{Reply, Source};
@@ -21,7 +24,7 @@ use arrayvec::ArrayVec;
 use sgb_combine::{LengthsDelta, LengthsSpec, revert_lengths};
 use sgb_graph::{Graph, GraphDelta, Refusal};
 use sgb_make::Seed;
-use sgb_script::{Edit, Name};
+use sgb_script::{Edit, Name, ShortName};
 use std::alloc::Global;
 use std::marker::Model;
 
@@ -99,6 +102,15 @@ impl Table {
         find_slot(self.entries.as_slice(), name.bytes())
     }
 
+    /// Where the graph of this short name stands.
+    #[inline(always)]
+    pub(crate) fn find_short(&self, name: ShortName) -> Option<usize>
+        ensures value { result ≡ find self.now name }
+        ensures few { IfSome result (λ i. i < 64) }
+    {
+        find_short_slot(self.entries.as_slice(), name)
+    }
+
     /// Puts a graph last.
     pub(crate) fn push(&mut self, name: Name, graph: Boxed<Graph>)
         requires { length self.old < 64 }
@@ -162,6 +174,22 @@ impl Table {
         )
     }
 
+    /// Makes an edit that takes little room of the graph at a place.
+    #[inline(always)]
+    pub(crate) fn edit_briefly(
+        &mut self,
+        place: usize,
+        edit: BriefEdit,
+        reply: &mut BriefReply,
+    ) -> Result<BriefDelta, Refusal>
+        requires place { place < length self.old }
+        requires few { place < 64 }
+        requires plain { leaves_plainly (graph_in self.old place) edit ≡ true }
+        ensures { AtPlace (EditsBriefly edit place reply.new result) self.old self.new place }
+    {
+        edit_slot_briefly(self.entries.as_mut_slice(), place, edit, reply)
+    }
+
     /// Takes an edit of the graph at a place back.
     #[inline(always)]
     pub(crate) fn revert(&mut self, place: usize, delta: GraphDelta)
@@ -218,6 +246,42 @@ fn has_name(slot: &Option<Entry>, name: &[u8]) -> bool
     match slot {
         Some(entry) => entry.name.bytes() == name,
         None => name.is_empty(),
+    }
+}
+
+#[inline(always)]
+fn find_short_slot(slots: &[Option<Entry>], name: ShortName) -> Option<usize>
+    ensures { result ≡ position (λ o. bytes_eq (held o).name name) slots.now }
+{
+    slots.iter().position(|slot| has_short_name(slot, name))
+}
+
+#[inline(always)]
+fn has_short_name(slot: &Option<Entry>, name: ShortName) -> bool
+    ensures { result ≡ bytes_eq (held slot.now).name name }
+{
+    match slot {
+        Some(entry) => name.is(&entry.name),
+        None => name.name().bytes().is_empty(),
+    }
+}
+
+#[inline(always)]
+fn edit_slot_briefly(
+    slots: &mut [Option<Entry>],
+    place: usize,
+    edit: BriefEdit,
+    reply: &mut BriefReply,
+) -> Result<BriefDelta, Refusal>
+    requires place { place < length slots.old }
+    requires few { place < 64 }
+    requires some { IsSome (slot_in slots.old place) }
+    requires plain { leaves_plainly (held (slot_in slots.old place)).graph edit ≡ true }
+    ensures { InSlot (EditsBriefly edit place reply.new result) slots.old slots.new place }
+{
+    match &mut slots[place] {
+        Some(entry) => make_brief_edit(&mut entry.graph.inner, place as u8, edit, reply),
+        None => unreachable!(),
     }
 }
 

@@ -4,6 +4,7 @@ ghost use Rattle.std.specs.Prelude.{◌≡◌, ◌+◌, ◌-◌, ◌<◌, ◌^�
 ghost use Rattle.std.specs.Fmt.{decimal};
 ghost use Rattle.std.specs.List.{flat_map};
 ghost use Rattle.sgb_shell.specs.Answer.{answer_text, reply_text, grouped_text, grouped_count_text, generator_text, refusal_text, count_text, list_text, entry_text, shown_text};
+ghost use Rattle.sgb_session.specs.Brief.{reply_in};
 ghost use Rattle.sgb_session.specs.Table.{entry_in};
 ghost use Rattle.sgb_shell.specs.Transcript.{refusals};
 
@@ -12,7 +13,7 @@ use sgb_graph::ArcNo;
 use sgb_groups::GroupedReply;
 use sgb_print::{Failed, MeteredWriter, PAGE_LIMIT, Page, print_graph, print_made, put, put_all};
 use sgb_script::ShellRefusal;
-use sgb_session::{Reply, Session};
+use sgb_session::{BriefReply, Reply, Session};
 use sgb_text::Saved;
 use std::io::Write;
 
@@ -110,6 +111,23 @@ pub(crate) fn print_grouped<W: Write>(
     }
 }
 
+/// Prints the reply to a command that takes little room.
+#[inline]
+pub(crate) fn print_brief<W: Write>(
+    writer: &mut MeteredWriter<W>,
+    reply: &BriefReply,
+) -> Result<(), Failed>
+    ensures { Prints (W.contents writer.old.inner) (W.contents writer.new.inner) writer.old.failed writer.new.failed
+        result (reply_text (reply_in reply.now)) }
+{
+    match reply {
+        BriefReply::Done => put(writer, b"ok\n"),
+        BriefReply::Number(number) => print_number(writer, *number),
+        BriefReply::Arc(number) => print_arc(writer, *number),
+        BriefReply::Edge(first) => print_edge(writer, *first, u64::from(first.0) + 1),
+    }
+}
+
 #[inline]
 fn print_reply<W: Write>(writer: &mut MeteredWriter<W>, reply: &Reply) -> Result<(), Failed>
     ensures { Prints (W.contents writer.old.inner) (W.contents writer.new.inner) writer.old.failed writer.new.failed
@@ -120,7 +138,7 @@ fn print_reply<W: Write>(writer: &mut MeteredWriter<W>, reply: &Reply) -> Result
         Reply::Number(number) => print_number(writer, *number),
         Reply::Made(name, vertices, arcs) => print_made(writer, name.bytes(), *vertices, *arcs),
         Reply::Arc(number) => print_arc(writer, *number),
-        Reply::Edge(first, second) => print_edge(writer, *first, *second),
+        Reply::Edge(first, second) => print_edge(writer, *first, u64::from(second.0)),
     }
 }
 
@@ -151,14 +169,14 @@ fn print_arc<W: Write>(writer: &mut MeteredWriter<W>, number: ArcNo) -> Result<(
 fn print_edge<W: Write>(
     writer: &mut MeteredWriter<W>,
     first: ArcNo,
-    second: ArcNo,
+    second: u64,
 ) -> Result<(), Failed>
     ensures { Prints (W.contents writer.old.inner) (W.contents writer.new.inner) writer.old.failed writer.new.failed
-        result (codes "A" ++ decimal first.0 ++ codes " A" ++ decimal second.0 ++ codes "\n") }
+        result (codes "A" ++ decimal first.0 ++ codes " A" ++ decimal second ++ codes "\n") }
 {
     let mut page = Page::<PAGE_LIMIT>::new();
     page.prepend(b"\n");
-    page.prepend_number(second.0 as u64);
+    page.prepend_number(second);
     page.prepend(b" A");
     page.prepend_number(first.0 as u64);
     page.prepend(b"A");

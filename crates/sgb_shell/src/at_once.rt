@@ -1,6 +1,8 @@
 //! Answers a line that is a unit of its own, and prints the answer at once.
-ghost use Rattle.std.specs.Prelude.{◌≡◌, ◌+◌, ◌-◌, ◌^◌, min, codes, Some};
+ghost use Rattle.std.specs.Prelude.{◌≡◌, ◌+◌, ◌-◌, ◌^◌, min, codes, Ok, Some, IsOk};
 ghost use Rattle.std.specs.Str.{bytes_eq};
+ghost use Rattle.sgb_groups.specs.Grouped.{command_in};
+ghost use Rattle.sgb_groups.specs.declared.grouped.GroupedCommand.{GroupedCommand};
 ghost use Rattle.sgb_groups.specs.declared.grouped.GroupedCommand.TheVariants.{One};
 ghost use Rattle.sgb_print.specs.Print.{Prints};
 ghost use Rattle.sgb_script.specs.Line.{line_of};
@@ -9,11 +11,15 @@ ghost use Rattle.sgb_script.specs.declared.command.Line.TheVariants.{Undo, Redo}
 ghost use Rattle.sgb_shell.specs.Answer.{refusal_text};
 ghost use Rattle.sgb_shell.specs.Private.Performing.{IsBegun, Tells, by_command, by_line};
 
-use crate::answer::{print_generator, print_grouped, print_refusal, print_undone, tell};
+use crate::answer::{
+    print_brief, print_generator, print_grouped, print_refusal, print_undone, tell,
+};
 use crate::perform::{perform, refusal_of};
 use sgb_groups::{GroupedSession, KeptCommand};
 use sgb_print::{Failed, MeteredWriter};
-use sgb_script::ShellRefusal;
+use sgb_rows::Packed;
+use sgb_script::{BriefCommand, ShellRefusal, parse_brief};
+use sgb_session::BriefReply;
 use sgb_undo::Journal;
 use std::alloc::Global;
 use std::io::Write;
@@ -97,6 +103,25 @@ fn answer_redo<W: Write>(
     ensures { IsBegun journal.old → Tells (by_line (Some Redo)) number journal.old journal.new refused.old refused.new
         (W.contents writer.old.inner) (W.contents writer.new.inner) writer.old.failed writer.new.failed result }
 {
+    let mut reply = BriefReply::Done;
+    match journal.redo_row(&mut reply) {
+        Ok(true) => print_brief(writer, &reply),
+        Ok(false) => answer_redo_apart(writer, journal, refused, number),
+        Err(refusal) => refuse(writer, refused, number, refusal_of(refusal)),
+    }
+}
+
+// The same of a command that does not take little room.
+#[inline(never)]
+fn answer_redo_apart<W: Write>(
+    writer: &mut MeteredWriter<W>,
+    journal: &mut Journal<GroupedSession>,
+    refused: &mut u64,
+    number: u64,
+) -> Result<(), Failed>
+    ensures { IsBegun journal.old → Tells (by_line (Some Redo)) number journal.old journal.new refused.old refused.new
+        (W.contents writer.old.inner) (W.contents writer.new.inner) writer.old.failed writer.new.failed result }
+{
     let mut reply = None;
     match journal.redo_onto(&mut reply) {
         Ok(()) => match &reply {
@@ -117,7 +142,7 @@ fn answer_draw<W: Write>(
     ensures { IsBegun journal.old → Tells (by_command (One commands.Next)) number journal.old journal.new refused.old refused.new
         (W.contents writer.old.inner) (W.contents writer.new.inner) writer.old.failed writer.new.failed result }
 {
-    answer_change(writer, journal, refused, number, KeptCommand::next())
+    answer_brief(writer, journal, refused, number, &BriefCommand::Next)
 }
 
 // Answers a line by its words.
@@ -133,11 +158,72 @@ fn answer_words<W: Write>(
     ensures { IsBegun journal.old → Tells (by_line (line_of line.now)) number journal.old journal.new refused.old refused.new
         (W.contents writer.old.inner) (W.contents writer.new.inner) writer.old.failed writer.new.failed result }
 {
+    let mut brief = BriefCommand::Next;
+    match parse_brief(line, &mut brief) {
+        Some(true) => answer_brief(writer, journal, refused, number, &brief),
+        Some(false) => answer_short(alloc, writer, journal, refused, number, line),
+        None => refuse(writer, refused, number, ShellRefusal::ScriptSyntax),
+    }
+}
+
+// Answers a line that has no command that takes little room.
+#[inline(never)]
+fn answer_short<W: Write>(
+    alloc: Global,
+    writer: &mut MeteredWriter<W>,
+    journal: &mut Journal<GroupedSession>,
+    refused: &mut u64,
+    number: u64,
+    line: &[u8],
+) -> Result<(), Failed>
+    ensures { IsBegun journal.old → Tells (by_line (line_of line.now)) number journal.old journal.new refused.old refused.new
+        (W.contents writer.old.inner) (W.contents writer.new.inner) writer.old.failed writer.new.failed result }
+{
     let mut command = KeptCommand::next();
     match command.read(alloc, line) {
         Some(Ok(())) => answer_change(writer, journal, refused, number, command),
         Some(Err(refusal)) => refuse(writer, refused, number, refusal),
         None => answer_other(alloc, writer, journal, refused, number, line),
+    }
+}
+
+// Performs a command that takes little room.
+#[inline(always)]
+fn answer_brief<W: Write>(
+    writer: &mut MeteredWriter<W>,
+    journal: &mut Journal<GroupedSession>,
+    refused: &mut u64,
+    number: u64,
+    command: &BriefCommand,
+) -> Result<(), Failed>
+    requires { IsOk (command_in command.now) }
+    ensures { IsBegun journal.old → (c : GroupedCommand) → command_in command.now ≡ Ok c → Tells (by_command c) number journal.old journal.new refused.old refused.new
+        (W.contents writer.old.inner) (W.contents writer.new.inner) writer.old.failed writer.new.failed result }
+{
+    let mut reply = BriefReply::Done;
+    match journal.apply_row(*command, &mut reply) {
+        Ok(true) => print_brief(writer, &reply),
+        Ok(false) => answer_unpacked(writer, journal, refused, number, command),
+        Err(refusal) => refuse(writer, refused, number, refusal_of(refusal)),
+    }
+}
+
+// Performs a command that takes little room, where what undoes it does not.
+#[inline(never)]
+fn answer_unpacked<W: Write>(
+    writer: &mut MeteredWriter<W>,
+    journal: &mut Journal<GroupedSession>,
+    refused: &mut u64,
+    number: u64,
+    command: &BriefCommand,
+) -> Result<(), Failed>
+    requires { IsOk (command_in command.now) }
+    ensures { IsBegun journal.old → (c : GroupedCommand) → command_in command.now ≡ Ok c → Tells (by_command c) number journal.old journal.new refused.old refused.new
+        (W.contents writer.old.inner) (W.contents writer.new.inner) writer.old.failed writer.new.failed result }
+{
+    match KeptCommand::unpack(*command) {
+        Ok(command) => answer_change(writer, journal, refused, number, command),
+        Err(_) => unreachable!(),
     }
 }
 

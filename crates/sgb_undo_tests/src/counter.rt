@@ -4,6 +4,7 @@ ghost use Rattle.std.specs.Prelude.{◌+◌, ◌-◌, ◌≤◌, ◌<◌, nat_lt
 ghost use Rattle.sgb_undo.specs.Outcome.{Accepted, Refused};
 ghost use Rattle.sgb_undo_tests.specs.declared.counter.TooLarge.{TooLarge};
 
+use sgb_rows::{ByteRow, Rows};
 use sgb_undo::Reversible;
 
 #[derive(Debug, Drop)]
@@ -21,6 +22,8 @@ impl Reversible for Counter {
 
     type Reply = u8;
 
+    type BriefReply = u8;
+
     type Refusal = TooLarge;
 
     ghost step = { λ m c. if nat_lt (m.value + c) 256
@@ -30,6 +33,8 @@ impl Reversible for Counter {
     ghost before = { λ n d. record { value = n.value - d } };
 
     ghost can_revert = { λ n d. d ≤ n.value };
+
+    ghost reply_in = { λ r. r };
 
     ghost is_want_of_memory = { λ _. false };
 
@@ -45,8 +50,33 @@ impl Reversible for Counter {
         }
     }
 
+    fn apply_row(
+        &mut self,
+        command: ByteRow,
+        deltas: &mut Rows<u8>,
+        reply: &mut u8,
+    ) -> Result<bool, TooLarge> {
+        let ByteRow::Byte(amount) = command else {
+            unreachable!();
+        };
+        let Some(value) = self.value.checked_add(amount) else {
+            return Err(TooLarge);
+        };
+        self.value = value;
+        *reply = value;
+        deltas.push_row(ByteRow::Byte(amount));
+        Ok(true)
+    }
+
     fn revert(&mut self, delta: u8) {
         self.value -= delta;
+    }
+
+    fn revert_row(&mut self, delta: ByteRow) {
+        let ByteRow::Byte(amount) = delta else {
+            unreachable!();
+        };
+        self.value -= amount;
     }
 
     fn is_memory(_refusal: &TooLarge) -> bool {

@@ -11,7 +11,8 @@ ghost use Rattle.sgb_undo_tests.specs.declared.grouped.GroupedReply.{GroupedRepl
 ghost use Rattle.sgb_undo_tests.specs.declared.grouped.GroupedReply.TheVariants as replies;
 ghost use Rattle.sgb_undo_tests.specs.declared.stack.StackRefusal.{StackRefusal};
 
-use crate::stack::{ByteStack, StackCommand, StackDelta, StackRefusal};
+use crate::stack::{ByteStack, CommandRow, DeltaRow, StackCommand, StackDelta, StackRefusal};
+use sgb_rows::Packed;
 use sgb_undo::{GroupRefusal, Members, Reversible, apply_all, revert_all};
 use std::alloc::Global;
 use std::marker::Model;
@@ -66,6 +67,8 @@ impl Reversible for GroupedStack {
 
     type Reply = GroupedReply;
 
+    type BriefReply = Option<u8>;
+
     type Refusal = StackRefusal;
 
     ghost step = { λ s c. elim c as (λ _. Outcome (List ℕ × ℕ) GroupedDelta GroupedReply StackRefusal) [
@@ -82,6 +85,8 @@ impl Reversible for GroupedStack {
       | deltas.One one ↦ ⟦<ByteStack as Reversible>⟧.can_revert n one
       | deltas.Group group ↦ CanRevertAll ⟦<ByteStack as Reversible>⟧.before ⟦<ByteStack as Reversible>⟧.can_revert n group
     ] };
+
+    ghost reply_in = { replies.One };
 
     ghost is_want_of_memory = { ⟦<ByteStack as Reversible>⟧.is_want_of_memory };
 
@@ -118,5 +123,66 @@ impl Reversible for GroupedStack {
 
     fn is_memory(refusal: &StackRefusal) -> bool {
         ByteStack::is_memory(refusal)
+    }
+}
+
+impl Packed for GroupedCommand {
+    ghost use Rattle.std.specs.Prelude.{ℕ, Result, Ok, Err};
+    ghost use Rattle.sgb_undo_tests.specs.declared.grouped.GroupedCommand.{GroupedCommand};
+    ghost use Rattle.sgb_undo_tests.specs.declared.stack.CommandRow.TheVariants as rows;
+    ghost use Rattle.sgb_undo_tests.specs.declared.stack.StackCommand.TheVariants.{Push, Pop};
+
+    type Row = CommandRow;
+
+    ghost told = { λ row. elim row as (λ _. Result GroupedCommand ℕ) [
+      | rows.Apart place ↦ Err place
+      | rows.Push b ↦ Ok (commands.One (Push b))
+      | rows.Pop ↦ Ok (commands.One Pop)
+    ] };
+
+    fn apart(place: usize) -> CommandRow {
+        CommandRow::Apart(place)
+    }
+
+    fn is_apart(row: CommandRow) -> bool {
+        matches!(row, CommandRow::Apart(_))
+    }
+
+    fn unpack(row: CommandRow) -> Result<GroupedCommand, usize> {
+        match row {
+            CommandRow::Apart(place) => Err(place),
+            CommandRow::Push(byte) => Ok(GroupedCommand::One(StackCommand::Push(byte))),
+            CommandRow::Pop => Ok(GroupedCommand::One(StackCommand::Pop)),
+        }
+    }
+}
+
+impl Packed for GroupedDelta {
+    ghost use Rattle.std.specs.Prelude.{ℕ, Result, Ok, Err};
+    ghost use Rattle.sgb_undo_tests.specs.declared.stack.DeltaRow.TheVariants as rows;
+    ghost use Rattle.sgb_undo_tests.specs.declared.stack.StackDelta.TheVariants.{Pushed, Popped};
+
+    type Row = DeltaRow;
+
+    ghost told = { λ row. elim row as (λ _. Result GroupedDelta ℕ) [
+      | rows.Apart place ↦ Err place
+      | rows.Pushed places ↦ Ok (deltas.One (Pushed places))
+      | rows.Popped b ↦ Ok (deltas.One (Popped b))
+    ] };
+
+    fn apart(place: usize) -> DeltaRow {
+        DeltaRow::Apart(place)
+    }
+
+    fn is_apart(row: DeltaRow) -> bool {
+        matches!(row, DeltaRow::Apart(_))
+    }
+
+    fn unpack(row: DeltaRow) -> Result<GroupedDelta, usize> {
+        match row {
+            DeltaRow::Apart(place) => Err(place),
+            DeltaRow::Pushed(places) => Ok(GroupedDelta::One(StackDelta::Pushed(places))),
+            DeltaRow::Popped(byte) => Ok(GroupedDelta::One(StackDelta::Popped(byte))),
+        }
     }
 }

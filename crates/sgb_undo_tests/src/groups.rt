@@ -2,7 +2,7 @@
 
 use crate::counter::{Counter, TooLarge};
 use crate::grouped::{GroupedCommand, GroupedReply, GroupedStack};
-use crate::stack::{ByteStack, StackCommand, StackRefusal};
+use crate::stack::{ByteStack, CommandRow, StackCommand, StackRefusal};
 use sgb_undo::{GroupRefusal, Journal, JournalRefusal, Members, apply_all, group_law, revert_all};
 use std::alloc::Global;
 use std::process::Abort;
@@ -158,6 +158,24 @@ fn stack_of(rt: &impl Abort, alloc: Global, byte: u8) -> Stacks {
         assert!(rt; push(&mut journal, byte));
     }
     journal
+}
+
+// Whether the journal leaves a pop in a row.
+fn leaves_pop(journal: &mut Stacks) -> bool {
+    matches!(journal.apply_row(CommandRow::Pop, &mut None), Ok(false))
+}
+
+fn pop(journal: &mut Stacks) -> Result<GroupedReply, JournalRefusal<StackRefusal>> {
+    journal.apply(GroupedCommand::One(StackCommand::Pop))
+}
+
+#[test]
+fn a_machine_leaves_rows_unless_it_tells_otherwise(rt: HostRuntime) {
+    let mut journal = stack_of(&rt, rt.alloc(), 7);
+    assert!(rt; leaves_pop(&mut journal));
+    assert!(rt; has_bytes(&journal, &[7]) && counts(&journal) == (1, 0));
+    assert!(rt; pop(&mut journal) == Ok(GroupedReply::One(Some(7))));
+    assert!(rt; has_bytes(&journal, &[]) && counts(&journal) == (2, 0));
 }
 
 #[test]

@@ -1,6 +1,6 @@
 //! A stack of at most 200 bytes, whose growths can be refused.
 
-ghost use Rattle.std.specs.Prelude.{◌≡◌, ℕ, ◌+◌, ◌-◌, ◌<◌, ◌≤◌, max, List, [], ◌∷◌, length, drop, Option, Some, None, Bool, true, false, nat_lt, if◌then◌else◌};
+ghost use Rattle.std.specs.Prelude.{◌≡◌, ℕ, ◌+◌, ◌-◌, ◌<◌, ◌≤◌, max, List, [], ◌∷◌, length, drop, Option, Some, None, Ok, Bool, true, false, nat_lt, if◌then◌else◌};
 ghost use Rattle.sgb_undo.specs.Outcome.{Outcome, Accepted, Refused};
 ghost use Rattle.sgb_undo_tests.specs.declared.stack.StackCommand.TheVariants.{Push, Pop};
 ghost use Rattle.sgb_undo_tests.specs.declared.stack.StackDelta.{StackDelta};
@@ -8,6 +8,7 @@ ghost use Rattle.sgb_undo_tests.specs.declared.stack.StackDelta.TheVariants.{Pus
 ghost use Rattle.sgb_undo_tests.specs.declared.stack.StackRefusal.{StackRefusal};
 ghost use Rattle.sgb_undo_tests.specs.declared.stack.StackRefusal.TheVariants.{NoRoom, Full, Empty};
 
+use sgb_rows::{Packed, Rows};
 use sgb_undo::Reversible;
 use std::alloc::Global;
 use std::marker::Model;
@@ -33,7 +34,7 @@ impl Model for ByteStack {
     ghost invariant = { λ s. (vec_len s.bytes ≤ s.places) × (s.places ≤ vec_capacity s.bytes) × (s.places ≤ 200) };
 }
 
-#[derive(Clone, Copy, Debug)]
+#[derive(Clone, Copy, Debug, Drop)]
 pub enum StackCommand {
     Push(u8),
     Pop,
@@ -74,6 +75,8 @@ impl Reversible for ByteStack {
 
     type Reply = Option<u8>;
 
+    type BriefReply = Option<u8>;
+
     type Refusal = StackRefusal;
 
     ghost step = { λ s c. elim c as (λ _. Outcome (List ℕ × ℕ) StackDelta (Option ℕ) StackRefusal) [
@@ -95,6 +98,8 @@ impl Reversible for ByteStack {
       | Pushed places ↦ (length n.0 ≤ places + 1) × (places ≤ n.1)
       | Popped b ↦ length n.0 < n.1
     ] };
+
+    ghost reply_in = { λ r. r };
 
     ghost is_want_of_memory = { λ r. elim r as (λ _. Bool) [ NoRoom ↦ true | Full ↦ false | Empty ↦ false ] };
 
@@ -128,6 +133,25 @@ impl Reversible for ByteStack {
         }
     }
 
+    // A push that takes a place is left to `apply`.
+    fn apply_row(
+        &mut self,
+        command: CommandRow,
+        deltas: &mut Rows<StackDelta>,
+        reply: &mut Option<u8>,
+    ) -> Result<bool, StackRefusal> {
+        if matches!(command, CommandRow::Push(_)) && self.bytes.len() == self.places {
+            return Ok(false);
+        }
+        let Ok(command) = StackCommand::unpack(command) else {
+            unreachable!();
+        };
+        let (delta, given) = self.apply(&command)?;
+        deltas.push_row(row_of(delta));
+        *reply = given;
+        Ok(true)
+    }
+
     fn revert(&mut self, delta: StackDelta) {
         match delta {
             StackDelta::Pushed(places) => {
@@ -140,5 +164,90 @@ impl Reversible for ByteStack {
 
     fn is_memory(refusal: &StackRefusal) -> bool {
         *refusal == StackRefusal::NoRoom
+    }
+}
+
+/// A command of the stack, or the place of one that stands apart.
+#[derive(Clone, Copy, Debug)]
+pub enum CommandRow {
+    Apart(usize),
+    Push(u8),
+    Pop,
+}
+
+impl Packed for StackCommand {
+    ghost use Rattle.std.specs.Prelude.{ℕ, Result, Ok, Err};
+    ghost use Rattle.sgb_undo_tests.specs.declared.stack.CommandRow.TheVariants as rows;
+    ghost use Rattle.sgb_undo_tests.specs.declared.stack.StackCommand.{StackCommand};
+
+    type Row = CommandRow;
+
+    ghost told = { λ row. elim row as (λ _. Result StackCommand ℕ) [
+      | rows.Apart place ↦ Err place
+      | rows.Push b ↦ Ok (Push b)
+      | rows.Pop ↦ Ok Pop
+    ] };
+
+    fn apart(place: usize) -> CommandRow {
+        CommandRow::Apart(place)
+    }
+
+    fn is_apart(row: CommandRow) -> bool {
+        matches!(row, CommandRow::Apart(_))
+    }
+
+    fn unpack(row: CommandRow) -> Result<StackCommand, usize> {
+        match row {
+            CommandRow::Apart(place) => Err(place),
+            CommandRow::Push(byte) => Ok(StackCommand::Push(byte)),
+            CommandRow::Pop => Ok(StackCommand::Pop),
+        }
+    }
+}
+
+/// A delta of the stack, or the place of one that stands apart.
+#[derive(Clone, Copy, Debug)]
+pub enum DeltaRow {
+    Apart(usize),
+    Pushed(usize),
+    Popped(u8),
+}
+
+impl Packed for StackDelta {
+    ghost use Rattle.std.specs.Prelude.{ℕ, Result, Ok, Err};
+    ghost use Rattle.sgb_undo_tests.specs.declared.stack.DeltaRow.TheVariants as rows;
+
+    type Row = DeltaRow;
+
+    ghost told = { λ row. elim row as (λ _. Result StackDelta ℕ) [
+      | rows.Apart place ↦ Err place
+      | rows.Pushed places ↦ Ok (Pushed places)
+      | rows.Popped b ↦ Ok (Popped b)
+    ] };
+
+    fn apart(place: usize) -> DeltaRow {
+        DeltaRow::Apart(place)
+    }
+
+    fn is_apart(row: DeltaRow) -> bool {
+        matches!(row, DeltaRow::Apart(_))
+    }
+
+    fn unpack(row: DeltaRow) -> Result<StackDelta, usize> {
+        match row {
+            DeltaRow::Apart(place) => Err(place),
+            DeltaRow::Pushed(places) => Ok(StackDelta::Pushed(places)),
+            DeltaRow::Popped(byte) => Ok(StackDelta::Popped(byte)),
+        }
+    }
+}
+
+// The row in which a delta stands.
+fn row_of(delta: StackDelta) -> DeltaRow
+    ensures { ⟦<StackDelta as Packed>⟧.told result ≡ Ok delta }
+{
+    match delta {
+        StackDelta::Pushed(places) => DeltaRow::Pushed(places),
+        StackDelta::Popped(byte) => DeltaRow::Popped(byte),
     }
 }

@@ -2,7 +2,8 @@
 //! nothing, so that the proof of a test stays short.
 
 use crate::counter::{Counter, TooLarge};
-use crate::stack::{ByteStack, StackCommand, StackRefusal};
+use crate::stack::{ByteStack, CommandRow, StackCommand, StackRefusal};
+use sgb_rows::{ByteRow, Packed};
 use sgb_undo::{
     Event, Journal, JournalRefusal, MOST_COMMANDS, NothingToUndo, Reversible, apply_and_undo,
     perform_all,
@@ -16,7 +17,7 @@ fn counts<M: Reversible>(journal: &Journal<M>) -> (usize, usize) {
     (journal.standing(), journal.undone())
 }
 
-fn apply<C: Copy, M: Reversible<Command = C>>(
+fn apply<C: Copy + Packed, M: Reversible<Command = C>>(
     journal: &mut Journal<M>,
     command: C,
 ) -> Result<M::Reply, JournalRefusal<M::Refusal>> {
@@ -43,7 +44,7 @@ fn undo_all<M: Reversible>(journal: &mut Journal<M>, count: u32) -> bool {
 
 // Applies a command that the machine accepts. Where a growth is refused nothing has changed, and it
 // is asked for once more.
-fn applied<C: Copy, M: Reversible<Command = C>>(
+fn applied<C: Copy + Packed, M: Reversible<Command = C>>(
     rt: &impl Abort,
     journal: &mut Journal<M>,
     command: C,
@@ -82,7 +83,8 @@ fn value(journal: &Journal<Counter>) -> u8 {
 
 // Whether the standing command of this number is this one.
 fn has_command(journal: &Journal<Counter>, number: usize, command: u8) -> bool {
-    number < journal.standing() && *journal.command(number) == command
+    let mut room = None;
+    number < journal.standing() && *journal.command(number, &mut room) == command
 }
 
 fn counter(alloc: Global, value: u8) -> Journal<Counter> {
@@ -92,6 +94,56 @@ fn counter(alloc: Global, value: u8) -> Journal<Counter> {
 // An empty stack that is granted so many growths before one is refused.
 fn stack(alloc: Global, growths: u32) -> Journal<ByteStack> {
     Journal::new(alloc, ByteStack::new(alloc, growths))
+}
+
+// What a counter answers to a command in a row: the reply, or `None` where it leaves the command.
+fn add_row(
+    journal: &mut Journal<Counter>,
+    amount: u8,
+) -> Result<Option<u8>, JournalRefusal<TooLarge>> {
+    let mut reply = 0;
+    let done = journal.apply_row(ByteRow::Byte(amount), &mut reply)?;
+    Ok(if done { Some(reply) } else { None })
+}
+
+// The same, where a growth of the journal may be refused first.
+fn added(
+    journal: &mut Journal<Counter>,
+    amount: u8,
+) -> Result<Option<u8>, JournalRefusal<TooLarge>> {
+    match add_row(journal, amount) {
+        Err(JournalRefusal::NoRoom) => add_row(journal, amount),
+        answer => answer,
+    }
+}
+
+// What a stack answers to a push in a row. Another reply stands in its place.
+fn push_row(
+    journal: &mut Journal<ByteStack>,
+    byte: u8,
+) -> Result<Option<Option<u8>>, JournalRefusal<StackRefusal>> {
+    let mut reply = Some(1);
+    let done = journal.apply_row(CommandRow::Push(byte), &mut reply)?;
+    Ok(if done { Some(reply) } else { None })
+}
+
+// What it answers to a pop in a row.
+fn pop_row(
+    journal: &mut Journal<ByteStack>,
+) -> Result<Option<Option<u8>>, JournalRefusal<StackRefusal>> {
+    let mut reply = None;
+    let done = journal.apply_row(CommandRow::Pop, &mut reply)?;
+    Ok(if done { Some(reply) } else { None })
+}
+
+// The reply to a command that is redone from its row, or `None` where it is left. Another stands in its place before.
+fn redo_row<M: Reversible>(
+    journal: &mut Journal<M>,
+    other: M::BriefReply,
+) -> Result<Option<M::BriefReply>, JournalRefusal<M::Refusal>> {
+    let mut reply = other;
+    let done = journal.redo_row(&mut reply)?;
+    Ok(if done { Some(reply) } else { None })
 }
 
 #[test]
@@ -140,11 +192,96 @@ fn a_full_journal_takes_another_after_an_undo(rt: HostRuntime) {
     }
     assert!(rt; counts(&journal) == (65535, 0));
     assert!(rt; matches!(apply(&mut journal, 1), Err(JournalRefusal::Full)));
+    assert!(rt; matches!(add_row(&mut journal, 1), Err(JournalRefusal::Full)));
     assert!(rt; counts(&journal) == (65535, 0));
     assert!(rt; undo(&mut journal).is_ok());
     assert!(rt; matches!(apply(&mut journal, 1), Ok(1)));
     assert!(rt; counts(&journal) == (65535, 0));
     assert!(rt; matches!(apply(&mut journal, 1), Err(JournalRefusal::Full)));
+}
+
+#[test]
+fn a_command_in_a_row_is_undone_and_redone(rt: HostRuntime) {
+    let mut journal = counter(rt.alloc(), 3);
+    assert!(rt; matches!(added(&mut journal, 5), Ok(Some(8))));
+    assert!(rt; value(&journal) == 8 && counts(&journal) == (1, 0));
+    assert!(rt; has_command(&journal, 0, 5));
+    assert!(rt; undo(&mut journal).is_ok());
+    assert!(rt; value(&journal) == 3 && counts(&journal) == (0, 1));
+    assert!(rt; matches!(redo_row(&mut journal, 0), Ok(Some(8))));
+    assert!(rt; value(&journal) == 8 && counts(&journal) == (1, 0));
+    assert!(rt;
+        matches!(
+            redo_row(&mut journal, 0),
+            Err(JournalRefusal::NothingToRedo)
+        )
+    );
+}
+
+#[test]
+fn a_refused_row_leaves_the_undone_ones(rt: HostRuntime) {
+    let mut journal = counter(rt.alloc(), 3);
+    assert!(rt; matches!(added(&mut journal, 5), Ok(Some(8))));
+    assert!(rt; undo(&mut journal).is_ok());
+    assert!(rt;
+        matches!(
+            added(&mut journal, 253),
+            Err(JournalRefusal::Machine(TooLarge))
+        )
+    );
+    assert!(rt; value(&journal) == 3 && counts(&journal) == (0, 1));
+    assert!(rt; matches!(added(&mut journal, 252), Ok(Some(255))));
+    assert!(rt; counts(&journal) == (1, 0));
+}
+
+// A stack on which 7, 8 were pushed apart, 8 popped and 9 pushed in rows, and 9 popped apart.
+fn mixed(rt: &impl Abort, alloc: Global) -> Journal<ByteStack> {
+    let mut journal = stack(alloc, 9);
+    assert!(rt; applied(rt, &mut journal, StackCommand::Push(7)).is_none());
+    assert!(rt; applied(rt, &mut journal, StackCommand::Push(8)).is_none());
+    assert!(rt; pop_row(&mut journal) == Ok(Some(Some(8))));
+    assert!(rt; push_row(&mut journal, 9) == Ok(Some(None)));
+    assert!(rt; applied(rt, &mut journal, StackCommand::Pop) == Some(9));
+    journal
+}
+
+#[test]
+fn rows_and_others_are_undone_and_redone(rt: HostRuntime) {
+    let mut journal = mixed(&rt, rt.alloc());
+    assert!(rt; has_bytes(&journal, &[7]) && counts(&journal) == (5, 0));
+    assert!(rt; undo_all(&mut journal, 2));
+    assert!(rt; has_bytes(&journal, &[7]) && counts(&journal) == (3, 2));
+    assert!(rt; undo_all(&mut journal, 3));
+    assert!(rt; has_bytes(&journal, &[]) && counts(&journal) == (0, 5));
+    assert!(rt; redone(&rt, &mut journal).is_none());
+    assert!(rt; redone(&rt, &mut journal).is_none());
+    assert!(rt; redo_row(&mut journal, None) == Ok(Some(Some(8))));
+    assert!(rt; redo_row(&mut journal, Some(1)) == Ok(Some(None)));
+    assert!(rt; has_bytes(&journal, &[7, 9]) && counts(&journal) == (4, 1));
+    assert!(rt; redone(&rt, &mut journal) == Some(9));
+    assert!(rt; has_bytes(&journal, &[7]) && counts(&journal) == (5, 0));
+}
+
+#[test]
+fn a_command_apart_is_not_redone_from_a_row(rt: HostRuntime) {
+    let mut journal = mixed(&rt, rt.alloc());
+    assert!(rt; undo_all(&mut journal, 1));
+    assert!(rt; redo_row(&mut journal, None) == Ok(None));
+    assert!(rt; has_bytes(&journal, &[7, 9]) && counts(&journal) == (4, 1));
+    assert!(rt; redone(&rt, &mut journal) == Some(9));
+    assert!(rt; counts(&journal) == (5, 0));
+}
+
+#[test]
+fn a_row_that_is_left_changes_nothing(rt: HostRuntime) {
+    let mut journal = stack(rt.alloc(), 9);
+    assert!(rt; applied(&rt, &mut journal, StackCommand::Push(7)).is_none());
+    assert!(rt; undo(&mut journal).is_ok());
+    // The push would take a place.
+    assert!(rt; push_row(&mut journal, 8) == Ok(None));
+    assert!(rt; has_bytes(&journal, &[]) && counts(&journal) == (0, 1));
+    assert!(rt; applied(&rt, &mut journal, StackCommand::Push(8)).is_none());
+    assert!(rt; has_bytes(&journal, &[8]) && counts(&journal) == (1, 0));
 }
 
 #[test]

@@ -1,21 +1,20 @@
-use Rattle.std.proofs.Common.{◌≡◌, arith, Ok, Err, subst}
-use Rattle.sgb_groups.specs.Grouped.{step, before}
-use Rattle.sgb_undo.specs.History.{Redoes}
+use Rattle.std.proofs.Common.{arith, Bool, Ok, Err}
+use Rattle.std.proofs.lemmas.Bool.{OnTrue_at}
+use Rattle.sgb_groups.specs.Grouped.{reply_in}
 use Rattle.sgb_shell.specs.declared.answer.Answer.TheVariants.{Replied}
-use Rattle.sgb_shell.proofs.Performing.{redid, no_reply, refused_told}
+use Rattle.sgb_shell.proofs.Performing.{redid, refused_told}
 use Rattle.sgb_shell.proofs.at_once.answer_redo.Goals as goal
 
-pub returns-in-Some : goal.returns-in-Some
-returns-in-Some g c b =
-    let e = c.in-Ok.ensures in
-    let given : e.ok.0 ≡ c.in-Some.given = cc in record {
-      answer = Replied c.in-Some.given;
-      does = redid _ _ (λ done. c.in-Some.given) (Ok c.in-Ok.field-0) b (subst (λ r. Redoes step before c.args.journal.now r c.redo_onto.new.self) given e.ok.2) e.nothing e.no_room e.full e.refused e.err e.sound;
+pub returns-in-Ok-true : goal.returns-in-Ok-true
+returns-in-Ok-true g c b =
+    let e = c.in-Ok-true.ensures in record {
+      answer = Replied (reply_in c.redo_row.new.reply);
+      does = redid _ _ (λ done. reply_in c.redo_row.new.reply) (Ok c.in-Ok-true.field-0) b (OnTrue_at c.in-Ok-true.field-0-test e.ok) e.nothing e.no_room e.full e.refused e.err e.sound;
       counted = λ few. omega arith;
-      prints = c.print_grouped.ensures;
+      prints = c.print_brief.ensures;
     }
 
-pub returns : goal.returns
-returns g c b =
+pub returns-in-Err : goal.returns-in-Err
+returns-in-Err g c b =
     let e = c.in-Err.ensures in
-    refused_told _ _ _ _ _ _ _ _ _ _ c.refuse.result _ _ (redid _ _ no_reply (Err c.in-Err.refusal) b e.ok e.nothing e.no_room e.full e.refused e.err e.sound) c.refusal_of.ensures c.refuse.ensures.count c.refuse.ensures.prints
+    refused_told _ _ _ _ _ _ _ _ _ _ c.refuse.result _ _ (redid _ _ (λ (done : Bool). reply_in c.redo_row.new.reply) (Err c.in-Err.refusal) b e.ok e.nothing e.no_room e.full e.refused e.err e.sound) c.refusal_of.ensures c.refuse.ensures.count c.refuse.ensures.prints

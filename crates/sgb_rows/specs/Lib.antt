@@ -1,0 +1,3 @@
+pub mod Byte
+pub mod Listed
+pub mod Private

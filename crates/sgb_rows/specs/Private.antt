@@ -1,0 +1,2 @@
+-- What serves private functions only.
+pub mod Merged
