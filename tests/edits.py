@@ -27,8 +27,9 @@ import threading
 import time
 from concurrent.futures import ThreadPoolExecutor
 
-# What one check takes, at most.
+# What one check takes, at most: of memory, and of the disk on which its copy lies.
 MEMORY = 3_000_000_000
+DISK = 1_000_000_000
 # How many edits a check takes, at most: one that takes all of a large crate would run alone, long after the others.
 AT_ONCE = 30
 # One check is started at a time.
@@ -206,6 +207,9 @@ class Said:
         self.unread = next((it for it in self.lines if rt.unread(it, changed)), '')
         if rtlib.STALE.search(text):
             self.unread = 'the kept work of a library could not be used'
+        if not text.strip():
+            # (on a full disk there is no room for what it says)
+            self.unread = 'the check said nothing'
         if not self.unread and not self.lines[-1].startswith(('holes=', 'only=')):
             self.unread = next((it for it in self.lines if 'error' in it), self.lines[-1])
         self.told = re.findall(r'(?m)^(?:fn|struct|enum|trait|impl) (\S+): (.*)$', text)
@@ -264,17 +268,16 @@ def call(words, folder):
     return ran.returncode, ran.stdout
 
 
-def await_memory():
-    """Waits until twice the memory of a check is free, since the gate proves all crates beside these checks; ten minutes at most."""
+def await_room():
+    """Waits until twice what a check takes is free, since the gate proves all crates beside these checks; ten minutes at most."""
     with STARTING:
         end = time.time() + 600
-        while rt.free() < 2 * MEMORY and time.time() < end:
+        while (rt.free() < 2 * MEMORY or shutil.disk_usage(tempfile.gettempdir()).free < 2 * DISK) and time.time() < end:
             time.sleep(1)
 
 
 def rattle(crate, folder, flags):
     """What a check says, but for its offers of files to write a proof in: they take up to a half of it, and say nothing of what is refused."""
-    await_memory()
     stages = '%s/stages' % folder
     words = ['check', *crate.words(['--jobs', '1'], keeps=False), '--stage-times', stages, *flags]
     with tempfile.TemporaryFile('w+', errors='replace') as said:
@@ -323,6 +326,7 @@ def only_edited(groups):
 
 def check(crate, edits, flags=(), is_first=False):
     """What the check says of the crate with these edits, and those that are not in it. The first one leaves what it proves."""
+    await_room()
     with tempfile.TemporaryDirectory(prefix='sgb-edits-') as room:
         left = lay(crate, edits, room)
         changed = {path for it in edits for path in it.texts}

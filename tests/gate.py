@@ -24,6 +24,8 @@ REFUSING, FAILING = 'tests/out/refuse_growth.so', 'tests/out/fail_io.so'
 GENTLY = ['nice', '-n', '10']
 # How many lines of a part, and of those that explain a failure, are printed.
 SHOWN = 30
+# How many of the last lines of a part that failed are printed beside those.
+LAST = 5
 
 # The lines of `rt ci` that tell how far it is, and those of any command that tell what failed.
 PROGRESS = re.compile(r'rt: (?:\S+ (?:(?:NOT )?proved|is kept)|\S+: (?:its tests|trying its)|\S+ ran\b|FAILED'
@@ -217,6 +219,8 @@ class Gate:
             self.log.explain(lines)
         elif len(told) > SHOWN:
             self.say('.. more in %s' % self.log.path)
+            for line in told[-LAST:] if failed else []:
+                self.say(line)
         self.say('%s: %d passed, %d failed, in %s, %s of processor' % (name, passed, failed, clock(time.time() - start), clock(used)))
 
     def run(self):
