@@ -1,5 +1,5 @@
 -- Rows and values apart, through the calls of a list.
-use Rattle.std.proofs.Common.{◌≡◌, ℕ, zero, suc, ◌+◌, ◌<◌, ◌≤◌, List, [], ◌∷◌, ◌++◌, length, map, get_or, refl, sym, ap, ◌∙◌, subst, arith, Result, Ok, Err, Some, false, IsOk}
+use Rattle.std.proofs.Common.{◌≡◌, ℕ, zero, suc, ◌+◌, ◌<◌, ◌≤◌, List, [], ◌∷◌, ◌++◌, length, map, get_or, refl, sym, ap, ◌∙◌, subst, arith, Result, Ok, Err, Some, false, true, IsOk}
 use Rattle.std.specs.List.{slice_get}
 use Rattle.std.specs.Option.{option_map}
 use Rattle.std.specs.Result.{is_err}
@@ -120,6 +120,10 @@ module _ {T : Type 0} where
   pub from_is_err : (r : Result T ℕ) → is_err r ≡ false → (value : T) × (r ≡ Ok value)
   from_is_err (Ok value) is = (value, refl)
   from_is_err (Err place) is = absurd cc
+
+  pub from_is_place : (r : Result T ℕ) → is_err r ≡ true → (place : ℕ) × (r ≡ Err place)
+  from_is_place (Ok value) is = absurd cc
+  from_is_place (Err place) is = (place, refl)
 
 -- a value that was read in the last place
 pub last_read : {R : Type 0} (rows rows' : List R) (row last : R) (i : ℕ) → rows ≡ rows' ++ last ∷ [] → i + 1 ≡ length rows → row ≡ get_or rows i row → row ≡ last

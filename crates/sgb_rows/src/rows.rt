@@ -5,6 +5,11 @@ use crate::Packed;
 use std::alloc::{AllocError, Global};
 use std::marker::Model;
 
+// For so many values a list makes places at least. Rows of 16 bytes then take 128 KiB, and from there on an allocator as
+// glibc's gives a buffer pages of its own: it grows by moving pages, where a smaller one is copied whole, and pages are
+// touched for that which were never used.
+const LEAST: usize = 8_192;
+
 /// A list of values. Those that take little room stand in its rows, and the others apart, in their order.
 ///
 /// Contracts see the values, and for how many there are places, whatever room they take. Only
@@ -55,9 +60,10 @@ impl<T: Packed> Rows<T> {
         ensures places { OnOk result (length self.old.items + count ≤ self.new.places) }
         ensures kept { self.old.places ≤ self.new.places }
     {
-        self.rows.reserve(count)?;
+        let more = count.max(LEAST);
+        self.rows.reserve(more)?;
         self.apart
-            .reserve(self.rows.len() - self.apart.len() + count)?;
+            .reserve(self.rows.len() - self.apart.len() + more)?;
         Ok(())
     }
 
@@ -129,14 +135,27 @@ impl<T: Packed> Rows<T> {
         }
     }
 
-    /// Forgets them one by one.
+    // Forgets them one by one.
     #[inline(never)]
     fn pop_behind(&mut self, len: usize)
         ensures items { self.new.items ≡ take len self.old.items }
         ensures places { self.new.places ≡ self.old.places }
     {
         while self.len() > len {
-            let _last = self.pop();
+            self.forget_last();
+        }
+    }
+
+    // Forgets the last value, which is read only where it stands apart.
+    #[inline(always)]
+    fn forget_last(&mut self)
+        requires some { 0 < length self.old.items }
+        ensures items { (value : T) × (self.old.items ≡ self.new.items ++ value ∷ []) }
+        ensures places { self.new.places ≡ self.old.places }
+    {
+        let row = self.rows.take_last();
+        if T::is_apart(row) {
+            let _last = self.apart.take_last();
         }
     }
 

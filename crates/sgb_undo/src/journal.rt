@@ -340,6 +340,7 @@ fn forget<C: Packed>(commands: &mut Rows<C>, standing: usize)
 /// Makes a place for one more command and its delta, and for what the machine keeps of it. It takes
 /// memory only where each command has its delta, so that nothing is undone, and a multiple of
 /// [`GROWTH`] stand.
+#[inline(always)]
 fn make_place<M: Reversible>(
     machine: &mut M,
     commands: &mut Rows<M::Command>,
@@ -356,9 +357,26 @@ fn make_place<M: Reversible>(
     ensures grows { OnErr result (IsTrue (grows_at (length deltas.old.items))) }
 {
     if deltas.len() == commands.len() && deltas.len() % GROWTH == 0 {
-        commands.reserve(GROWTH)?;
-        deltas.reserve(GROWTH)?;
-        machine.reserve(GROWTH)?;
+        grow(machine, commands, deltas)?;
     }
     Ok(())
+}
+
+/// Takes memory for [`GROWTH`] commands more, where each command has its delta.
+#[inline(never)]
+fn grow<M: Reversible>(
+    machine: &mut M,
+    commands: &mut Rows<M::Command>,
+    deltas: &mut Rows<M::Delta>,
+) -> Result<(), AllocError>
+    requires { length deltas.old.items ≡ length commands.old.items }
+    ensures machine { machine.new ≡ machine.old }
+    ensures commands { commands.new.items ≡ commands.old.items }
+    ensures deltas { deltas.new.items ≡ deltas.old.items }
+    ensures place { OnOk result (length deltas.new.items < places commands.new.places deltas.new.places) }
+    ensures kept { places commands.old.places deltas.old.places ≤ places commands.new.places deltas.new.places }
+{
+    commands.reserve(GROWTH)?;
+    deltas.reserve(GROWTH)?;
+    machine.reserve(GROWTH)
 }

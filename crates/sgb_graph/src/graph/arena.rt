@@ -792,12 +792,14 @@ pub(super) fn grow_room<T, F: Drop>(
     ensures cells_capacity { vec_capacity cells.old ≤ vec_capacity cells.new }
     ensures fields_capacity { vec_capacity fields.old ≤ vec_capacity fields.new }
 {
-    cells.reserve(count)?;
-    let room = room_for_fields(cells.capacity());
-    if fields.is_empty() && fields.capacity() < cells.capacity() {
-        // Where no field was ever set there is nothing to move, and the room stays untouched.
+    let doubled = cells.capacity().saturating_mul(2);
+    let room = room_for_fields(doubled.max(cells.len().saturating_add(count)));
+    if fields.is_empty() && fields.capacity() < room {
+        // Where no field was ever set there is nothing to move, and the room stays untouched. It is exchanged first: then
+        // the cells, behind which the old one mostly lies, grow into its place, and are not moved either.
         *fields = Vec::with_capacity(*fields.allocator(), room)?;
     }
+    cells.reserve(count)?;
     fields.reserve(cells.capacity() - fields.len())?;
     Ok(cells.capacity())
 }
