@@ -3,9 +3,8 @@ ghost use Rattle.std.specs.Prelude.{◌≡◌};
 
 use crate::grouped::GroupedDelta;
 use crate::kept::KeptCommand;
-use sgb_graph::{Place, Util};
 use sgb_rows::Packed;
-use sgb_script::{BriefCommand, Edit, ShortCommand};
+use sgb_script::BriefCommand;
 use sgb_session::{BriefDelta, Delta};
 
 impl Packed for KeptCommand {
@@ -26,30 +25,10 @@ impl Packed for KeptCommand {
     }
 
     fn unpack(row: BriefCommand) -> Result<KeptCommand, usize> {
-        let command = match row {
-            BriefCommand::Apart(place) => return Err(place),
-            BriefCommand::Seed(seed) => ShortCommand::Seed(seed),
-            BriefCommand::Next => ShortCommand::Next,
-            BriefCommand::Unif(bound) => ShortCommand::Unif(bound),
-            BriefCommand::Arc(from, name, to, len) => {
-                ShortCommand::Edit(name.name(), Edit::Arc(from, to, i64::from(len)))
-            }
-            BriefCommand::Edge(from, name, to, len) => {
-                ShortCommand::Edit(name.name(), Edit::Edge(from, to, i64::from(len)))
-            }
-            BriefCommand::Len(number, name, len) => {
-                ShortCommand::Edit(name.name(), Edit::Len(number, len))
-            }
-            BriefCommand::SetVertex(field, vertex, name, number) => ShortCommand::Edit(
-                name.name(),
-                Edit::Set(Place::Vertex(vertex, field), Util::Int(number)),
-            ),
-            BriefCommand::SetArc(field, arc, name, number) => ShortCommand::Edit(
-                name.name(),
-                Edit::Set(Place::Arc(arc, field), Util::Int(number)),
-            ),
-        };
-        Ok(KeptCommand::short(command))
+        match row.into_short() {
+            Ok(short) => Ok(KeptCommand::short(short)),
+            Err(place) => Err(place),
+        }
     }
 }
 

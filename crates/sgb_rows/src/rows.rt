@@ -5,9 +5,9 @@ use crate::Packed;
 use std::alloc::{AllocError, Global};
 use std::marker::Model;
 
-// For so many values a list makes places at least. Rows of 16 bytes then take 128 KiB, and from there on an allocator as
-// glibc's gives a buffer pages of its own: it grows by moving pages, where a smaller one is copied whole, and pages are
-// touched for that which were never used.
+// A list that makes places has them for so many values in all, at least. Rows of 16 bytes then take 128 KiB, and from there on
+// an allocator like glibc's gives a buffer pages of its own, and grows it by moving these: a smaller one is copied whole, with
+// what was never used of it.
 const LEAST: usize = 8_192;
 
 /// A list of values. Those that take little room stand in its rows, and the others apart, in their order.
@@ -60,7 +60,7 @@ impl<T: Packed> Rows<T> {
         ensures places { OnOk result (length self.old.items + count ≤ self.new.places) }
         ensures kept { self.old.places ≤ self.new.places }
     {
-        let more = count.max(LEAST);
+        let more = count.max(LEAST.saturating_sub(self.rows.len()));
         self.rows.reserve(more)?;
         self.apart
             .reserve(self.rows.len() - self.apart.len() + more)?;

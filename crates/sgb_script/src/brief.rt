@@ -1,7 +1,8 @@
 //! Commands that take little room.
-ghost use Rattle.std.specs.Prelude.{◌≡◌};
+ghost use Rattle.std.specs.Prelude.{◌≡◌, Ok, Err, IfOk, IfErr};
+ghost use Rattle.sgb_script.specs.declared.command.ShortCommand.TheVariants as shorts;
 
-use crate::{Command, Edit, ShortName};
+use crate::{Command, Edit, ShortCommand, ShortName};
 use sgb_graph::{ArcField, ArcNo, Place, Util, VertexField, VertexNo};
 use sgb_rows::Packed;
 
@@ -29,6 +30,46 @@ pub enum BriefCommand {
     SetArc(ArcField, ArcNo, ShortName, i64),
 }
 
+impl BriefCommand {
+    ghost use Rattle.sgb_script.specs.Brief.{command_in};
+    ghost use Rattle.sgb_script.specs.Line.{command_of};
+
+    /// The command as one that may take more room, or the place where it stands.
+    pub fn into_short(self) -> Result<ShortCommand, usize>
+        ensures ok { IfOk result (λ short. command_in self ≡ Ok (command_of short)) }
+        ensures apart { IfErr result (λ place. command_in self ≡ Err place) }
+    {
+        match self {
+            BriefCommand::Apart(place) => Err(place),
+            BriefCommand::Seed(seed) => Ok(ShortCommand::Seed(seed)),
+            BriefCommand::Next => Ok(ShortCommand::Next),
+            BriefCommand::Unif(bound) => Ok(ShortCommand::Unif(bound)),
+            BriefCommand::Arc(from, name, to, len) => {
+                Ok(edited(name, Edit::Arc(from, to, i64::from(len))))
+            }
+            BriefCommand::Edge(from, name, to, len) => {
+                Ok(edited(name, Edit::Edge(from, to, i64::from(len))))
+            }
+            BriefCommand::Len(number, name, len) => Ok(edited(name, Edit::Len(number, len))),
+            BriefCommand::SetVertex(field, vertex, name, number) => Ok(edited(
+                name,
+                Edit::Set(Place::Vertex(vertex, field), Util::Int(number)),
+            )),
+            BriefCommand::SetArc(field, arc, name, number) => Ok(edited(
+                name,
+                Edit::Set(Place::Arc(arc, field), Util::Int(number)),
+            )),
+        }
+    }
+}
+
+// An edit of the graph of a short name.
+fn edited(name: ShortName, edit: Edit) -> ShortCommand
+    ensures { result ≡ shorts.Edit name edit }
+{
+    ShortCommand::Edit(name.name(), edit)
+}
+
 impl Packed for Command {
     ghost use Rattle.sgb_script.specs.Brief.{command_in};
 
@@ -47,28 +88,9 @@ impl Packed for Command {
     }
 
     fn unpack(row: BriefCommand) -> Result<Command, usize> {
-        match row {
-            BriefCommand::Apart(place) => Err(place),
-            BriefCommand::Seed(seed) => Ok(Command::Seed(seed)),
-            BriefCommand::Next => Ok(Command::Next),
-            BriefCommand::Unif(bound) => Ok(Command::Unif(bound)),
-            BriefCommand::Arc(from, name, to, len) => {
-                Ok(Command::Edit(name.name(), Edit::Arc(from, to, i64::from(len))))
-            }
-            BriefCommand::Edge(from, name, to, len) => {
-                Ok(Command::Edit(name.name(), Edit::Edge(from, to, i64::from(len))))
-            }
-            BriefCommand::Len(number, name, len) => {
-                Ok(Command::Edit(name.name(), Edit::Len(number, len)))
-            }
-            BriefCommand::SetVertex(field, vertex, name, number) => Ok(Command::Edit(
-                name.name(),
-                Edit::Set(Place::Vertex(vertex, field), Util::Int(number)),
-            )),
-            BriefCommand::SetArc(field, arc, name, number) => Ok(Command::Edit(
-                name.name(),
-                Edit::Set(Place::Arc(arc, field), Util::Int(number)),
-            )),
+        match row.into_short() {
+            Ok(short) => Ok(short.into_command()),
+            Err(place) => Err(place),
         }
     }
 }
