@@ -12,6 +12,8 @@ import subprocess
 import sys
 import tempfile
 
+from edits import Said
+
 EDITS = os.path.join(os.path.dirname(os.path.abspath(__file__)), 'edits.py')
 
 TINY = '''// Functions to try edits on.
@@ -132,9 +134,12 @@ def main():
     lacking += [('a status of failure', first)] * is_well
     # (the lines of one crate may come before those of another)
     lacking += [('the second run as the first', second)] * (sorted(first) != sorted(second))
+    # A check that a full disk leaves without a word tells nothing of a contract.
+    silent = Said('', set()).unread
+    lacking += [('that a check said nothing', [silent])] * (silent != 'the check said nothing')
     for it, lines in lacking:
         print('test_edits: not told: %s' % it, *lines, sep='\n')
-    print('test_edits: %d passed, %d failed' % (2 * len(wanted) + 2 - len(lacking), len(lacking)))
+    print('test_edits: %d passed, %d failed' % (2 * len(wanted) + 3 - len(lacking), len(lacking)))
     return 1 if lacking else 0
 
 
