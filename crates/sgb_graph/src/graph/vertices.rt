@@ -9,7 +9,7 @@ ghost use Rattle.sgb_graph.specs.Private.Link.{vertex_in};
 ghost use Rattle.sgb_graph.specs.Private.SameRows.{each_eq, row_eq};
 ghost use Rattle.sgb_graph.specs.Private.Vertices.{values_at, SameValues, PutsValues, row, unlinked, with_first, with_name, with_value};
 
-use super::arena::{grow_room, is_zero};
+use super::arena::{MAPPED, grow_room, is_zero, room_for_fields};
 use super::codes::Link;
 use super::honest::are_allowed;
 use super::new::six_zeros;
@@ -17,7 +17,9 @@ use super::same::is_link_same;
 use crate::{Label, Util, VertexNo};
 use std::alloc::{AllocError, Global};
 use std::marker::Model;
-use std::mem;
+use std::mem::{self, size_of};
+
+const MAPPED_FIELDS: usize = MAPPED / size_of::<[Util; 6]>();
 
 /// The vertices by number.
 #[derive(Drop)]
@@ -68,7 +70,7 @@ impl Vertices {
     {
         let mut labels = Vec::with_capacity(alloc, n as usize)?;
         let mut firsts = Vec::with_capacity(alloc, n as usize)?;
-        let fields = Vec::with_capacity(alloc, n as usize)?;
+        let fields = Vec::with_capacity(alloc, room_for_fields(n as usize, MAPPED_FIELDS))?;
         for _i in 0..n {
             labels.push_reserved(Label::empty());
             firsts.push_reserved(Link::none());
@@ -283,7 +285,7 @@ fn make_room(
     if *room - labels.len() >= count {
         return Ok(());
     }
-    let more = grow_room(labels, fields, count)?;
+    let more = grow_room(labels, fields, count, MAPPED_FIELDS)?;
     firsts.reserve(more - firsts.len())?;
     *room = more;
     Ok(())
