@@ -16,7 +16,9 @@ edits, begins from nothing: it proves what edits turn and what that calls, and t
 """
 import importlib.machinery
 import importlib.util
+import itertools
 import os
+import queue
 import re
 import resource
 import shutil
@@ -25,13 +27,15 @@ import sys
 import tempfile
 import threading
 import time
-from concurrent.futures import ThreadPoolExecutor
+from concurrent.futures import Future, ThreadPoolExecutor
 
 # What one check takes, at most: of memory, and of the disk on which its copy lies.
 MEMORY = 3_000_000_000
 DISK = 1_000_000_000
-# How many edits a check takes, at most: one that takes all of a large crate would run alone, long after the others.
+# How many edits a check takes, at most.
 AT_ONCE = 30
+# The rank of a crate's first check, for which its others wait.
+FIRST = -AT_ONCE - 1
 # One check is started at a time.
 STARTING = threading.Lock()
 # By crate, the names of its functions, where a first check told them.
@@ -180,6 +184,12 @@ def groups_of(edits):
             fit[1].append(edit)
     groups.sort(key=lambda it: (not it[0], len(it[1])))
     return [edits for _, edits in groups]
+
+
+def rank_of(edits):
+    """The rank of a group's check. Large ones begin first, so that at the end there is something small for each processor; an edit
+    of no body has all checked."""
+    return -len(edits) if edits[0].functions else -AT_ONCE
 
 
 def lay(crate, edits, room):
@@ -373,7 +383,7 @@ def try_group(edits, is_first=False, flags=()):
         found = {it: told for it, told in judged.items() if told[0]}
         halves = [[it] for it in edits if it not in found]
     for half in filter(None, halves):
-        more, count = ({half[0]: try_alone(half[0])}, 1) if len(half) == 1 else try_group(half)
+        more, count = ({half[0]: try_alone(half[0])}, 1) if len(edits) == 1 else try_group(half)
         found.update(more)
         checks += count
     return found, checks
@@ -417,6 +427,28 @@ def workers():
     return int(jobs) if jobs.isdigit() and int(jobs) else rt.processors()
 
 
+class Lanes:
+    """Runs calls side by side, so many at a time: of those that wait first the one of the lowest rank."""
+
+    def __init__(self, count):
+        self.waiting, self.order = queue.PriorityQueue(), itertools.count()
+        for _ in range(count):
+            threading.Thread(target=self.work, daemon=True).start()
+
+    def submit(self, rank, call, *given):
+        result = Future()
+        self.waiting.put((rank, next(self.order), result, call, given))
+        return result
+
+    def work(self):
+        while True:
+            _, _, result, call, given = self.waiting.get()
+            try:
+                result.set_result(call(*given))
+            except BaseException as error:
+                result.set_exception(error)
+
+
 def timed(call, *given):
     start = time.time()
     return call(*given), time.time() - start
@@ -425,8 +457,8 @@ def timed(call, *given):
 class Tally:
     """How many edits were refused as they must be, told a line a crate."""
 
-    def __init__(self, tells_all, pool, proved):
-        self.tells_all, self.pool, self.proved = tells_all, pool, proved
+    def __init__(self, tells_all, lanes, proved):
+        self.tells_all, self.lanes, self.proved = tells_all, lanes, proved
         self.passed, self.failed, self.telling, self.proving = 0, 0, threading.Lock(), threading.Lock()
 
     def tell(self, well, label, why):
@@ -458,9 +490,9 @@ class Tally:
         if self.proved and groups:
             os.makedirs(kept(crate), exist_ok=True)
             flags = only_edited(groups)
-            tried.append(self.pool.submit(timed, try_group, groups.pop(0), True, flags))
+            tried.append(self.lanes.submit(FIRST, timed, try_group, groups.pop(0), True, flags))
             tried[0].result()
-        tried += [self.pool.submit(timed, try_group, it) for it in reversed(groups)]
+        tried += [self.lanes.submit(rank_of(it), timed, try_group, it) for it in groups]
         checks, spent, refused = 0, 0, 0
         for (found, more), time_taken in [it.result() for it in tried]:
             checks, spent = checks + more, spent + time_taken
@@ -489,12 +521,11 @@ def main():
     global GUARD
     GUARD = rtlib.guarded()
     crates = sorted(rtlib.crates_below(os.getcwd()), key=lambda it: len(it.below()))
-    with ThreadPoolExecutor(workers()) as pool:
-        tally = Tally('-v' in sys.argv, pool, Named(sys.stdin) if '--as-proved' in sys.argv else None)
-        for it in sorted({*names} - {it.name for it in crates}):
-            tally.tell(False, it, 'no crate has this name')
-        tally.try_all([it for it in crates if not words or it.name in names
-                       or any(file.startswith(it.folder + '/') for file in files)], files)
+    tally = Tally('-v' in sys.argv, Lanes(workers()), Named(sys.stdin) if '--as-proved' in sys.argv else None)
+    for it in sorted({*names} - {it.name for it in crates}):
+        tally.tell(False, it, 'no crate has this name')
+    tally.try_all([it for it in crates if not words or it.name in names
+                   or any(file.startswith(it.folder + '/') for file in files)], files)
     print('edits: %d passed, %d failed' % (tally.passed, tally.failed))
     return 1 if tally.failed else 0
 

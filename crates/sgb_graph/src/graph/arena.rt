@@ -27,16 +27,13 @@ use super::vertices::Vertices;
 use crate::{ArcNo, Refusal, Spoke, Tip, Util, VertexNo};
 use std::alloc::{AllocError, Global};
 use std::marker::Model;
-use std::mem::{self, size_of};
+use std::mem;
 
-// A graph that grows beyond so many arcs gets room for all that it can have, so that these are not moved again.
-const LARGE: usize = 131_072;
-// So many slots or vertices have the room for their fields mapped by itself.
-const MANY: usize = 32_768;
-// A block of this size is mapped by itself: none of it is touched where it is taken or given back.
-pub(super) const MAPPED: usize = 33_558_528;
+// A graph with room for so many arcs has room for the fields of all that it can have, and these take more than 32 MiB; one
+// that grows beyond them gets room for all its arcs, so that these are not moved again.
+const MANY: usize = 131_072;
 
-const MAPPED_FIELDS: usize = MAPPED / size_of::<[Util; 2]>();
+const MAPPED: usize = 1_048_600;
 
 /// A live arc as it is kept.
 #[derive(Drop)]
@@ -770,21 +767,19 @@ fn grow_slots(
     if count > left {
         return Err(Refusal::TooLarge);
     }
-    let more = if cells.len() < LARGE { count } else { left };
-    let grown = grow_room(cells, fields, more, MAPPED_FIELDS)?;
+    let more = if cells.len() < MANY { count } else { left };
+    let grown = grow_room(cells, fields, more)?;
     *room = grown.min(most);
     Ok(())
 }
 
-// Takes more memory for so many slots or vertices more, and for the fields of all, of which so many are mapped by
-// themselves. Answers for how many slots or vertices there is room.
+// Takes more memory for so many slots or vertices more, and for the fields of all. Answers for how many there is room.
 #[cold]
 #[inline(never)]
 pub(super) fn grow_room<T, F: Drop>(
     cells: &mut Vec<T>,
     fields: &mut Vec<F>,
     count: usize,
-    mapped: usize,
 ) -> Result<usize, AllocError>
     requires { vec_len fields.old ≤ vec_len cells.old }
     ensures cells { cells.new.items ≡ cells.old.items }
@@ -798,7 +793,7 @@ pub(super) fn grow_room<T, F: Drop>(
     ensures fields_capacity { vec_capacity fields.old ≤ vec_capacity fields.new }
 {
     let doubled = cells.capacity().saturating_mul(2);
-    let room = room_for_fields(doubled.max(cells.len().saturating_add(count)), mapped);
+    let room = room_for_fields(doubled.max(cells.len().saturating_add(count)));
     if fields.is_empty() && fields.capacity() < room {
         // Where no field was ever set there is nothing to move, and the room stays untouched. It is exchanged first, so
         // that cells that stand before the old one grow into its place.
@@ -809,15 +804,16 @@ pub(super) fn grow_room<T, F: Drop>(
     Ok(cells.capacity())
 }
 
-// For the fields of how many there is to be room where there is room for so many slots or vertices: for many as large a
-// block as is mapped by itself. So what these take of a heap is what they touch, and they mostly grow where they stand.
-pub(super) fn room_for_fields(count: usize, mapped: usize) -> usize
-    ensures { count ≤ result }
+// For how many slots or vertices there is to be room for fields where there is room for so many slots or vertices. A
+// graph with many arcs gets room for all that it can have: a block above 32 MiB is mapped by itself, so none of it is
+// touched where it is taken or given back, and the C library keeps what the arcs of one graph took for the next.
+fn room_for_fields(cells: usize) -> usize
+    ensures { cells ≤ result }
 {
-    if count < MANY {
-        count
+    if cells < MANY {
+        cells
     } else {
-        count.max(mapped)
+        cells.max(MAPPED)
     }
 }
 

@@ -9,7 +9,7 @@ ghost use Rattle.sgb_graph.specs.Private.Link.{vertex_in};
 ghost use Rattle.sgb_graph.specs.Private.SameRows.{each_eq, row_eq};
 ghost use Rattle.sgb_graph.specs.Private.Vertices.{values_at, SameValues, PutsValues, row, unlinked, with_first, with_name, with_value};
 
-use super::arena::{MAPPED, grow_room, is_zero, room_for_fields};
+use super::arena::{grow_room, is_zero};
 use super::codes::Link;
 use super::honest::are_allowed;
 use super::new::six_zeros;
@@ -17,9 +17,12 @@ use super::same::is_link_same;
 use crate::{Label, Util, VertexNo};
 use std::alloc::{AllocError, Global};
 use std::marker::Model;
-use std::mem::{self, size_of};
+use std::mem;
 
-const MAPPED_FIELDS: usize = MAPPED / size_of::<[Util; 6]>();
+// Room for the fields of so many blank vertices is as much as is mapped by itself, more than 32 MiB.
+const MANY: usize = 32_768;
+
+const MAPPED: usize = 349_568;
 
 /// The vertices by number.
 #[derive(Drop)]
@@ -70,7 +73,7 @@ impl Vertices {
     {
         let mut labels = Vec::with_capacity(alloc, n as usize)?;
         let mut firsts = Vec::with_capacity(alloc, n as usize)?;
-        let fields = Vec::with_capacity(alloc, room_for_fields(n as usize, MAPPED_FIELDS))?;
+        let fields = Vec::with_capacity(alloc, room_for_blank(n as usize))?;
         for _i in 0..n {
             labels.push_reserved(Label::empty());
             firsts.push_reserved(Link::none());
@@ -285,10 +288,18 @@ fn make_room(
     if *room - labels.len() >= count {
         return Ok(());
     }
-    let more = grow_room(labels, fields, count, MAPPED_FIELDS)?;
+    let more = grow_room(labels, fields, count)?;
     firsts.reserve(more - firsts.len())?;
     *room = more;
     Ok(())
+}
+
+// For the fields of how many there is to be room where so many vertices are blank. Few of them will be set, so for many
+// the room stands apart: between what a graph takes of a heap its arcs would be moved where they grow.
+fn room_for_blank(n: usize) -> usize
+    ensures { n ≤ result }
+{
+    if n < MANY { n } else { n.max(MAPPED) }
 }
 
 fn is_row_same(
