@@ -11,8 +11,8 @@ one that edits no body, which any refusal may meet. The crates themselves must b
 edits of those crates alone, with files those edits, also of must-fail/, and with -v it tells what refused each.
 
 With --as-proved it reads names of crates, one a line, as another run proves them and leaves their libraries, and tries
-the edits of each from then on; those of a crate that was not named in the end fail. There the first check, with few
-edits, begins from nothing: it proves what edits turn and what that calls, and that is kept for the others.
+the edits of each once those below it are named; those of a crate that is not named in the end fail. There the first check,
+with few edits, begins from nothing: it proves what edits turn and what that calls, and that is kept for the others.
 """
 import importlib.machinery
 import importlib.util
@@ -467,34 +467,44 @@ class Tally:
             if self.tells_all or not well:
                 print('%s: %s%s' % (label, 'refused, as it must be: ' if well else '', why), flush=True)
 
-    def prove(self, crate):
-        """Proves a crate, or waits until another run has; returns whether it is proved, and the seconds it took."""
+    def make_ready(self, crate):
+        """Proves a crate, or waits until another run has proved those below it; returns whether that is done, and the seconds it took."""
         if self.proved:
-            return self.proved.await_name(crate.name), 0
+            return all(self.proved.await_name(it.name) for it in crate.below()), 0
         with self.proving:
             return timed(prove, crate)
 
-    def try_crate(self, crate, files):
-        """Proves a crate and tries its edits."""
-        edits, unread = edits_of(crate, files)
-        for it in unread:
-            self.tell(False, it, 'no edit: those are named FUNCTION-what_is_wrong.edit')
-        for it in [it for it in edits if it.why]:
-            self.tell(False, it.label, it.why)
-        good = [it for it in edits if not it.why]
-        is_proved, took = self.prove(crate) if good else (True, 0)
-        if not is_proved:
-            self.tell(False, crate.name, 'the crate is not proved, so none of its %d edits was tried' % len(good))
-            return
-        tried, groups = [], groups_of(good)
+    def is_proved(self, crate):
+        """Whether a crate that was made ready is proved, or will be by another run."""
+        return not self.proved or self.proved.await_name(crate.name)
+
+    def try_groups(self, crate, groups):
+        """Tries groups of edits, and returns what came of each with the seconds it took."""
+        tried = []
         if self.proved and groups:
             os.makedirs(kept(crate), exist_ok=True)
             flags = only_edited(groups)
             tried.append(self.lanes.submit(FIRST, timed, try_group, groups.pop(0), True, flags))
             tried[0].result()
         tried += [self.lanes.submit(rank_of(it), timed, try_group, it) for it in groups]
+        return [it.result() for it in tried]
+
+    def try_crate(self, crate, files):
+        """Tries the edits of a crate that is proved."""
+        edits, unread = edits_of(crate, files)
+        for it in unread:
+            self.tell(False, it, 'no edit: those are named FUNCTION-what_is_wrong.edit')
+        for it in [it for it in edits if it.why]:
+            self.tell(False, it.label, it.why)
+        good = [it for it in edits if not it.why]
+        is_ready, took = self.make_ready(crate) if good else (True, 0)
+        # (the first check proves what it needs of the crate itself, so it does not wait for another run's proof of that)
+        tried = self.try_groups(crate, groups_of(good)) if is_ready else []
+        if good and not (is_ready and self.is_proved(crate)):
+            self.tell(False, crate.name, 'the crate is not proved, so its %d edits show nothing' % len(good))
+            return
         checks, spent, refused = 0, 0, 0
-        for (found, more), time_taken in [it.result() for it in tried]:
+        for (found, more), time_taken in tried:
             checks, spent = checks + more, spent + time_taken
             for edit, (well, why) in sorted(found.items(), key=lambda it: it[0].label):
                 self.tell(well, edit.label, why)

@@ -1,5 +1,5 @@
 #!/usr/bin/env python3
-"""Tests edits.py on two small crates of a repository of its own: what it must pass, and what it must tell.
+"""Tests edits.py on three small crates of a repository of its own: what it must pass, and what it must tell.
 
     test_edits.py
 
@@ -75,6 +75,22 @@ pub fn next(x: u32) -> u32
 }
 '''
 
+UPPER = '''// A function over those of another crate.
+#![tactic(auto)]
+
+ghost use Rattle.std.specs.Prelude.{◌≡◌, ◌≤◌, ◌+◌};
+
+use tiny::raised;
+
+/// A number raised by four.
+pub fn raised_twice(x: u32) -> u32
+    requires room { x ≤ 90 }
+    ensures value { result ≡ x + 4 }
+{
+    raised(raised(x))
+}
+'''
+
 # The edits: the crate, the name, the text and what it becomes, and what must be told of it.
 EDITS_TRIED = [
     ('tiny', 'raised-by_one', 'x + STEP', 'x + STEP - 1', 'refused, as it must be: tiny::raised'),
@@ -87,14 +103,16 @@ EDITS_TRIED = [
     ('tiny', 'lowered-found_often', 'u32) -> u32', 'u32) -> u64', 'an \'old:\' text is in src/lib.rt 4 times'),
     ('tiny', 'capped-of_no_name', 'if x < 9', 'if y < 9', 'it cannot be read'),
     ('tiny', 'capped-at_eight', 'if x < 9', 'if x <= 8', 'a proof of tiny::capped names what it took away'),
+    ('upper', 'raised_twice-once', 'raised(raised(x))', 'raised(x)', 'refused, as it must be: upper::raised_twice'),
     ('open', 'next-after_all', '    x\n', '    x / 2\n', None),
 ]
 
 # What else must be told, and what the runs end with.
 TOLD = ['crates/tiny/edits/notes.txt: no edit',
-        'open: the crate is not proved, so none of its 1 edits was tried',
+        'open: the crate is not proved, so its 1 edits show nothing',
         'tiny: 4 of 11 edits refused',
-        'edits: 4 passed, 8 failed']
+        'upper: 1 of 1 edits refused',
+        'edits: 5 passed, 8 failed']
 
 
 def write(file, text):
@@ -106,10 +124,11 @@ def write(file, text):
 def make(room):
     """Makes the repository with its edits."""
     subprocess.run(['git', 'init', '-q', room], check=True)
-    write(room + '/crates.txt', 'tiny:\nopen:\n')
+    write(room + '/crates.txt', 'tiny:\nopen:\nupper: tiny\n')
     write(room + '/crates/tiny/src/lib.rt', TINY)
     write(room + '/crates/tiny/proofs/capped/Answers.antt', PROOF)
     write(room + '/crates/open/src/lib.rt', OPEN)
+    write(room + '/crates/upper/src/lib.rt', UPPER)
     for crate, name, old, new, _ in EDITS_TRIED:
         write('%s/crates/%s/edits/%s.edit' % (room, crate, name),
               'file: src/lib.rt\nold: %s\nnew: %s\n' % (old.rstrip('\n'), new.rstrip('\n')))
@@ -117,12 +136,12 @@ def make(room):
 
 
 def run(room, *flags):
-    """The lines of a run that tell of edits, without its times, and whether it passed. The crate `tiny` is named to it as one that is
-    proved."""
-    ran = subprocess.run([sys.executable, EDITS, '-v', *flags], cwd=room, input='tiny\n', stdout=subprocess.PIPE,
+    """The lines of a run that tell of edits, without its times, and whether it passed. The crates `tiny` and `upper` are named to it as
+    ones that are proved."""
+    ran = subprocess.run([sys.executable, EDITS, '-v', *flags], cwd=room, input='tiny\nupper\n', stdout=subprocess.PIPE,
                          stderr=subprocess.STDOUT, errors='replace', encoding='utf-8')
     lines = re.sub(r'\d+ s\b', '_ s', ran.stdout).splitlines()
-    return [it for it in lines if it.startswith(('crates/', 'tiny:', 'open:', 'edits:'))] or lines, ran.returncode == 0
+    return [it for it in lines if it.startswith(('crates/', 'tiny:', 'upper:', 'open:', 'edits:'))] or lines, ran.returncode == 0
 
 
 def main():
