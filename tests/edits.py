@@ -515,7 +515,7 @@ class Tally:
                       % (crate.name, refused, len(edits) + len(unread), checks, spent, took), flush=True)
 
     def try_all(self, crates, files):
-        """Tries the edits of the crates, lowest first, or as they are proved."""
+        """Tries the edits of the crates, lowest first, or as those below them are proved."""
         with ThreadPoolExecutor(max(1, len(crates))) as each:
             started = [each.submit(self.try_crate, crate, [it for it in files if it.startswith(crate.folder + '/')])
                        for crate in crates]

@@ -4,14 +4,21 @@ use Rattle.std.specs.Option.{option_and_then}
 use Rattle.std.specs.Char.{digit_value}
 use Rattle.std.specs.Str.Parse.{digits_value}
 use Rattle.std.proofs.lemmas.Bool.{lt-ltb, le-ltb, le-leb, lt-leb, eq-eqb, ne_eqb}
+use Rattle.std.proofs.Math.Nat.{pow-le-pow_right}
 use Rattle.sgb_grammar.specs.Number.{digits_in, digits_at, count_of, positive_of, negative_of}
 
 pub digit_is : (c : ℕ) → 48 ≤ c → c ≤ 57 → digit_value c ≡ c - 48
 digit_is c low high = rw (le-ltb c 48 low, lt-ltb c 58 (omega arith)) refl
 
 -- one digit more, each number cut off
-pub worth_more : (top n v p q d : ℕ) → v ≡ min n top → p ≡ min (v * 10) top → q ≡ min (p + d) top → q ≡ min (n * 10 + d) top
-worth_more top n v p q d e f g = omega arith
+pub worth_more : (top n v q d : ℕ) → v ≡ min n top → q ≡ min (v * 10 + d) top → q ≡ min (n * 10 + d) top
+worth_more top n v q d e f = omega arith
+
+-- with one digit more, few digits spell a number that has a place in 64 bits
+pub few_digits : (v k d : ℕ) → v < 10 ^ k → k < 19 → d < 10 → v * 10 + d < 2 ^ 64
+few_digits v k d h few e =
+    let power : 10 ^ k ≤ 10 ^ 18 = pow-le-pow_right (let some : 0 < 10 = omega arith in some) (let least : k ≤ 18 = omega (arith, few) in least) in
+    omega (arith, h, e, power)
 
 pub no_digits : (bs : List ℕ) (k : ℕ) → k ≡ digits_in bs → k ≡ 0 → digits_at bs ≡ None
 unfolding digits_at

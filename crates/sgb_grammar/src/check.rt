@@ -55,15 +55,15 @@ fn weigh(sum: u64, line: &[u8]) -> u64
 {
     let mut value = sum;
     let mut rest = line;
-    'pieces: while !rest.is_empty() {
-        let (block, behind) = rest.split_at(rest.len().min(BLOCK));
+    'pieces: while let Some((block, behind)) = rest.split_first_chunk::<BLOCK>() {
         value = weigh_block(value, block) % PRIME;
         rest = behind;
     }
-    value
+    weigh_block(value, rest) % PRIME
 }
 
 // The sum, doubled for each byte of the block, with what the block weighs: not reduced, since it has a place in 64 bits.
+#[inline(always)]
 fn weigh_block(sum: u64, block: &[u8]) -> u64
     requires sum { sum < 2 ^ 30 - 83 }
     requires block { length block.now ≤ 32 }
@@ -73,6 +73,7 @@ fn weigh_block(sum: u64, block: &[u8]) -> u64
 }
 
 // What a block weighs by itself: a processor that adds it up need not know the sum of those before it yet.
+#[inline(always)]
 fn weigh_alone(block: &[u8]) -> u64
     requires { length block.now ≤ 32 }
     ensures value { result ≡ weighed block.now }

@@ -1,5 +1,5 @@
 //! Numbers in a saved text.
-ghost use Rattle.std.specs.Prelude.{◌≡◌, ◌<◌, ◌≤◌, ◌-◌, ◌^◌, min, take, length, IfOk, FitsSigned};
+ghost use Rattle.std.specs.Prelude.{◌≡◌, ◌<◌, ◌≤◌, ◌+◌, ◌-◌, ◌*◌, ◌^◌, min, take, length, IfOk, FitsSigned};
 ghost use Rattle.std.specs.Int.{w64};
 ghost use Rattle.std.specs.Option.{option_and_then};
 ghost use Rattle.std.specs.Str.Parse.{digits_value};
@@ -12,6 +12,9 @@ use crate::bytes::after;
 
 /// The least number that has no place in an `i64`.
 const BOUND: u64 = 1 << 63;
+
+/// A number of so many digits has a place in a `u64`.
+const FITTING: usize = 19;
 
 /// Digits that spell a number below 2^63, and what follows them.
 #[tactic(auto, unfolding(crate::specs::Number::count_at))]
@@ -101,9 +104,22 @@ fn digits_of(bytes: &[u8]) -> (usize, u64)
         if !byte.is_ascii_digit() {
             return (i, value);
         }
-        value = value
-            .saturating_mul(10)
-            .saturating_add(u64::from(*byte - b'0'));
+        value = with_digit(value, i, u64::from(*byte - b'0'));
     }
     (bytes.len(), value)
+}
+
+// The number that so many digits spell, with one digit behind them, at most 2^64 - 1. Few digits need no look at its size.
+#[inline]
+fn with_digit(value: u64, count: usize, digit: u64) -> u64
+    requires value { value < 10 ^ count }
+    requires digit { digit < 10 }
+    ensures value { result ≡ min (value * 10 + digit) (2 ^ 64 - 1) }
+    ensures small { result < 10 ^ (count + 1) }
+{
+    if count < FITTING {
+        value * 10 + digit
+    } else {
+        value.saturating_mul(10).saturating_add(digit)
+    }
 }

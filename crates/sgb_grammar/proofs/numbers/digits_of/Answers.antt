@@ -18,7 +18,8 @@ digits-preserved c =
     let digit = c.from.ensures ∙ sym (digit_is (get_or bs i 0) (leb-true 48 (get_or bs i 0) both.0) (leb-true (get_or bs i 0) 57 both.1)) in
     let counted = prefix_len-drop_yes is_ascii_digit bs i 0 (omega arith) here in (
       c.digits.invariant.0 ∙ ap (λ k. i + k) counted ∙ (omega arith),
-      worth_more top n _ _ _ _ c.digits.invariant.1 c.saturating_mul.ensures c.saturating_add-value.ensures
+      worth_more top n _ _ _ c.digits.invariant.1 c.with_digit-value.ensures.value
           ∙ ap (λ d. min (n * 10 + d) top) digit
           ∙ ap (λ k. min k top) (sym (digits_value_more 10 bs i (omega arith))),
+      c.with_digit-value.ensures.small,
     )
