@@ -8,7 +8,8 @@ An edit is written as those in must-fail/ are. Many are tried at a time, at most
 copy of the crate, the copy is checked over the work that `rt check` kept, and each edit must be refused at a function
 whose body it edits. Where no refusal names an edit, or the copy cannot be read, the edit is tried again alone; so is
 one that edits no body, which any refusal may meet. The crates themselves must be proved. With names it tries the
-edits of those crates alone, with files those edits, also of must-fail/, and with -v it tells what refused each.
+edits of those crates alone, with files those edits, also of must-fail/, and with -v it tells what refused each, and
+how long that function took the check; what the check begins with counts with the first.
 
 With --as-proved it reads names of crates, one a line, as another run proves them and leaves their libraries, and tries
 the edits of each once those below it are named; those of a crate that is not named in the end fail. There the first check,
@@ -44,6 +45,8 @@ TOLD = {}
 NAME = re.compile(r'\w+-[\w-]+\.edit')
 FUNCTION = re.compile(r'( *)(?:pub(?:\([^)]*\))? )?(?:\w+ )*fn (\w+)')
 OWNER = re.compile(r'(?:pub(?:\([^)]*\))? )?(?:impl|trait)\b')
+# A function that a check is done with.
+DONE = re.compile(r'checked (\S+), \d+ of \d+$')
 # How antt tells that a proof names what the edit took away, which says nothing of a contract.
 VANISHED = re.compile(r'has no field|is not in scope|has no `|was not admitted')
 
@@ -212,8 +215,8 @@ def lay(crate, edits, room):
 class Said:
     """What the check of a copy said."""
 
-    def __init__(self, text, changed):
-        self.lines = text.rstrip('\n').split('\n')
+    def __init__(self, text, spent, changed):
+        self.lines, self.spent = text.rstrip('\n').split('\n'), spent
         self.unread = next((it for it in self.lines if rt.unread(it, changed)), '')
         if rtlib.STALE.search(text):
             self.unread = 'the kept work of a library could not be used'
@@ -255,7 +258,7 @@ class Said:
         path, (goal, is_real) = next((it for it in found if it[1][1]), found[0])
         if not is_real:
             return False, 'a proof of %s names what it took away, so no contract was tried: keep the names' % path
-        return True, '%s, %s' % (path, goal)
+        return True, '%s, %s, %.1f s' % (path, goal, self.spent.get(path, 0))
 
 
 def kept(crate):
@@ -287,17 +290,29 @@ def await_room():
 
 
 def rattle(crate, folder, flags):
-    """What a check says, but for its offers of files to write a proof in: they take up to a half of it, and say nothing of what is refused."""
+    """What a check says, and the seconds that each function took, but for its offers of files to write a proof in: they take up to
+    a half of it, and say nothing of what is refused."""
     stages = '%s/stages' % folder
-    words = ['check', *crate.words(['--jobs', '1'], keeps=False), '--stage-times', stages, *flags]
-    with tempfile.TemporaryFile('w+', errors='replace') as said:
-        ran = subprocess.Popen([*GUARD, rtlib.RATTLE, *words], cwd=folder, stdin=subprocess.DEVNULL, stdout=said, stderr=subprocess.STDOUT)
+    words = ['check', *crate.words(['--jobs', '1'], keeps=False), '--progress', '--stage-times', stages, *flags]
+    with subprocess.Popen([*GUARD, rtlib.RATTLE, *words], cwd=folder, stdin=subprocess.DEVNULL, stdout=subprocess.PIPE,
+                          stderr=subprocess.STDOUT, text=True, errors='replace') as ran, ThreadPoolExecutor(1) as beside:
+        heard = beside.submit(hear, ran.stdout)
         while not has_verdicts(stages) and not has_ended(ran):
             pass
         opens_no_more(ran.pid)
-        ran.wait()
-        said.seek(0)
-        return said.read()
+        return heard.result()
+
+
+def hear(lines):
+    """What a check says, but for its lines of progress, and the seconds that these tell of each function."""
+    said, spent, last = [], {}, time.time()
+    for line in lines:
+        done = DONE.match(line)
+        if done:
+            spent[done[1]], last = time.time() - last, time.time()
+        else:
+            said.append(line)
+    return ''.join(said), spent
 
 
 def has_ended(ran):
@@ -344,7 +359,7 @@ def check(crate, edits, flags=(), is_first=False):
         if not is_first:
             # Each begins with the work of the proved crate, in links that a check replaces, so no edit meets what another one left.
             shutil.copytree(kept(crate), over, copy_function=link)
-        said = Said(rattle(crate, room, ['--incremental', over, '--allow-holes', *flags]), changed)
+        said = Said(*rattle(crate, room, ['--incremental', over, '--allow-holes', *flags]), changed)
         if is_first:
             TOLD[crate.name] = [path for path, _ in said.told]
         return said, left

@@ -140,7 +140,7 @@ def run(room, *flags):
     ones that are proved."""
     ran = subprocess.run([sys.executable, EDITS, '-v', *flags], cwd=room, input='tiny\nupper\n', stdout=subprocess.PIPE,
                          stderr=subprocess.STDOUT, errors='replace', encoding='utf-8')
-    lines = re.sub(r'\d+ s\b', '_ s', ran.stdout).splitlines()
+    lines = re.sub(r'[\d.]+ s\b', '_ s', ran.stdout).splitlines()
     return [it for it in lines if it.startswith(('crates/', 'tiny:', 'upper:', 'open:', 'edits:'))] or lines, ran.returncode == 0
 
 
@@ -154,7 +154,7 @@ def main():
     # (the lines of one crate may come before those of another)
     lacking += [('the second run as the first', second)] * (sorted(first) != sorted(second))
     # A check that a full disk leaves without a word tells nothing of a contract.
-    silent = Said('', set()).unread
+    silent = Said('', {}, set()).unread
     lacking += [('that a check said nothing', [silent])] * (silent != 'the check said nothing')
     for it, lines in lacking:
         print('test_edits: not told: %s' % it, *lines, sep='\n')
