@@ -63,6 +63,7 @@ fn weigh(sum: u64, line: &[u8]) -> u64
 }
 
 // The sum, doubled for each byte of the block, with what the block weighs: not reduced, since it has a place in 64 bits.
+// Always inlined, as what it calls: where the block is a whole one, the count of its bytes is then known.
 #[inline(always)]
 fn weigh_block(sum: u64, block: &[u8]) -> u64
     requires sum { sum < 2 ^ 30 - 83 }

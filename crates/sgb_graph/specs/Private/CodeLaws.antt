@@ -1,14 +1,17 @@
 -- A number is told by the link, the owner or the tip that it stands for.
-use Rattle.std.specs.Prelude.{◌≡◌, ℕ, zero, suc}
-use Rattle.std.proofs.Common.{refl, ap}
+use Rattle.std.specs.Prelude.{◌≡◌, ℕ, zero, suc, ◌-◌, ◌^◌, ◌==◌}
+use Rattle.std.proofs.Common.{refl, ap, sym, inl, inr}
+use Rattle.std.proofs.lemmas.Bool.{cases_Bool, eqb-true}
 use Rattle.sgb_graph.specs.declared.graph.codes.Link.TheInside as link
 use Rattle.sgb_graph.specs.declared.graph.codes.OwnerCode.TheInside as owner
 use Rattle.sgb_graph.specs.declared.graph.codes.TipCode.TheInside as tip
 use Rattle.sgb_graph.specs.Private.Codes.{link_of, code_of_link, owner_of_code, code_of_owner, tip_of, code_of_tip}
 
 link_code : (n : ℕ) → code_of_link (link_of n) ≡ n
-link_code zero = refl
-link_code (suc k) = refl
+link_code n = elim (cases_Bool (n == 2 ^ 32 - 1)) [
+  | inl none ↦ rw none (sym (eqb-true n (2 ^ 32 - 1) none))
+  | inr arc ↦ rw arc refl
+]
 
 owner_code : (n : ℕ) → code_of_owner (owner_of_code n) ≡ n
 owner_code zero = refl

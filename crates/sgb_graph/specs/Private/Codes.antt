@@ -1,18 +1,17 @@
 -- Links, owners and tips as numbers.
-use Rattle.std.specs.Prelude.{ℕ, zero, suc, Option, Some, None}
+use Rattle.std.specs.Prelude.{ℕ, zero, suc, ◌-◌, ◌^◌, ◌==◌, if◌then◌else◌, Option, Some, None}
 use Rattle.sgb_graph.specs.declared.field.ArcNo.{ArcNo}
 use Rattle.sgb_graph.specs.declared.field.VertexNo.{VertexNo}
 use Rattle.sgb_graph.specs.declared.field.Tip.{Tip}
 use Rattle.sgb_graph.specs.declared.field.Tip.TheVariants as tips
 
--- none, and then the arcs
+-- the arcs, and none behind them all
 abbrev pub link_of : ℕ → Option ArcNo
-link_of zero = None
-link_of (suc k) = Some (record { 0 = k })
+link_of k = if k == 2 ^ 32 - 1 then None else Some (record { 0 = k })
 
 abbrev pub code_of_link : Option ArcNo → ℕ
-code_of_link None = 0
-code_of_link (Some k) = suc k.0
+code_of_link None = 2 ^ 32 - 1
+code_of_link (Some k) = k.0
 
 -- none, and then the vertices
 abbrev pub owner_of_code : ℕ → Option VertexNo

@@ -6,10 +6,13 @@ ghost use Rattle.sgb_graph.specs.Graph.{IsTip};
 use crate::{ArcNo, Tip, VertexNo};
 use std::marker::Model;
 
+/// The code of no arc: a walk so follows a list without a sum for each arc.
+const NONE: u32 = u32::MAX;
+
 /// A link to an arc, or to none.
 #[derive(Clone, Copy)]
 pub(crate) struct Link {
-    // 0, or the arc's number and 1.
+    // The arc's number, or what is none's.
     code: u32,
 }
 
@@ -35,7 +38,7 @@ impl Link {
     pub fn none() -> Link
         ensures { result ≡ None }
     {
-        Link { code: 0 }
+        Link { code: NONE }
     }
 
     #[inline]
@@ -43,17 +46,17 @@ impl Link {
         requires { number.0 ≤ 1000000 }
         ensures { result ≡ Some number }
     {
-        Link { code: number.0 + 1 }
+        Link { code: number.0 }
     }
 
     #[inline]
     pub fn get(self) -> Option<ArcNo>
         ensures { result ≡ self }
     {
-        if self.code == 0 {
+        if self.code == NONE {
             None
         } else {
-            Some(ArcNo(self.code - 1))
+            Some(ArcNo(self.code))
         }
     }
 }

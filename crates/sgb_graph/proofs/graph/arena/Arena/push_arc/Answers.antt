@@ -1,6 +1,6 @@
 use Rattle.sgb_graph.proofs.Aimed.{aimed-joined}
 use Rattle.sgb_graph.specs.Builder.{insertion}
-use Rattle.std.proofs.Common.{◌+◌, arith, subst, true, false, map, ◌∷◌, []}
+use Rattle.std.proofs.Common.{◌+◌, arith, subst, true, ◌∷◌, []}
 use Rattle.std.proofs.lemmas.Result.{err_from_is_err_and}
 use Rattle.sgb_graph.specs.Private.Insert.{IsRefusedAt}
 use Rattle.sgb_graph.proofs.Cells.{many_slots}

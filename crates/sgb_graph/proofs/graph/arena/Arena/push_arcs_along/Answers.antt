@@ -1,5 +1,5 @@
 use Rattle.sgb_graph.proofs.Aimed.{aimed-joined}
-use Rattle.std.proofs.Common.{arith, length, map, true, ◌+◌, subst, false, ◌∷◌, []}
+use Rattle.std.proofs.Common.{arith, length, map, true, ◌+◌, subst}
 use Rattle.std.proofs.lemmas.Result.{err_from_is_err_and}
 use Rattle.sgb_graph.specs.Builder.{along}
 use Rattle.sgb_graph.specs.Private.Insert.{IsRefusedAt}

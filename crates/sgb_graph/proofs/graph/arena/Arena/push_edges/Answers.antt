@@ -1,5 +1,5 @@
 use Rattle.sgb_graph.proofs.Aimed.{aimed-joined}
-use Rattle.std.proofs.Common.{ℤ, List, arith, ap, ◌∙◌, false, to_z, of_z, ◌+◌, ◌*◌, ◌-◌, subst, true, map, ◌∷◌, []}
+use Rattle.std.proofs.Common.{ℤ, List, arith, ap, ◌∙◌, false, to_z, of_z, ◌+◌, ◌*◌, ◌-◌, subst}
 use Rattle.std.specs.Int.{w64}
 use Rattle.std.proofs.lemmas.Int.{to_z-of_z}
 use Rattle.std.proofs.lemmas.Result.{err_from_is_err_and}
