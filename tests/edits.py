@@ -28,7 +28,7 @@ import sys
 import tempfile
 import threading
 import time
-from concurrent.futures import Future, ThreadPoolExecutor
+from concurrent.futures import Future, ThreadPoolExecutor, wait
 
 # What one check takes, at most: of memory, and of the disk on which its copy lies.
 MEMORY = 3_000_000_000
@@ -41,6 +41,8 @@ FIRST = -AT_ONCE - 1
 STARTING = threading.Lock()
 # By crate, the names of its functions, where a first check told them.
 TOLD = {}
+# By crate, the seconds of processor that each of its checks took.
+TOOK = {}
 
 NAME = re.compile(r'\w+-[\w-]+\.edit')
 FUNCTION = re.compile(r'( *)(?:pub(?:\([^)]*\))? )?(?:\w+ )*fn (\w+)')
@@ -297,10 +299,14 @@ def rattle(crate, folder, flags):
     with subprocess.Popen([*GUARD, rtlib.RATTLE, *words], cwd=folder, stdin=subprocess.DEVNULL, stdout=subprocess.PIPE,
                           stderr=subprocess.STDOUT, text=True, errors='replace') as ran, ThreadPoolExecutor(1) as beside:
         heard = beside.submit(hear, ran.stdout)
-        while not has_verdicts(stages) and not has_ended(ran):
+        while not has_verdicts(stages) and not wait([heard], 0.1).done:
             pass
         opens_no_more(ran.pid)
-        return heard.result()
+        said = heard.result()
+        _, status, used = os.wait4(ran.pid, 0)
+        ran.returncode = os.waitstatus_to_exitcode(status)
+    TOOK.setdefault(crate.name, []).append(used.ru_utime + used.ru_stime)
+    return said
 
 
 def hear(lines):
@@ -313,14 +319,6 @@ def hear(lines):
         else:
             said.append(line)
     return ''.join(said), spent
-
-
-def has_ended(ran):
-    """Whether a command ends within a short time."""
-    try:
-        return ran.wait(0.1) is not None
-    except subprocess.TimeoutExpired:
-        return False
 
 
 def has_verdicts(stages):
@@ -379,16 +377,16 @@ def try_alone(edit):
 
 
 def try_group(edits, is_first=False, flags=()):
-    """Tries the edits of a group, and returns what came of each, with the number of checks."""
+    """Tries the edits of a group, and returns what came of each."""
     crate = edits[0].crate
     flags = flags or only(crate, edits)
     if len(edits) == 1 and not is_first and not flags:
-        return {edits[0]: try_alone(edits[0])}, 1
+        return {edits[0]: try_alone(edits[0])}
     said, left = check(crate, edits, flags, is_first)
     if is_first and not TOLD[crate.name]:
         # (a name fits several functions, say: then all are checked)
         said, left = check(crate, edits, (), is_first)
-    found, checks = {}, 1
+    found = {}
     if said.unread:
         broken = [it for it in edits if any(said.unread.startswith((at + ':', './%s:' % at)) for at in it.places)]
         rest = [it for it in edits if it not in broken]
@@ -398,10 +396,8 @@ def try_group(edits, is_first=False, flags=()):
         found = {it: told for it, told in judged.items() if told[0]}
         halves = [[it] for it in edits if it not in found]
     for half in filter(None, halves):
-        more, count = ({half[0]: try_alone(half[0])}, 1) if len(edits) == 1 else try_group(half)
-        found.update(more)
-        checks += count
-    return found, checks
+        found.update({half[0]: try_alone(half[0])} if len(edits) == 1 else try_group(half))
+    return found
 
 
 def prove(crate):
@@ -464,11 +460,6 @@ class Lanes:
                 result.set_exception(error)
 
 
-def timed(call, *given):
-    start = time.time()
-    return call(*given), time.time() - start
-
-
 class Tally:
     """How many edits were refused as they must be, told a line a crate."""
 
@@ -483,25 +474,25 @@ class Tally:
                 print('%s: %s%s' % (label, 'refused, as it must be: ' if well else '', why), flush=True)
 
     def make_ready(self, crate):
-        """Proves a crate, or waits until another run has proved those below it; returns whether that is done, and the seconds it took."""
+        """Proves a crate, or waits until another run has proved those below it; returns whether that is done."""
         if self.proved:
-            return all(self.proved.await_name(it.name) for it in crate.below()), 0
+            return all(self.proved.await_name(it.name) for it in crate.below())
         with self.proving:
-            return timed(prove, crate)
+            return prove(crate)
 
     def is_proved(self, crate):
         """Whether a crate that was made ready is proved, or will be by another run."""
         return not self.proved or self.proved.await_name(crate.name)
 
     def try_groups(self, crate, groups):
-        """Tries groups of edits, and returns what came of each with the seconds it took."""
+        """Tries groups of edits, and returns what came of each."""
         tried = []
         if self.proved and groups:
             os.makedirs(kept(crate), exist_ok=True)
             flags = only_edited(groups)
-            tried.append(self.lanes.submit(FIRST, timed, try_group, groups.pop(0), True, flags))
+            tried.append(self.lanes.submit(FIRST, try_group, groups.pop(0), True, flags))
             tried[0].result()
-        tried += [self.lanes.submit(rank_of(it), timed, try_group, it) for it in groups]
+        tried += [self.lanes.submit(rank_of(it), try_group, it) for it in groups]
         return [it.result() for it in tried]
 
     def try_crate(self, crate, files):
@@ -512,22 +503,21 @@ class Tally:
         for it in [it for it in edits if it.why]:
             self.tell(False, it.label, it.why)
         good = [it for it in edits if not it.why]
-        is_ready, took = self.make_ready(crate) if good else (True, 0)
+        is_ready = not good or self.make_ready(crate)
         # (the first check proves what it needs of the crate itself, so it does not wait for another run's proof of that)
         tried = self.try_groups(crate, groups_of(good)) if is_ready else []
         if good and not (is_ready and self.is_proved(crate)):
             self.tell(False, crate.name, 'the crate is not proved, so its %d edits show nothing' % len(good))
             return
-        checks, spent, refused = 0, 0, 0
-        for (found, more), time_taken in tried:
-            checks, spent = checks + more, spent + time_taken
+        refused, took = 0, TOOK.get(crate.name, [])
+        for found in tried:
             for edit, (well, why) in sorted(found.items(), key=lambda it: it[0].label):
                 self.tell(well, edit.label, why)
                 refused += well
         if edits or unread:
             with self.telling:
-                print('%s: %d of %d edits refused, %d checks of %.0f s in all, after %.0f s for its proof'
-                      % (crate.name, refused, len(edits) + len(unread), checks, spent, took), flush=True)
+                print('%s: %d of %d edits refused, by %d checks of %.0f s of processor, the longest of %.0f s'
+                      % (crate.name, refused, len(edits) + len(unread), len(took), sum(took), max(took, default=0)), flush=True)
 
     def try_all(self, crates, files):
         """Tries the edits of the crates, lowest first, or as those below them are proved."""

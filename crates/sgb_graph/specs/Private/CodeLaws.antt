@@ -1,5 +1,5 @@
 -- A number is told by the link, the owner or the tip that it stands for.
-use Rattle.std.specs.Prelude.{◌≡◌, ℕ, zero, suc, ◌-◌, ◌^◌, ◌==◌}
+use Rattle.std.specs.Prelude.{◌≡◌, ℕ, ◌-◌, ◌^◌, ◌==◌}
 use Rattle.std.proofs.Common.{refl, ap, sym, inl, inr}
 use Rattle.std.proofs.lemmas.Bool.{cases_Bool, eqb-true}
 use Rattle.sgb_graph.specs.declared.graph.codes.Link.TheInside as link
@@ -14,13 +14,19 @@ link_code n = elim (cases_Bool (n == 2 ^ 32 - 1)) [
 ]
 
 owner_code : (n : ℕ) → code_of_owner (owner_of_code n) ≡ n
-owner_code zero = refl
-owner_code (suc v) = refl
+owner_code n = elim (cases_Bool (n == 2 ^ 32 - 1)) [
+  | inl none ↦ rw none (sym (eqb-true n (2 ^ 32 - 1) none))
+  | inr vertex ↦ rw vertex refl
+]
 
 tip_code : (n : ℕ) → code_of_tip (tip_of n) ≡ n
-tip_code zero = refl
-tip_code (suc zero) = refl
-tip_code (suc (suc v)) = refl
+tip_code n = elim (cases_Bool (n == 2 ^ 32 - 1)) [
+  | inl is_zero ↦ rw is_zero (sym (eqb-true n (2 ^ 32 - 1) is_zero))
+  | inr other ↦ rw other (elim (cases_Bool (n == 2 ^ 32 - 2)) [
+    | inl is_one ↦ rw is_one (sym (eqb-true n (2 ^ 32 - 2) is_one))
+    | inr vertex ↦ rw vertex refl
+  ])
+]
 
 pub link_back : (a : link.Inside) → record { code = code_of_link (link_of a.code) } ≡ a
 link_back a = ap (λ n. record { code = n }) (link_code a.code)

@@ -6,8 +6,15 @@ ghost use Rattle.sgb_graph.specs.Graph.{IsTip};
 use crate::{ArcNo, Tip, VertexNo};
 use std::marker::Model;
 
-/// The code of no arc: a walk so follows a list without a sum for each arc.
+/// The code of no arc, and of no owner. What is no number has a code behind all numbers, which are so kept as they are:
+/// an arc is made, and a walk follows a list, without a sum for each.
 const NONE: u32 = u32::MAX;
+
+/// The code of the tip `Zero`.
+const ZERO: u32 = u32::MAX;
+
+/// The code of the tip `One`.
+const ONE: u32 = u32::MAX - 1;
 
 /// A link to an arc, or to none.
 #[derive(Clone, Copy)]
@@ -64,7 +71,7 @@ impl Link {
 /// The owner of an arc, or none.
 #[derive(Clone, Copy)]
 pub(crate) struct OwnerCode {
-    // 0, or the vertex's number and 1.
+    // The vertex's number, or what is none's.
     code: u32,
 }
 
@@ -90,7 +97,7 @@ impl OwnerCode {
     pub fn none() -> OwnerCode
         ensures { result ≡ None }
     {
-        OwnerCode { code: 0 }
+        OwnerCode { code: NONE }
     }
 
     #[inline]
@@ -98,17 +105,17 @@ impl OwnerCode {
         requires { vertex.0 < 65535 }
         ensures { result ≡ Some vertex }
     {
-        OwnerCode { code: vertex.0 + 1 }
+        OwnerCode { code: vertex.0 }
     }
 
     #[inline]
     pub fn get(self) -> Option<VertexNo>
         ensures { result ≡ self }
     {
-        if self.code == 0 {
+        if self.code == NONE {
             None
         } else {
-            Some(VertexNo(self.code - 1))
+            Some(VertexNo(self.code))
         }
     }
 }
@@ -116,7 +123,7 @@ impl OwnerCode {
 /// A tip.
 #[derive(Clone, Copy)]
 pub(crate) struct TipCode {
-    // 0, 1, or the vertex's number and 2.
+    // The vertex's number, or what is zero's or one's.
     code: u32,
 }
 
@@ -143,9 +150,9 @@ impl TipCode {
         ensures { result ≡ tip }
     {
         match tip {
-            Tip::Zero => TipCode { code: 0 },
-            Tip::One => TipCode { code: 1 },
-            Tip::To(vertex) => TipCode { code: vertex.0 + 2 },
+            Tip::Zero => TipCode { code: ZERO },
+            Tip::One => TipCode { code: ONE },
+            Tip::To(vertex) => TipCode { code: vertex.0 },
         }
     }
 
@@ -153,10 +160,12 @@ impl TipCode {
     pub fn get(self) -> Tip
         ensures { result ≡ self }
     {
-        match self.code {
-            0 => Tip::Zero,
-            1 => Tip::One,
-            code => Tip::To(VertexNo(code - 2)),
+        if self.code == ZERO {
+            Tip::Zero
+        } else if self.code == ONE {
+            Tip::One
+        } else {
+            Tip::To(VertexNo(self.code))
         }
     }
 }
