@@ -136,8 +136,8 @@ def make(room):
 
 
 def run(room, *flags):
-    """The lines of a run that tell of edits, without its times and checks, and whether it passed. The crates `tiny` and `upper` are named to it as
-    ones that are proved."""
+    """The lines of a run that tell of edits, without its times and checks, and whether it passed. The crates `tiny` and `upper`
+    are named to it as ones that are proved."""
     ran = subprocess.run([sys.executable, EDITS, '-v', *flags], cwd=room, input='tiny\nupper\n', stdout=subprocess.PIPE,
                          stderr=subprocess.STDOUT, errors='replace', encoding='utf-8')
     lines = re.sub(r'[\d.]+ (s|checks)\b', r'_ \1', ran.stdout).splitlines()
