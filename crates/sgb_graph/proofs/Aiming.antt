@@ -41,10 +41,10 @@ entry_aim t z (Some s) None same live = absurd cc
 entry_aim t z (Some s) (Some e) same live = ap (λ o. Some (record (arc_or no_arc o) { tip = t; len = z })) same
 
 pub aim_opened : (a b : Inside) (g : GraphOf) (k : ℕ) (t : Tip) (z : ℤ) → Opened a g → has_arc g k ≡ true → IsTip (n_of g) t → FitsSigned w64 z
-    → b.id ≡ a.id → b.types ≡ a.types → b.fields ≡ a.fields → b.live ≡ a.live → b.vertices ≡ a.vertices
+    → b.id ≡ a.id → b.types ≡ a.types → b.fields ≡ a.fields → b.holes ≡ a.holes → b.vertices ≡ a.vertices
     → b.slots ≡ set a.slots k (with_aim_in t z (slot_at a.slots k)) → Opened b (with_aim g k t z)
 unfolding with_aim
-aim_opened a b g k t z o there leads fits id types fields live vertices slots =
+aim_opened a b g k t z o there leads fits id types fields holes vertices slots =
     let h = with_aim g k t z in
     let sound = o.graph in
     let low : k < made_of g = made_of_live g k there in
@@ -106,10 +106,10 @@ aim_opened a b g k t z o there leads fits id types fields live vertices slots =
         few_arcs = omega (arith, made, sound.few_arcs);
       };
       shows = rw (vertices, slots) shown;
-      live =
+      holes =
           (let s = sum_by-set one g.entries k (Some y) None low in
           let was : one (get_or g.entries k None) ≡ 1 = ap one entry in
-          omega (arith, live, o.live, s, was));
+          omega (arith, holes, o.holes, s, was, made));
       id = id ∙ o.id;
       types = types ∙ o.types;
       fields = fields ∙ o.fields;
@@ -147,13 +147,13 @@ pub record AimDone (b : Inside) (g : GraphOf) (k : ℕ) (t : Tip) (z : ℤ) : Ty
   pub sound : IsGraph (graph_of b)
 
 pub aim_done : (a b : Inside) (g : GraphOf) (k : ℕ) (t t' : Tip) (z z' : ℤ) → graph_of a ≡ g → IsArena a → has_arc g k ≡ true → can_lead (n_of g) t ≡ true → FitsSigned w64 z → t' ≡ t → z' ≡ z
-    → b.id ≡ a.id → b.types ≡ a.types → b.fields ≡ a.fields → b.live ≡ a.live → b.vertices ≡ a.vertices
+    → b.id ≡ a.id → b.types ≡ a.types → b.fields ≡ a.fields → b.holes ≡ a.holes → b.vertices ≡ a.vertices
     → b.slots ≡ set a.slots k (with_aim_in t' z' (slot_at a.slots k)) → AimDone b g k t z
-aim_done a b g k t t' z z' same arena there leads fits tip len id types fields live vertices slots =
+aim_done a b g k t t' z z' same arena there leads fits tip len id types fields holes vertices slots =
     let o = opened a g same arena in
     let made : b.slots ≡ set a.slots k (with_aim_in t z (slot_at a.slots k)) =
     slots ∙ (ap (λ x. set a.slots k (with_aim_in x z' (slot_at a.slots k))) tip ∙ ap (λ y. set a.slots k (with_aim_in t y (slot_at a.slots k))) len) in
-    let after = aim_opened a b g k t z o there (leads_true (n_of g) t leads) fits id types fields live vertices made in
+    let after = aim_opened a b g k t z o there (leads_true (n_of g) t leads) fits id types fields holes vertices made in
     let is : graph_of b ≡ with_aim g k t z = closed b (with_aim g k t z) after in
     let arena' = closed_arena b (with_aim g k t z) after in
     record { arena = arena'; graph = is; names = subst (SameNames g) (sym is) (names-with_aim g k t z there); sound = arena'.graph }

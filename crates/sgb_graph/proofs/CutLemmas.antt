@@ -33,8 +33,8 @@ use Rattle.sgb_graph.specs.Private.Insert.{new_cut}
 use Rattle.sgb_graph.proofs.PutBack.{put_entry_same, put_names}
 use Rattle.sgb_graph.proofs.Sound.{hole_unnamed}
 use Rattle.sgb_graph.proofs.Laws.{cut_can, with_cut_arc-without_arc, without_arc-with_cut_arc}
-use Rattle.sgb_graph.proofs.InsertLemmas.{SameOwn, put_after}
-use Rattle.sgb_graph.proofs.TakeOut.{found_live, take_sound, take_m}
+use Rattle.sgb_graph.proofs.InsertLemmas.{SameOwn, put_after, one_less}
+use Rattle.sgb_graph.proofs.TakeOut.{found_live, take_sound, take_m, take_made}
 
 -- what `cut` knows before it takes the arc out
 pub record CutCan (a : Inside) (g : GraphOf) (k : ℕ) (vs : List Vertex) (ss : Slots) : Type 0 where
@@ -55,9 +55,9 @@ pub record CutLeft (b : Inside) (g : GraphOf) (k : ℕ) (c : CutArc) : Type 0 wh
   pub sound : IsGraph (graph_of b)
 
 pub cut_left : (a b : Inside) (g : GraphOf) (k : ℕ) (c : CutArc) (vs ws : List Vertex) (ss ts : Slots) → CutCan a g k vs ss → refusal_of_cut g k ≡ None
-    → TakesOut vs ss k c ws ts → b.vertices ≡ ws → b.slots ≡ ts → b.live ≡ a.live - 1 → SameOwn a b → CutLeft b g k c
+    → TakesOut vs ss k c ws ts → b.vertices ≡ ws → b.slots ≡ ts → b.holes ≡ a.holes + 1 → SameOwn a b → CutLeft b g k c
 unfolding without_arc without_listed
-cut_left a b g k c vs ws ss ts x accepted takes vertices slots live own =
+cut_left a b g k c vs ws ss ts x accepted takes vertices slots holes own =
     let o = x.opened in
     let h = without_arc g k in
     let shown : Shows vs ss g = rw (x.vertices, x.slots) o.shows in
@@ -66,7 +66,7 @@ cut_left a b g k c vs ws ss ts x accepted takes vertices slots live own =
     let after : Opened b h = record {
       graph = take_sound g k o.graph x.can f;
       shows = rw (vertices, slots) t.1;
-      live = omega (arith, live, o.live, take_m g k f);
+      holes = omega (arith, holes, o.holes, take_m g k f, take_made g k);
       id = own.id ∙ o.id;
       types = own.types ∙ o.types;
       fields = own.fields ∙ o.fields;
@@ -155,8 +155,8 @@ revert_cut_requires a h c vs ss g x left =
     record { graph = h; sound = x.opened.graph; shows = rw (x.vertices, x.slots) x.opened.shows; can = revert_cut_can g h c left }
 
 pub revert_cut_after : (a b : Inside) (h : GraphOf) (c : CutArc) (vs ws : List Vertex) (ss ts : Slots) (g : GraphOf) → RevertCan a h vs ss → LeftByCut g c h
-    → PutsBack vs ss c ws ts → b.vertices ≡ ws → b.slots ≡ ts → b.live ≡ a.live + 1 → SameOwn a b → Opened b g
-revert_cut_after a b h c vs ws ss ts g x left puts vertices slots live own =
+    → PutsBack vs ss c ws ts → b.vertices ≡ ws → b.slots ≡ ts → b.holes ≡ a.holes - 1 → SameOwn a b → Opened b g
+revert_cut_after a b h c vs ws ss ts g x left puts vertices slots holes own =
     let o = x.opened in
     let can = cut_taken g h c left in
     let f = found_live g c.number.0 left.graph can.live in
@@ -164,7 +164,7 @@ revert_cut_after a b h c vs ws ss ts g x left puts vertices slots live own =
     ap (λ k. with_cut_arc k c) left.left ∙ (ap (with_cut_arc (without_arc g c.number.0)) left.arc ∙ with_cut_arc-without_arc g c.number.0 f) in
     let shows : Shows b.vertices b.slots (with_cut_arc h c) = rw (vertices, slots) (puts h (rw (x.vertices, x.slots) o.shows) o.graph (revert_cut_can g h c left)) in
     subst (Opened b) back
-    (put_after b h c o.graph (revert_cut_can g h c left) shows (live ∙ ap (λ n. n + 1) o.live) (own.id ∙ o.id) (own.types ∙ o.types) (own.fields ∙ o.fields))
+    (put_after b h c o.graph (revert_cut_can g h c left) shows (one_less a b h c o (revert_cut_can g h c left) holes) (own.id ∙ o.id) (own.types ∙ o.types) (own.fields ∙ o.fields))
 
 -- undoing a new arc
 pub arc_refused : (g : GraphOf) (u v : ℕ) → refusal_of_arc g u v ≡ None → (u < n_of g) × (v < n_of g) × (made_of g + 1 ≤ 1000000)
@@ -227,8 +227,8 @@ unfolding with_arc with_listed with_entry_last
 same_own g h k l = (ap (λ z. z.id) l.left, ap (λ z. z.types) l.left, ap (λ z. z.fields) l.left)
 
 pub revert_arc_after : (a b : Inside) (h : GraphOf) (k : ArcNo) (c : CutArc) (vs ws : List Vertex) (ss ts : Slots) (g : GraphOf) → RevertCan a h vs ss → LeftByArc g k h
-    → TakesOut vs ss k.0 c ws ts → b.vertices ≡ ws → b.slots ≡ take k.0 ts → b.live ≡ a.live - 1 → SameOwn a b → Opened b g
-revert_arc_after a b h k c vs ws ss ts g x l takes vertices slots live own =
+    → TakesOut vs ss k.0 c ws ts → b.vertices ≡ ws → b.slots ≡ take k.0 ts → b.holes ≡ a.holes → SameOwn a b → Opened b g
+revert_arc_after a b h k c vs ws ss ts g x l takes vertices slots holes own =
     let o = x.opened in
     let can = revert_arc_can g h k l in
     let f = found_live h k.0 o.graph can.live in
@@ -239,7 +239,7 @@ revert_arc_after a b h k c vs ws ss ts g x l takes vertices slots live own =
     record {
       graph = l.graph;
       shows = rw (vertices, slots, number) shown;
-      live = omega (arith, live, o.live, take_m h k.0 f, ap m_of law, hole_m g);
+      holes = omega (arith, holes, o.holes, take_m h k.0 f, take_made h k.0, ap m_of law, ap made_of law, hole_m g, hole_made g);
       id = own.id ∙ (o.id ∙ (same_own g h k l).0);
       types = own.types ∙ (o.types ∙ (same_own g h k l).1);
       fields = own.fields ∙ (o.fields ∙ (same_own g h k l).2);
@@ -319,14 +319,16 @@ pub same_own_edge : (g h : GraphOf) (k : ArcNo) → LeftByEdge g k h → (h.id �
 unfolding with_edge with_listed with_entry_last
 same_own_edge g h k l = (ap (λ z. z.id) l.left, ap (λ z. z.types) l.left, ap (λ z. z.fields) l.left)
 
-pub revert_edge_live : (g h : GraphOf) (k : ArcNo) → IsGraph h → LeftByEdge g k h → m_of h ≡ m_of g + 2
-revert_edge_live g h k sound l =
-    let y = revert_edge_can g h k l in
-    omega (arith, take_m h k.0 (found_live h k.0 sound y.can.live), take_m (without_arc h k.0) (k.0 + 1) (found_live (without_arc h k.0) (k.0 + 1) y.middle y.next.live), ap m_of y.law, hole_m g, hole_m (with_hole g))
+revert_edge_counts : (g h : GraphOf) (k : ArcNo) → IsGraph h → LeftByEdge g k h → (m_of h ≡ m_of g + 2) × (made_of h ≡ made_of g + 2)
+revert_edge_counts g h k sound l =
+    let y = revert_edge_can g h k l in (
+      omega (arith, take_m h k.0 (found_live h k.0 sound y.can.live), take_m (without_arc h k.0) (k.0 + 1) (found_live (without_arc h k.0) (k.0 + 1) y.middle y.next.live), ap m_of y.law, hole_m g, hole_m (with_hole g)),
+      omega (arith, take_made h k.0, take_made (without_arc h k.0) (k.0 + 1), ap made_of y.law, hole_made g, hole_made (with_hole g)),
+    )
 
 pub revert_edge_after : (a b : Inside) (h : GraphOf) (k : ArcNo) (vs ws : List Vertex) (ss ts : Slots) (g : GraphOf) → RevertCan a h vs ss → LeftByEdge g k h
-    → TakesOutBoth vs ss k.0 ws ts → b.vertices ≡ ws → b.slots ≡ take k.0 ts → b.live ≡ a.live - 2 → SameOwn a b → Opened b g
-revert_edge_after a b h k vs ws ss ts g x l takes vertices slots live own =
+    → TakesOutBoth vs ss k.0 ws ts → b.vertices ≡ ws → b.slots ≡ take k.0 ts → b.holes ≡ a.holes → SameOwn a b → Opened b g
+revert_edge_after a b h k vs ws ss ts g x l takes vertices slots holes own =
     let o = x.opened in
     let y = revert_edge_can g h k l in
     let t : Shows ws ts (with_hole (with_hole g)) = subst (Shows ws ts) y.law (takes h (rw (x.vertices, x.slots) o.shows) o.graph y.can y.next) in
@@ -337,7 +339,7 @@ revert_edge_after a b h k vs ws ss ts g x l takes vertices slots live own =
     record {
       graph = l.graph;
       shows = rw (vertices, slots, number) shown;
-      live = omega (arith, live, o.live, revert_edge_live g h k o.graph l);
+      holes = omega (arith, holes, o.holes, (revert_edge_counts g h k o.graph l).0, (revert_edge_counts g h k o.graph l).1);
       id = own.id ∙ (o.id ∙ (same_own_edge g h k l).0);
       types = own.types ∙ (o.types ∙ (same_own_edge g h k l).1);
       fields = own.fields ∙ (o.fields ∙ (same_own_edge g h k l).2);

@@ -81,10 +81,10 @@ new_arcs g x v none =
 
 pub grow_opened : (a b : Inside) (g : GraphOf) (label : List ℕ) (us : List Util) (y : vertex.Vertex) → Opened a g → n_of g < 65535 → IsText label → length (map stored us) ≡ 6 → All NamesNothing us → All IsStorable (map stored us)
     → y ≡ record { label = label; fields = map stored us; first = None }
-    → b.id ≡ a.id → b.types ≡ a.types → b.fields ≡ a.fields → b.live ≡ a.live → b.slots ≡ a.slots → b.vertices ≡ a.vertices ++ y ∷ []
+    → b.id ≡ a.id → b.types ≡ a.types → b.fields ≡ a.fields → b.holes ≡ a.holes → b.slots ≡ a.slots → b.vertices ≡ a.vertices ++ y ∷ []
     → Opened b (with_vertex_last g (new_vertex label us))
 unfolding with_vertex_last Leads
-grow_opened a b g label us y o few text six plain storable is id types fields live slots vertices =
+grow_opened a b g label us y o few text six plain storable is id types fields holes slots vertices =
     let x = new_vertex label us in
     let h = with_vertex_last g x in
     let sound = o.graph in
@@ -133,7 +133,7 @@ grow_opened a b g label us y o few text six plain storable is id types fields li
         few_arcs = sound.few_arcs;
       };
       shows = rw (vertices, slots, is) shown;
-      live = live ∙ o.live;
+      holes = rw holes o.holes;
       id = id ∙ o.id;
       types = types ∙ o.types;
       fields = fields ∙ o.fields;

@@ -1,6 +1,7 @@
 -- Lemmas on what a new arc or edge leaves of the fields.
-use Rattle.std.proofs.Common.{◌≡◌, ◌<◌, ◌+◌, ℤ, List, [], ◌∷◌, ◌++◌, None, sym, ap, subst, ◌∙◌, arith, min, max, FitsSigned}
+use Rattle.std.proofs.Common.{◌≡◌, ◌<◌, ◌≤◌, ◌+◌, ◌-◌, ℤ, List, [], ◌∷◌, ◌++◌, None, sym, ap, subst, ◌∙◌, arith, min, max, is_some, FitsSigned}
 use Rattle.std.specs.Int.{w64}
+use Rattle.std.proofs.lemmas.List.Sums.{count_by-le-length}
 use Rattle.sgb_graph.specs.declared.field.VertexNo.{VertexNo}
 use Rattle.sgb_graph.specs.declared.field.ArcNo.{ArcNo}
 use Rattle.sgb_graph.specs.declared.graph.Vertex.{Vertex}
@@ -14,7 +15,7 @@ use Rattle.sgb_graph.specs.Field.{arc_no}
 use Rattle.sgb_graph.specs.Private.Link.{CanPutBack, PutsBack}
 use Rattle.sgb_graph.specs.Delta.{LeftByArc, LeftByEdge}
 use Rattle.sgb_graph.proofs.Shows.{Opened, closed, closed_arena}
-use Rattle.sgb_graph.proofs.PutBack.{put_sound, put_m}
+use Rattle.sgb_graph.proofs.PutBack.{put_sound, put_m, put_made}
 use Rattle.sgb_graph.specs.Private.Holes.{with_hole}
 use Rattle.sgb_graph.proofs.Holes.{hole_made, hole_m, hole_sound, hole_shows, with_arc_is, new_can, arc_accepted, first_cut, second_cut, first_can, second_can, with_edge_is, edge_accepted}
 
@@ -24,15 +25,24 @@ pub record SameOwn (a b : Inside) : Type 0 where
   pub types : b.types ≡ a.types
   pub fields : b.fields ≡ a.fields
 
+-- where an arc can be put back there is a hole, and then one less
+pub some_hole : (a : Inside) (h : GraphOf) (c : CutArc) → Opened a h → CanPutBack h c → 0 < a.holes
+some_hole a h c o can =
+    let few : m_of (with_cut_arc h c) ≤ made_of (with_cut_arc h c) = count_by-le-length is_some (with_cut_arc h c).entries in
+    omega (arith, few, o.holes, put_m h c can, put_made h c)
+
+pub one_less : (a b : Inside) (h : GraphOf) (c : CutArc) → Opened a h → CanPutBack h c → b.holes ≡ a.holes - 1 → b.holes + (m_of h + 1) ≡ made_of h
+one_less a b h c o can holes = omega (arith, holes, some_hole a h c o can, o.holes)
+
 -- fields that show the graph h with an arc put back
-pub put_after : (b : Inside) (h : GraphOf) (c : CutArc) → IsGraph h → CanPutBack h c → Shows b.vertices b.slots (with_cut_arc h c) → b.live ≡ m_of h + 1
+pub put_after : (b : Inside) (h : GraphOf) (c : CutArc) → IsGraph h → CanPutBack h c → Shows b.vertices b.slots (with_cut_arc h c) → b.holes + (m_of h + 1) ≡ made_of h
     → b.id ≡ h.id → b.types ≡ h.types → b.fields ≡ h.fields → Opened b (with_cut_arc h c)
 unfolding with_cut_arc with_listed
-put_after b h c sound can shows live id types fields =
+put_after b h c sound can shows holes id types fields =
     record {
       graph = put_sound h c sound can;
       shows = shows;
-      live = live ∙ sym (put_m h c can);
+      holes = omega (arith, holes, put_m h c can, put_made h c);
       id = id;
       types = types;
       fields = fields;
@@ -58,14 +68,14 @@ new_arc_can a g u v z c vs ss k = (
 )
 
 pub new_arc_after : (a b : Inside) (g : GraphOf) (u v : VertexNo) (z : ℤ) (c : CutArc) (vs ws : List Vertex) (ss ts : Slots) → NewArcCan a g u v z c vs ss
-    → PutsBack vs ss c ws ts → b.vertices ≡ ws → b.slots ≡ ts → b.live ≡ a.live + 1 → SameOwn a b → Opened b (with_arc g u.0 v.0 z)
-new_arc_after a b g u v z c vs ws ss ts k puts vertices slots live own =
+    → PutsBack vs ss c ws ts → b.vertices ≡ ws → b.slots ≡ ts → b.holes ≡ a.holes → SameOwn a b → Opened b (with_arc g u.0 v.0 z)
+new_arc_after a b g u v z c vs ws ss ts k puts vertices slots holes own =
     let x = new_arc_can a g u v z c vs ss k in
     let h = with_hole g in
     let shows : Shows b.vertices b.slots (with_cut_arc h c) = rw (vertices, slots) (puts h x.1 x.0 x.2) in
     let can = x.2 in
     let o = k.opened in
-    let after : Opened b (with_cut_arc h c) = put_after b h c x.0 can shows (live ∙ (ap (λ n. n + 1) (o.live ∙ sym (hole_m g)))) (own.id ∙ o.id) (own.types ∙ o.types) (own.fields ∙ o.fields) in
+    let after : Opened b (with_cut_arc h c) = put_after b h c x.0 can shows (omega (arith, holes, o.holes, hole_m g, hole_made g)) (own.id ∙ o.id) (own.types ∙ o.types) (own.fields ∙ o.fields) in
     subst (Opened b) (ap (with_cut_arc h) k.cut ∙ sym (with_arc_is g u.0 v.0 z)) after
 
 -- what `new_arc` leaves, clause by clause
@@ -130,15 +140,15 @@ new_edge_can a g u v z c d vs ss k =
     }
 
 pub new_edge_after : (a b : Inside) (g : GraphOf) (u v : VertexNo) (z : ℤ) (c d : CutArc) (vs ws : List Vertex) (ss ts : Slots) → NewEdgeCan a g u v z c d vs ss
-    → PutsBoth vs ss c d ws ts → b.vertices ≡ ws → b.slots ≡ ts → b.live ≡ a.live + 2 → SameOwn a b → Opened b (with_edge g u.0 v.0 z)
+    → PutsBoth vs ss c d ws ts → b.vertices ≡ ws → b.slots ≡ ts → b.holes ≡ a.holes → SameOwn a b → Opened b (with_edge g u.0 v.0 z)
 unfolding with_cut_arc with_listed
-new_edge_after a b g u v z c d vs ws ss ts k puts vertices slots live own =
+new_edge_after a b g u v z c d vs ws ss ts k puts vertices slots holes own =
     let x = new_edge_can a g u v z c d vs ss k in
     let h = with_hole (with_hole g) in
     let h1 = with_cut_arc h c in
     let shows : Shows b.vertices b.slots (with_cut_arc h1 d) = rw (vertices, slots) (puts h x.shows x.sound x.can x.next) in
     let o = k.opened in
-    let count : b.live ≡ m_of h1 + 1 = omega (arith, live, o.live, put_m h c x.can, hole_m g, hole_m (with_hole g)) in
+    let count : b.holes + (m_of h1 + 1) ≡ made_of h1 = omega (arith, holes, o.holes, put_m h c x.can, put_made h c, hole_m g, hole_m (with_hole g), hole_made g, hole_made (with_hole g)) in
     let after : Opened b (with_cut_arc h1 d) = put_after b h1 d (put_sound h c x.sound x.can) x.next shows count (own.id ∙ o.id) (own.types ∙ o.types) (own.fields ∙ o.fields) in
     subst (Opened b)
     (ap (λ y. with_cut_arc (with_cut_arc h y) d) k.second

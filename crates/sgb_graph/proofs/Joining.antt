@@ -139,7 +139,7 @@ pub record CanJoin (n : ℕ) (e : Insertion) : Type 0 where
 
 -- the first edge
 edge_first : (a : Inside) (g : GraphOf) (e : Insertion) → Opened a g → CanJoin (n_of g) e → made_of g + 1 < 1000000
-    → Opened (record a { vertices = (with_new_edge (both a.vertices a.slots) e).vertices; slots = (with_new_edge (both a.vertices a.slots) e).slots; live = a.live + 2 }) (with_edge g e.from e.to e.len)
+    → Opened (record a { vertices = (with_new_edge (both a.vertices a.slots) e).vertices; slots = (with_new_edge (both a.vertices a.slots) e).slots }) (with_edge g e.from e.to e.len)
 unfolding with_new_edge
 edge_first a g e o can few =
     let low : VertexNo = vertex_no (min e.from e.to) in
@@ -169,38 +169,38 @@ edge_first a g e o can few =
     let puts : PutsBoth vs (a.slots ++ None ∷ [] ++ None ∷ []) second first ws ts =
     edge_pushed vs us ws a.slots rs ts (arc_no k) low high z after_low after_high (new_slot low high after_low z) (new_slot high low after_high z)
     refl refl refl refl refl refl refl refl refl in
-    let b : Inside = record a { vertices = ws; slots = ts; live = a.live + 2 } in
+    let b : Inside = record a { vertices = ws; slots = ts } in
     let own : SameOwn a b = record { id = refl; types = refl; fields = refl } in
     new_edge_after a b g (vertex_no e.from) (vertex_no e.to) z second first vs ws _ ts c puts refl refl refl own
 
 -- the first arc or edge
 one_joined : (directed : Bool) (a : Inside) (g : GraphOf) (e : Insertion) → Opened a g → CanJoin (n_of g) e → made_of g + numbers_each directed ≤ 1000000
-    → Opened (record a { vertices = (joined directed (both a.vertices a.slots) e).vertices; slots = (joined directed (both a.vertices a.slots) e).slots; live = a.live + numbers_each directed }) (inserted directed g e)
+    → Opened (record a { vertices = (joined directed (both a.vertices a.slots) e).vertices; slots = (joined directed (both a.vertices a.slots) e).slots }) (inserted directed g e)
 unfolding joined inserted with_new_arc
 one_joined true a g e o can few = row_first a g (vertex_no e.from) e.len (length a.slots) e.to (vertex_in a.vertices e.from).first o can.from can.to (omega (arith, few)) can.fits refl refl
 one_joined false a g e o can few = edge_first a g e o can (omega (arith, few))
 
 -- all of them
 all_after : (directed : Bool) (es : List Insertion) (a b : Inside) (g : GraphOf) → Opened a g → All (CanJoin (n_of g)) es → made_of g + length es * numbers_each directed ≤ 1000000
-    → both b.vertices b.slots ≡ all_joined directed (both a.vertices a.slots) es → b.live ≡ a.live + length es * numbers_each directed → SameOwn a b → Opened b (with_all directed g es)
+    → both b.vertices b.slots ≡ all_joined directed (both a.vertices a.slots) es → b.holes ≡ a.holes → SameOwn a b → Opened b (with_all directed g es)
 unfolding with_all
-all_after directed [] a b g o can few is live own =
+all_after directed [] a b g o can few is holes own =
     let vertices : b.vertices ≡ a.vertices = ap (λ (x : Both). x.vertices) is in
     let slots : b.slots ≡ a.slots = ap (λ (x : Both). x.slots) is in
     record {
       graph = o.graph;
       shows = rw (vertices, slots) o.shows;
-      live = live ∙ (omega (arith, o.live));
+      holes = rw holes o.holes;
       id = own.id ∙ o.id;
       types = own.types ∙ o.types;
       fields = own.fields ∙ o.fields;
     }
-all_after directed (e ∷ es) a b g o can few is live own =
+all_after directed (e ∷ es) a b g o can few is holes own =
     let x = joined directed (both a.vertices a.slots) e in
-    let a' : Inside = record a { vertices = x.vertices; slots = x.slots; live = a.live + numbers_each directed } in
+    let a' : Inside = record a { vertices = x.vertices; slots = x.slots } in
     let first : Opened a' (inserted directed g e) = one_joined directed a g e o (can 0 e (omega arith)) (omega (arith, few)) in
     let rest : All (CanJoin (n_of (inserted directed g e))) es = λ i d h. subst (λ n. CanJoin n (get_or es i d)) (sym (n-inserted directed g e)) (can (suc i) d (omega (arith, h))) in
-    all_after directed es a' b (inserted directed g e) first rest (omega (arith, few, made-inserted directed g e)) is (omega (arith, live)) (record { id = own.id; types = own.types; fields = own.fields })
+    all_after directed es a' b (inserted directed g e) first rest (omega (arith, few, made-inserted directed g e)) is holes (record { id = own.id; types = own.types; fields = own.fields })
 
 -- what is left, clause by clause
 pub record AllDone (directed : Bool) (b : Inside) (g : GraphOf) (es : List Insertion) : Type 0 where
@@ -208,9 +208,9 @@ pub record AllDone (directed : Bool) (b : Inside) (g : GraphOf) (es : List Inser
   pub graph : graph_of b ≡ with_all directed g es
 
 pub all_done : (directed : Bool) (es : List Insertion) (a b : Inside) (g : GraphOf) → Opened a g → All (CanJoin (n_of g)) es → made_of g + length es * numbers_each directed ≤ 1000000
-    → both b.vertices b.slots ≡ all_joined directed (both a.vertices a.slots) es → b.live ≡ a.live + length es * numbers_each directed → SameOwn a b → AllDone directed b g es
-all_done directed es a b g o can few is live own =
-    let after = all_after directed es a b g o can few is live own in
+    → both b.vertices b.slots ≡ all_joined directed (both a.vertices a.slots) es → b.holes ≡ a.holes → SameOwn a b → AllDone directed b g es
+all_done directed es a b g o can few is holes own =
+    let after = all_after directed es a b g o can few is holes own in
     record { arena = closed_arena b _ after; graph = closed b _ after }
 
 -- a graph takes a row, and what spokes lead along
@@ -225,39 +225,39 @@ along_can : (n u : ℕ) (ss : List Spoke) → u < n → All (λ s. s.to < n) ss 
 along_can n u ss from to fits = All-map (CanJoin n) (along u) ss (λ i d h. record { from = from; to = to i d h; fits = fits i d h })
 
 pub row_joined : (a b : Inside) (g : GraphOf) (u first end count : ℕ) (z y : ℤ) → Opened a g → u < n_of g → end ≤ n_of g → FitsSigned w64 z → y ≡ z → count ≡ 2 * (end - first) → length a.slots + count ≤ 1000000
-    → both b.vertices b.slots ≡ all_joined false (both a.vertices a.slots) (row u first end y) → b.live ≡ a.live + count → SameOwn a b → AllDone false b g (row u first end z)
-row_joined a b g u first end count z y o from high fits same count_is few is live own =
+    → both b.vertices b.slots ≡ all_joined false (both a.vertices a.slots) (row u first end y) → b.holes ≡ a.holes → SameOwn a b → AllDone false b g (row u first end z)
+row_joined a b g u first end count z y o from high fits same count_is few is holes own =
     let es = row u first end z in
     let long : length es ≡ end - first = length-row u first end z in
     all_done false es a b g o (row_can (n_of g) u first end z from high fits) (omega (arith, few, o.shows.made, count_is, long))
-    (subst (λ x. both b.vertices b.slots ≡ all_joined false (both a.vertices a.slots) (row u first end x)) same is) (omega (arith, live, count_is, long)) own
+    (subst (λ x. both b.vertices b.slots ≡ all_joined false (both a.vertices a.slots) (row u first end x)) same is) holes own
 
 pub along_joined : (directed : Bool) (a b : Inside) (g : GraphOf) (u : ℕ) (ss : List Spoke) → Opened a g → u < n_of g → All (λ s. s.to < n_of g) ss → All (λ s. FitsSigned w64 s.len) ss
-    → length a.slots + length ss * numbers_each directed ≤ 1000000 → both b.vertices b.slots ≡ all_joined directed (both a.vertices a.slots) (map (along u) ss) → b.live ≡ a.live + length ss * numbers_each directed
+    → length a.slots + length ss * numbers_each directed ≤ 1000000 → both b.vertices b.slots ≡ all_joined directed (both a.vertices a.slots) (map (along u) ss) → b.holes ≡ a.holes
     → SameOwn a b → AllDone directed b g (map (along u) ss)
-along_joined directed a b g u ss o from to fits few is live own =
+along_joined directed a b g u ss o from to fits few is holes own =
     let long : length (map (along u) ss) ≡ length ss = length-map ss (along u) in
     let all : length (map (along u) ss) * numbers_each directed ≡ length ss * numbers_each directed = ap (λ n. n * numbers_each directed) long in
-    all_done directed (map (along u) ss) a b g o (along_can (n_of g) u ss from to fits) (omega (arith, few, o.shows.made, all)) is (omega (arith, live, all)) own
+    all_done directed (map (along u) ss) a b g o (along_can (n_of g) u ss from to fits) (omega (arith, few, o.shows.made, all)) is holes own
 
 -- a single one
 one_can : (n u v : ℕ) (z : ℤ) → u < n → v < n → FitsSigned w64 z → All (CanJoin n) (insertion u v z ∷ [])
 one_can n u v z from to fits = All-cons (CanJoin n) (insertion u v z) [] (record { from = from; to = to; fits = fits }) (All-nil (CanJoin n))
 
 pub arc_joined : (a b : Inside) (g : GraphOf) (u v : VertexNo) (z y : ℤ) (number : ArcNo) → Opened a g → u.0 < n_of g → v.0 < n_of g → FitsSigned w64 z → y ≡ z → length a.slots + 1 ≤ 1000000
-    → both b.vertices b.slots ≡ all_joined true (both a.vertices a.slots) (insertion u.0 v.0 y ∷ []) → b.live ≡ a.live + 1 → SameOwn a b → number ≡ arc_no (made_of g) → NewArcDone b g u v z number
+    → both b.vertices b.slots ≡ all_joined true (both a.vertices a.slots) (insertion u.0 v.0 y ∷ []) → b.holes ≡ a.holes → SameOwn a b → number ≡ arc_no (made_of g) → NewArcDone b g u v z number
 unfolding with_all inserted
-arc_joined a b g u v z y number o from to fits same few is live own number_is =
+arc_joined a b g u v z y number o from to fits same few is holes own number_is =
     let less : made_of g < 1000000 = omega (arith, few, o.shows.made) in
     arc_done b g u v z number o.graph from to less fits number_is
     (all_after true (insertion u.0 v.0 z ∷ []) a b g o (one_can (n_of g) u.0 v.0 z from to fits) (omega (arith, less))
-    (subst (λ x. both b.vertices b.slots ≡ all_joined true (both a.vertices a.slots) (insertion u.0 v.0 x ∷ [])) same is) live own)
+    (subst (λ x. both b.vertices b.slots ≡ all_joined true (both a.vertices a.slots) (insertion u.0 v.0 x ∷ [])) same is) holes own)
 
 pub edge_joined : (a b : Inside) (g : GraphOf) (u v : VertexNo) (z y : ℤ) (number : ArcNo) → Opened a g → u.0 < n_of g → v.0 < n_of g → FitsSigned w64 z → y ≡ z → length a.slots + 2 ≤ 1000000
-    → both b.vertices b.slots ≡ all_joined false (both a.vertices a.slots) (insertion u.0 v.0 y ∷ []) → b.live ≡ a.live + 2 → SameOwn a b → number ≡ arc_no (made_of g) → NewEdgeDone b g u v z number
+    → both b.vertices b.slots ≡ all_joined false (both a.vertices a.slots) (insertion u.0 v.0 y ∷ []) → b.holes ≡ a.holes → SameOwn a b → number ≡ arc_no (made_of g) → NewEdgeDone b g u v z number
 unfolding with_all inserted
-edge_joined a b g u v z y number o from to fits same few is live own number_is =
+edge_joined a b g u v z y number o from to fits same few is holes own number_is =
     let less : made_of g + 1 < 1000000 = omega (arith, few, o.shows.made) in
     edge_done b g u v z number o.graph from to less fits number_is
     (all_after false (insertion u.0 v.0 z ∷ []) a b g o (one_can (n_of g) u.0 v.0 z from to fits) (omega (arith, less))
-    (subst (λ x. both b.vertices b.slots ≡ all_joined false (both a.vertices a.slots) (insertion u.0 v.0 x ∷ [])) same is) live own)
+    (subst (λ x. both b.vertices b.slots ≡ all_joined false (both a.vertices a.slots) (insertion u.0 v.0 x ∷ [])) same is) holes own)

@@ -92,9 +92,9 @@ bare_shows vs id types bare =
     }
 
 -- the fields of a graph without arcs
-pub bare_opened : (a : Inside) → length a.vertices ≤ 65535 → IsId a.id → IsTypes a.types → All (IsBare (length a.vertices)) a.vertices → a.fields ≡ six_zeros → a.slots ≡ [] → a.live ≡ 0
+pub bare_opened : (a : Inside) → length a.vertices ≤ 65535 → IsId a.id → IsTypes a.types → All (IsBare (length a.vertices)) a.vertices → a.fields ≡ six_zeros → a.slots ≡ [] → a.holes ≡ 0
     → Opened a (bare_graph a.id a.types (map bare_vertex a.vertices))
-bare_opened a few id types bare fields slots live =
+bare_opened a few id types bare fields slots holes =
     let vs = a.vertices in
     let n : length (map bare_vertex vs) ≡ length vs = length-map vs bare_vertex in
     record {
@@ -111,7 +111,7 @@ bare_opened a few id types bare fields slots live =
         few_arcs = lit≤ tt;
       };
       shows = subst (λ ss. Shows vs ss (bare_graph a.id a.types (map bare_vertex vs))) (sym slots) (bare_shows vs a.id a.types bare);
-      live = live;
+      holes = rw holes refl;
       id = refl;
       types = refl;
       fields = fields;

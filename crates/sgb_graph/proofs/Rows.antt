@@ -98,7 +98,7 @@ pub record RowCan (a : Inside) (g : GraphOf) (u : VertexNo) (z : ℤ) (k to coun
 pub record RowAfter (a b : Inside) (u : VertexNo) (z : ℤ) (k to count : ℕ) (link : Option ArcNo) : Type 0 where
   pub slots : b.slots ≡ a.slots ++ map (slot_with two_zeros) (row_cells u z k to count link)
   pub vertices : b.vertices ≡ vertices_relinked a.vertices u.0 None (last_link k count link)
-  pub live : b.live ≡ a.live + count
+  pub holes : b.holes ≡ a.holes
   pub own : SameOwn a b
 
 abbrev pub row_from : VertexNo → ℕ → ℕ → ℤ → List Insertion
@@ -121,13 +121,13 @@ relinked_twice vs u link next low =
 
 -- the first arc of a row
 pub row_first : (a : Inside) (g : GraphOf) (u : VertexNo) (z : ℤ) (k to : ℕ) (link : Option ArcNo) → Opened a g → u.0 < n_of g → to < n_of g → made_of g < 1000000 → FitsSigned w64 z → k ≡ length a.slots → link ≡ (vertex_in a.vertices u.0).first
-    → Opened (record a { slots = a.slots ++ Some (new_slot u (record { 0 = to }) link z) ∷ []; vertices = vertices_relinked a.vertices u.0 None (Some (arc_no k)); live = a.live + 1 }) (with_arc g u.0 to z)
+    → Opened (record a { slots = a.slots ++ Some (new_slot u (record { 0 = to }) link z) ∷ []; vertices = vertices_relinked a.vertices u.0 None (Some (arc_no k)) }) (with_arc g u.0 to z)
 row_first a g u z k to link opened from below few fits number is =
     let v : VertexNo = record { 0 = to } in
     let cut = new_cut (arc_no k) u v z in
     let ws = vertices_relinked a.vertices u.0 None (Some (arc_no k)) in
     let ts : Slots = a.slots ++ Some (new_slot u v link z) ∷ [] in
-    let b : Inside = record a { slots = ts; vertices = ws; live = a.live + 1 } in
+    let b : Inside = record a { slots = ts; vertices = ws } in
     let can : NewArcCan a g u v z cut a.vertices (a.slots ++ None ∷ []) = record {
       opened = opened;
       from = from;
@@ -153,7 +153,7 @@ row_after zero a b g u z k to link can x =
     record {
       graph = o.graph;
       shows = rw (vertices, slots) o.shows;
-      live = x.live ∙ (omega (arith, o.live));
+      holes = rw x.holes o.holes;
       id = x.own.id ∙ o.id;
       types = x.own.types ∙ o.types;
       fields = x.own.fields ∙ o.fields;
@@ -163,7 +163,7 @@ row_after (suc count) a b g u z k to link can x =
     let s = new_slot u (record { 0 = to }) link z in
     let h = with_arc g u.0 to z in
     let below : u.0 < length a.vertices = omega (arith, can.from, o.shows.n) in
-    let a' : Inside = record a { slots = a.slots ++ Some s ∷ []; vertices = vertices_relinked a.vertices u.0 None (Some (arc_no k)); live = a.live + 1 } in
+    let a' : Inside = record a { slots = a.slots ++ Some s ∷ []; vertices = vertices_relinked a.vertices u.0 None (Some (arc_no k)) } in
     let rest = map (slot_with two_zeros) (row_cells u z (k + 1) (to + 1) count (Some (arc_no k))) in
     let next : RowCan a' h u z (k + 1) (to + 1) count (Some (arc_no k)) = record {
       opened = row_first a g u z k to link o can.from (omega (arith, can.below)) (omega (arith, can.few)) can.fits can.number can.begins;
@@ -178,7 +178,7 @@ row_after (suc count) a b g u z k to link can x =
     (record {
       slots = x.slots ∙ sym (append_assoc a.slots (Some s ∷ []) rest);
       vertices = x.vertices ∙ sym (relinked_twice a.vertices u.0 (Some (arc_no k)) (last_link (k + 1) count (Some (arc_no k))) below);
-      live = omega (arith, x.live);
+      holes = x.holes;
       own = record { id = x.own.id; types = x.own.types; fields = x.own.fields };
     })
 

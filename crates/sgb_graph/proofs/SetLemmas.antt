@@ -40,10 +40,10 @@ use Rattle.sgb_graph.specs.Delta.{LeftByLen, LeftByLabel}
 
 -- a label
 pub label_opened : (a b : Inside) (g : GraphOf) (v : ℕ) (t : List ℕ) → Opened a g → v < n_of g → IsText t
-    → b.id ≡ a.id → b.types ≡ a.types → b.fields ≡ a.fields → b.live ≡ a.live → b.slots ≡ a.slots
+    → b.id ≡ a.id → b.types ≡ a.types → b.fields ≡ a.fields → b.holes ≡ a.holes → b.slots ≡ a.slots
     → b.vertices ≡ set a.vertices v (with_name t (vertex_in a.vertices v)) → Opened b (with_label g v t)
 unfolding with_label
-label_opened a b g v t o low text id types fields live slots vertices =
+label_opened a b g v t o low text id types fields holes slots vertices =
     let h = with_label g v t in
     let x = vertex_at g v in
     let y : VertexOf = record x { label = t } in
@@ -98,7 +98,7 @@ label_opened a b g v t o low text id types fields live slots vertices =
         few_arcs = sound.few_arcs;
       };
       shows = rw (vertices, slots) shown;
-      live = live ∙ o.live;
+      holes = rw holes o.holes;
       id = id ∙ o.id;
       types = types ∙ o.types;
       fields = fields ∙ o.fields;
@@ -118,14 +118,14 @@ len_of_entry (Some s) None same live = absurd cc
 len_of_entry (Some s) (Some e) same live = ap (λ o. (arc_or no_arc o).len) same
 
 pub len_opened : (a b : Inside) (g : GraphOf) (k : ℕ) (z : ℤ) → Opened a g → has_arc g k ≡ true → FitsSigned w64 z
-    → b.id ≡ a.id → b.types ≡ a.types → b.fields ≡ a.fields → b.live ≡ a.live → b.vertices ≡ a.vertices
+    → b.id ≡ a.id → b.types ≡ a.types → b.fields ≡ a.fields → b.holes ≡ a.holes → b.vertices ≡ a.vertices
     → b.slots ≡ set a.slots k (with_len_in z (slot_at a.slots k)) → Opened b (with_len g k z)
 unfolding with_len with_aim
-len_opened a b g k z o there fits id types fields live vertices slots =
+len_opened a b g k z o there fits id types fields holes vertices slots =
     let e = entry_at g k in
     let entry : arc_at g k ≡ Some e = some_entry (arc_at g k) there in
     let arc : IsArc (n_of g) g.entries e = subst (λ r. IfSome r (IsArc (n_of g) g.entries)) entry (o.graph.arcs k None (made_of_live g k there)) in
-    aim_opened a b g k e.tip z o there arc.tip fits id types fields live vertices
+    aim_opened a b g k e.tip z o there arc.tip fits id types fields holes vertices
     (slots ∙ ap (set a.slots k) (len_is_aim z (slot_at a.slots k) (arc_at g k) (o.shows.entries k) there))
 
 -- what `set_len` leaves, clause by clause
@@ -137,12 +137,12 @@ pub record LenDone (b : Inside) (g : GraphOf) (k : ArcNo) (z old : ℤ) : Type 0
 
 pub len_done : (a b : Inside) (g : GraphOf) (k : ArcNo) (z z' old : ℤ) (ss ts : Slots) → graph_of a ≡ g → IsArena a → has_arc g k.0 ≡ true → FitsSigned w64 z → z' ≡ z
     → ss ≡ a.slots → old ≡ len_in (slot_at ss k.0) → ts ≡ set ss k.0 (with_len_in z' (slot_at ss k.0))
-    → b.id ≡ a.id → b.types ≡ a.types → b.fields ≡ a.fields → b.live ≡ a.live → b.vertices ≡ a.vertices → b.slots ≡ ts → LenDone b g k z (to_z w64 (of_z w64 old))
-len_done a b g k z z' old ss ts same arena there fits is ss_is old_is ts_is id types fields live vertices slots =
+    → b.id ≡ a.id → b.types ≡ a.types → b.fields ≡ a.fields → b.holes ≡ a.holes → b.vertices ≡ a.vertices → b.slots ≡ ts → LenDone b g k z (to_z w64 (of_z w64 old))
+len_done a b g k z z' old ss ts same arena there fits is ss_is old_is ts_is id types fields holes vertices slots =
     let o = opened a g same arena in
     let made : b.slots ≡ set a.slots k.0 (with_len_in z (slot_at a.slots k.0)) =
     slots ∙ (ts_is ∙ (ap (λ r. set r k.0 (with_len_in z' (slot_at r k.0))) ss_is ∙ ap (λ y. set a.slots k.0 (with_len_in y (slot_at a.slots k.0))) is)) in
-    let after = len_opened a b g k.0 z o there fits id types fields live vertices made in
+    let after = len_opened a b g k.0 z o there fits id types fields holes vertices made in
     let arena' = closed_arena b (with_len g k.0 z) after in
     let entry : arc_at g k.0 ≡ Some (entry_at g k.0) = some_entry (arc_at g k.0) there in
     let arc : IsArc (n_of g) g.entries (entry_at g k.0) = subst (λ r. IfSome r (IsArc (n_of g) g.entries)) entry (o.graph.arcs k.0 None (made_of_live g k.0 there)) in
@@ -168,11 +168,11 @@ pub record LabelDone (b : Inside) (g : GraphOf) (v : VertexNo) (t old : List ℕ
 
 pub label_done : (a b : Inside) (g : GraphOf) (v : VertexNo) (t old : List ℕ) → graph_of a ≡ g → IsArena a → v.0 < n_of g → IsText t
     → old ≡ (vertex_in a.vertices v.0).label
-    → b.id ≡ a.id → b.types ≡ a.types → b.fields ≡ a.fields → b.live ≡ a.live → b.slots ≡ a.slots
+    → b.id ≡ a.id → b.types ≡ a.types → b.fields ≡ a.fields → b.holes ≡ a.holes → b.slots ≡ a.slots
     → b.vertices ≡ set a.vertices v.0 (with_name t (vertex_in a.vertices v.0)) → LabelDone b g v t old
-label_done a b g v t old same arena low text old_is id types fields live slots vertices =
+label_done a b g v t old same arena low text old_is id types fields holes slots vertices =
     let o = opened a g same arena in
-    let after = label_opened a b g v.0 t o low text id types fields live slots vertices in
+    let after = label_opened a b g v.0 t o low text id types fields holes slots vertices in
     let arena' = closed_arena b (with_label g v.0 t) after in
     record {
       arena = arena';
@@ -252,13 +252,13 @@ left_len g h k old l =
 
 pub revert_len_after : (a b : Inside) (h : GraphOf) (k : ArcNo) (old z' : ℤ) (ss ts : Slots) (g : GraphOf) → graph_of a ≡ h → IsArena a → LeftByLen g k old h → z' ≡ old
     → ss ≡ a.slots → ts ≡ set ss k.0 (with_len_in z' (slot_at ss k.0))
-    → b.id ≡ a.id → b.types ≡ a.types → b.fields ≡ a.fields → b.live ≡ a.live → b.vertices ≡ a.vertices → b.slots ≡ ts → Opened b g
-revert_len_after a b h k old z' ss ts g same arena l is ss_is ts_is id types fields live vertices slots =
+    → b.id ≡ a.id → b.types ≡ a.types → b.fields ≡ a.fields → b.holes ≡ a.holes → b.vertices ≡ a.vertices → b.slots ≡ ts → Opened b g
+revert_len_after a b h k old z' ss ts g same arena l is ss_is ts_is id types fields holes vertices slots =
     let o = opened a h same arena in
     let x = left_len g h k old l in
     let made : b.slots ≡ set a.slots k.0 (with_len_in old (slot_at a.slots k.0)) =
     slots ∙ (ts_is ∙ (ap (λ r. set r k.0 (with_len_in z' (slot_at r k.0))) ss_is ∙ ap (λ y. set a.slots k.0 (with_len_in y (slot_at a.slots k.0))) is)) in
-    subst (Opened b) x.back (len_opened a b h k.0 old o x.there x.fits id types fields live vertices made)
+    subst (Opened b) x.back (len_opened a b h k.0 old o x.there x.fits id types fields holes vertices made)
 
 live_slot : (o : Option Slot) → is_some o ≡ is_some (entry_of o)
 live_slot None = refl
@@ -295,9 +295,9 @@ left_label g h v old l =
     }
 
 pub revert_label_after : (a b : Inside) (h : GraphOf) (v : VertexNo) (old : List ℕ) (g : GraphOf) → graph_of a ≡ h → IsArena a → LeftByLabel g v old h
-    → b.id ≡ a.id → b.types ≡ a.types → b.fields ≡ a.fields → b.live ≡ a.live → b.slots ≡ a.slots
+    → b.id ≡ a.id → b.types ≡ a.types → b.fields ≡ a.fields → b.holes ≡ a.holes → b.slots ≡ a.slots
     → b.vertices ≡ set a.vertices v.0 (with_name old (vertex_in a.vertices v.0)) → Opened b g
-revert_label_after a b h v old g same arena l id types fields live slots vertices =
+revert_label_after a b h v old g same arena l id types fields holes slots vertices =
     let o = opened a h same arena in
     let y = left_label g h v old l in
-    subst (Opened b) y.back (label_opened a b h v.0 old o y.low y.text id types fields live slots vertices)
+    subst (Opened b) y.back (label_opened a b h v.0 old o y.low y.text id types fields holes slots vertices)

@@ -1,5 +1,5 @@
 -- Lemmas on vertices and slots that show a graph.
-use Rattle.std.proofs.Common.{◌≡◌, ◌<◌, ℕ, List, length, get_or, map, Option, Some, None, is_some, IsSome, IfSome, All, true, refl, sym, ap, subst, ◌∙◌, arith, FitsSigned}
+use Rattle.std.proofs.Common.{◌≡◌, ◌<◌, ◌+◌, ℕ, List, length, get_or, map, Option, Some, None, is_some, IsSome, IfSome, All, true, refl, sym, ap, subst, ◌∙◌, arith, FitsSigned}
 use Rattle.std.specs.Int.{w64}
 use Rattle.sgb_graph.specs.Read.{entry_view, arc_view}
 use Rattle.std.proofs.lemmas.List.{get_or-map, length-map, same_lists, get_or_default, get_or_read}
@@ -21,7 +21,7 @@ use Rattle.sgb_graph.proofs.Chains.{chain_is}
 pub record Opened (a : Inside) (g : GraphOf) : Type 0 where
   pub graph : IsGraph g
   pub shows : Shows a.vertices a.slots g
-  pub live : a.live ≡ m_of g
+  pub holes : a.holes + m_of g ≡ made_of g
   pub id : a.id ≡ g.id
   pub types : a.types ≡ g.types
   pub fields : a.fields ≡ g.fields
@@ -29,7 +29,7 @@ pub record Opened (a : Inside) (g : GraphOf) : Type 0 where
 pub opened : (a : Inside) (g : GraphOf) → graph_of a ≡ g → IsArena a → Opened a g
 opened a g same arena =
     subst (Opened a) same
-    (record { graph = arena.graph; shows = arena.shows; live = arena.live; id = refl; types = refl; fields = refl })
+    (record { graph = arena.graph; shows = arena.shows; holes = arena.holes; id = refl; types = refl; fields = refl })
 
 -- what the slots show apart from their counts of names
 pub record ShowsBut (vs : List Vertex) (ss : Slots) (g : GraphOf) : Type 0 where
@@ -96,7 +96,7 @@ closed_arena a g o =
     record {
       graph = subst IsGraph same o.graph;
       shows = subst (Shows a.vertices a.slots) same o.shows;
-      live = subst (λ h. a.live ≡ m_of h) same o.live;
+      holes = subst (λ h. a.holes + m_of h ≡ made_of h) same o.holes;
     }
 
 -- the slot of a live arc shows the arc and its owner

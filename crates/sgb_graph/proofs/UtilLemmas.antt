@@ -69,9 +69,9 @@ util_requires a g p u w us vs ss k =
     }
 
 pub util_after : (a b : Inside) (g : GraphOf) (p : Place) (u w old : Util) (us us' : List Util) (vs ws : List vertex.Vertex) (ss ts : Slots) → UtilCan a g p u w us vs ss
-    → Exchanges us vs ss p w old us' ws ts → b.fields ≡ us' → b.vertices ≡ ws → b.slots ≡ ts → b.live ≡ a.live → b.id ≡ a.id → b.types ≡ a.types
+    → Exchanges us vs ss p w old us' ws ts → b.fields ≡ us' → b.vertices ≡ ws → b.slots ≡ ts → b.holes ≡ a.holes → b.id ≡ a.id → b.types ≡ a.types
     → Opened b (with_util g p w) × (old ≡ util_at g p)
-util_after a b g p u w old us us' vs ws ss ts k e fields vertices slots live id types =
+util_after a b g p u w old us us' vs ws ss ts k e fields vertices slots holes id types =
     let o = k.opened in
     let can : CanExchange g p w = record { place = k.place; value = k.value } in
     let x = e g (k.fields ∙ o.fields) (rw (k.vertices, k.slots) o.shows) o.graph can in
@@ -79,7 +79,7 @@ util_after a b g p u w old us us' vs ws ss ts k e fields vertices slots live id 
       record {
         graph = y.sound;
         shows = rw (vertices, slots) x.shows;
-        live = live ∙ (o.live ∙ sym y.m);
+        holes = omega (arith, holes, o.holes, y.m, y.made);
         id = id ∙ (o.id ∙ sym y.id);
         types = types ∙ (o.types ∙ sym y.types);
         fields = fields ∙ x.fields;
@@ -94,9 +94,9 @@ pub record UtilDone (b : Inside) (g : GraphOf) (p : Place) (u old : Util) : Type
   pub sound : IsGraph (graph_of b)
 
 pub util_done : (a b : Inside) (g : GraphOf) (p : Place) (u w old : Util) (us us' : List Util) (vs ws : List vertex.Vertex) (ss ts : Slots) → UtilCan a g p u w us vs ss → can_name g u ≡ true → w ≡ stored u → IsStorable w
-    → Exchanges us vs ss p w old us' ws ts → b.fields ≡ us' → b.vertices ≡ ws → b.slots ≡ ts → b.live ≡ a.live → b.id ≡ a.id → b.types ≡ a.types → UtilDone b g p u old
-util_done a b g p u w old us us' vs ws ss ts k named is storable e fields vertices slots live id types =
-    let both = util_after a b g p u w old us us' vs ws ss ts k e fields vertices slots live id types in
+    → Exchanges us vs ss p w old us' ws ts → b.fields ≡ us' → b.vertices ≡ ws → b.slots ≡ ts → b.holes ≡ a.holes → b.id ≡ a.id → b.types ≡ a.types → UtilDone b g p u old
+util_done a b g p u w old us us' vs ws ss ts k named is storable e fields vertices slots holes id types =
+    let both = util_after a b g p u w old us us' vs ws ss ts k e fields vertices slots holes id types in
     let after : Opened b (with_util g p (stored u)) = subst (λ z. Opened b (with_util g p z)) is both.0 in
     let arena' = closed_arena b (with_util g p (stored u)) after in
     record {

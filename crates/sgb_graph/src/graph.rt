@@ -48,8 +48,8 @@ pub struct Graph {
     fields: [Util; 6],
     vertices: Vertices,
     slots: Arena,
-    // How many slots hold an arc.
-    live: u32,
+    // How many slots hold no arc: a new arc, which fills a new slot, leaves it as it is.
+    holes: u32,
 }
 
 #[derive(Drop)]

@@ -1,5 +1,5 @@
 -- The arena of arcs: how its fields show a graph.
-use Rattle.std.specs.Prelude.{◌≡◌, ◌<◌, ℕ, ℤ, pos, List, [], map, length, Option, Some, None, IfSome, IsSome, All, slice_index_or}
+use Rattle.std.specs.Prelude.{◌≡◌, ◌<◌, ◌+◌, ℕ, ℤ, pos, List, [], map, length, Option, Some, None, IfSome, IsSome, All, slice_index_or}
 use Rattle.sgb_graph.specs.declared.field.VertexNo.{VertexNo}
 use Rattle.sgb_graph.specs.declared.field.ArcNo.{ArcNo}
 use Rattle.sgb_graph.specs.declared.field.Tip.{Tip}
@@ -76,7 +76,7 @@ pub record Shows (vs : List Vertex) (ss : Slots) (g : GraphOf) : Type 0 where
 pub record IsArena (a : Inside) : Type 0 where
   pub graph : IsGraph (graph_of a)
   pub shows : Shows a.vertices a.slots (graph_of a)
-  pub live : a.live ≡ m_of (graph_of a)
+  pub holes : a.holes + m_of (graph_of a) ≡ made_of (graph_of a)
 
 -- the arc as the readers show it
 abbrev pub view_in : Option Slot → Option ArcView

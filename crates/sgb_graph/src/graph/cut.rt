@@ -26,7 +26,7 @@ impl Graph {
             return Err(Refusal::BadOperand);
         }
         let arc = take_out(&mut self.vertices, &mut self.slots, number);
-        self.live -= 1;
+        self.holes += 1;
         Ok(GraphDelta::Cut(arc))
     }
 

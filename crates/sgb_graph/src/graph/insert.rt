@@ -98,7 +98,6 @@ impl Graph {
         let _ = self.n();
         let number = ArcNo(self.made());
         self.slots.push_arc(&mut self.vertices, from, to, len)?;
-        self.live += 1;
         Ok(number)
     }
 
@@ -123,7 +122,6 @@ impl Graph {
         let _ = self.n();
         let number = ArcNo(self.made());
         self.slots.push_edge(&mut self.vertices, from, to, len)?;
-        self.live += 2;
         Ok(number)
     }
 
@@ -147,7 +145,6 @@ impl Graph {
         let next = self.vertices.first(from);
         let link = self.slots.push_row(from, first, end, next, len)?;
         self.vertices.replace_first(from, link);
-        self.live += end.saturating_sub(first);
         Ok(())
     }
 
@@ -170,7 +167,6 @@ impl Graph {
         let _ = self.made();
         self.slots
             .push_edges(&mut self.vertices, from, first, end, len)?;
-        self.live += 2 * end.saturating_sub(first);
         Ok(())
     }
 
@@ -186,7 +182,6 @@ impl Graph {
         let _ = self.made();
         self.slots
             .push_arcs_along(&mut self.vertices, from, spokes)?;
-        self.live += spokes.len() as u32;
         Ok(())
     }
 
@@ -206,7 +201,6 @@ impl Graph {
         let _ = self.made();
         self.slots
             .push_edges_along(&mut self.vertices, from, spokes)?;
-        self.live += 2 * spokes.len() as u32;
         Ok(())
     }
 }

@@ -93,7 +93,7 @@ impl Graph {
         ensures sound { IsGraph self.new }
     {
         lay_behind(&mut self.vertices, &mut self.slots, vertex, last, number);
-        self.live += 1;
+        self.holes -= 1;
     }
 
     // Gives out a number as a hole.
@@ -104,6 +104,7 @@ impl Graph {
         ensures err { IfErr result (λ e. e ≡ Refusal.NoRoom) }
     {
         self.slots.push_hole()?;
+        self.holes += 1;
         Ok(())
     }
 }

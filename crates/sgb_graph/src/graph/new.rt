@@ -56,7 +56,7 @@ fn bare_graph(alloc: Global, id: Text, types: Types, vertices: Vertices) -> Grap
         fields: six_zeros(),
         vertices,
         slots: Arena::new(alloc),
-        live: 0,
+        holes: 0,
     }
 }
 

@@ -38,7 +38,7 @@ impl Graph {
         ensures limit { result ≤ made_of self.now }
         ensures graph { IsGraph self.now }
     {
-        self.live
+        self.made() - self.holes
     }
 
     /// How many arc numbers were given out, those of holes included.

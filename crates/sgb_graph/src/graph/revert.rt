@@ -38,7 +38,6 @@ impl Graph {
     {
         take_out(&mut self.vertices, &mut self.slots, number);
         self.slots.truncate(number.0 as usize);
-        self.live -= 1;
     }
 
     // Takes back the last two numbers, with their arcs.
@@ -49,7 +48,6 @@ impl Graph {
     {
         take_out_both(&mut self.vertices, &mut self.slots, number);
         self.slots.truncate(number.0 as usize);
-        self.live -= 2;
     }
 
     // Links the arc at its place again.
@@ -59,7 +57,7 @@ impl Graph {
         ensures sound { IsGraph self.new }
     {
         put_back(&mut self.vertices, &mut self.slots, arc);
-        self.live += 1;
+        self.holes -= 1;
     }
 
     fn revert_len(&mut self, number: ArcNo, len: i64)

@@ -1,4 +1,4 @@
-use Rattle.std.proofs.Common.{◌+◌, ap, refl, arith, to_z, of_z}
+use Rattle.std.proofs.Common.{ap, refl, arith, to_z, of_z}
 use Rattle.std.specs.Int.{w64}
 use Rattle.std.proofs.lemmas.Int.{to_z-of_z}
 use Rattle.sgb_graph.specs.declared.graph.Graph.TheInside.{Inside}
@@ -13,7 +13,7 @@ invariant_of-self-2 c =
     let a = c.self.inside in
     let g = c.args.self.now in
     let z = c.args.len in
-    let b : Inside = record { id = a.id; types = a.types; fields = a.fields; vertices = c.push_arc.new.vertices; slots = c.push_arc.new.self; live = a.live + 1 } in
+    let b : Inside = record { id = a.id; types = a.types; fields = a.fields; vertices = c.push_arc.new.vertices; slots = c.push_arc.new.self; holes = a.holes } in
     (arc_joined a b g c.args.from c.args.to z (to_z w64 (of_z w64 z)) (arc_no c.made.result) (opened a g c.self.view_is c.self.invariant) c.requires.from c.requires.to c.ranges.len (to_z-of_z w64 z c.ranges.len)
     c.in_ok-push_arc.ensures.few c.in_ok-push_arc.ensures.joined refl (record { id = refl; types = refl; fields = refl }) (ap arc_no c.made.ensures.value)).arena
 
@@ -27,7 +27,7 @@ returns-clause-graph c =
     let a = c.self.inside in
     let g = c.args.self.now in
     let z = c.args.len in
-    let b : Inside = record { id = a.id; types = a.types; fields = a.fields; vertices = c.push_arc.new.vertices; slots = c.push_arc.new.self; live = a.live + 1 } in
+    let b : Inside = record { id = a.id; types = a.types; fields = a.fields; vertices = c.push_arc.new.vertices; slots = c.push_arc.new.self; holes = a.holes } in
     (arc_joined a b g c.args.from c.args.to z (to_z w64 (of_z w64 z)) (arc_no c.made.result) (opened a g c.self.view_is c.self.invariant) c.requires.from c.requires.to c.ranges.len (to_z-of_z w64 z c.ranges.len)
     c.in_ok-push_arc.ensures.few c.in_ok-push_arc.ensures.joined refl (record { id = refl; types = refl; fields = refl }) (ap arc_no c.made.ensures.value)).graph
 
@@ -36,7 +36,7 @@ returns-clause-left c =
     let a = c.self.inside in
     let g = c.args.self.now in
     let z = c.args.len in
-    let b : Inside = record { id = a.id; types = a.types; fields = a.fields; vertices = c.push_arc.new.vertices; slots = c.push_arc.new.self; live = a.live + 1 } in
+    let b : Inside = record { id = a.id; types = a.types; fields = a.fields; vertices = c.push_arc.new.vertices; slots = c.push_arc.new.self; holes = a.holes } in
     (arc_joined a b g c.args.from c.args.to z (to_z w64 (of_z w64 z)) (arc_no c.made.result) (opened a g c.self.view_is c.self.invariant) c.requires.from c.requires.to c.ranges.len (to_z-of_z w64 z c.ranges.len)
     c.in_ok-push_arc.ensures.few c.in_ok-push_arc.ensures.joined refl (record { id = refl; types = refl; fields = refl }) (ap arc_no c.made.ensures.value)).left
 
@@ -45,6 +45,6 @@ returns-clause-sound c =
     let a = c.self.inside in
     let g = c.args.self.now in
     let z = c.args.len in
-    let b : Inside = record { id = a.id; types = a.types; fields = a.fields; vertices = c.push_arc.new.vertices; slots = c.push_arc.new.self; live = a.live + 1 } in
+    let b : Inside = record { id = a.id; types = a.types; fields = a.fields; vertices = c.push_arc.new.vertices; slots = c.push_arc.new.self; holes = a.holes } in
     (arc_joined a b g c.args.from c.args.to z (to_z w64 (of_z w64 z)) (arc_no c.made.result) (opened a g c.self.view_is c.self.invariant) c.requires.from c.requires.to c.ranges.len (to_z-of_z w64 z c.ranges.len)
     c.in_ok-push_arc.ensures.few c.in_ok-push_arc.ensures.joined refl (record { id = refl; types = refl; fields = refl }) (ap arc_no c.made.ensures.value)).sound

@@ -17,7 +17,7 @@ invariant_of-self-2 c =
     let k = length a.slots in
     let count = c.args.end - c.args.first in
     let link = c.first-next.result in
-    let b : Inside = record { id = a.id; types = a.types; fields = a.fields; vertices = c.replace_first.new.self; slots = c.push_row.new.self; live = a.live + c.saturating_sub.result } in
+    let b : Inside = record { id = a.id; types = a.types; fields = a.fields; vertices = c.replace_first.new.self; slots = c.push_row.new.self; holes = a.holes } in
     let can : RowCan a c.args.self.now u z k c.args.first count link = record {
       opened = opened a c.args.self.now c.self.view_is c.self.invariant;
       from = c.requires.from;
@@ -30,7 +30,7 @@ invariant_of-self-2 c =
     let after : RowAfter a b u z k c.args.first count link = record {
       slots = c.in_ok-link.ensures.slots ∙ ap (λ y. a.slots ++ map (slot_with two_zeros) (row_cells u y k c.args.first count link)) (to_z-of_z w64 z c.ranges.len);
       vertices = c.replace_first.ensures.vertices ∙ ap (vertices_relinked a.vertices u.0 None) c.in_ok-link.ensures.link;
-      live = ap (λ n. a.live + n) c.saturating_sub.ensures;
+      holes = refl;
       own = record { id = refl; types = refl; fields = refl };
     } in
     (row_done a b c.args.self.now u z k c.args.first c.args.end link can after).arena
@@ -43,7 +43,7 @@ returns-clause-graph c =
     let k = length a.slots in
     let count = c.args.end - c.args.first in
     let link = c.first-next.result in
-    let b : Inside = record { id = a.id; types = a.types; fields = a.fields; vertices = c.replace_first.new.self; slots = c.push_row.new.self; live = a.live + c.saturating_sub.result } in
+    let b : Inside = record { id = a.id; types = a.types; fields = a.fields; vertices = c.replace_first.new.self; slots = c.push_row.new.self; holes = a.holes } in
     let can : RowCan a c.args.self.now u z k c.args.first count link = record {
       opened = opened a c.args.self.now c.self.view_is c.self.invariant;
       from = c.requires.from;
@@ -56,7 +56,7 @@ returns-clause-graph c =
     let after : RowAfter a b u z k c.args.first count link = record {
       slots = c.in_ok-link.ensures.slots ∙ ap (λ y. a.slots ++ map (slot_with two_zeros) (row_cells u y k c.args.first count link)) (to_z-of_z w64 z c.ranges.len);
       vertices = c.replace_first.ensures.vertices ∙ ap (vertices_relinked a.vertices u.0 None) c.in_ok-link.ensures.link;
-      live = ap (λ n. a.live + n) c.saturating_sub.ensures;
+      holes = refl;
       own = record { id = refl; types = refl; fields = refl };
     } in
     (row_done a b c.args.self.now u z k c.args.first c.args.end link can after).graph

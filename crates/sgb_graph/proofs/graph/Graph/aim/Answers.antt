@@ -9,26 +9,26 @@ pub invariant_of-self : goal.invariant_of-self
 invariant_of-self c =
     let a = c.self.inside in
     let g = c.args.self.now in
-    let b : Inside = record { id = a.id; types = a.types; fields = a.fields; vertices = a.vertices; slots = c.aim.new.self; live = a.live } in
+    let b : Inside = record { id = a.id; types = a.types; fields = a.fields; vertices = a.vertices; slots = c.aim.new.self; holes = a.holes } in
     (aim_done a b g c.args.number.0 c.args.tip _ c.args.len _ c.self.view_is c.self.invariant c.requires.live c.requires.tip c.ranges.len c.new.ensures (to_z-of_z w64 c.args.len c.ranges.len) refl refl refl refl refl c.aim.ensures).arena
 
 pub returns-clause-value : goal.returns-clause-value
 returns-clause-value c =
     let a = c.self.inside in
     let g = c.args.self.now in
-    let b : Inside = record { id = a.id; types = a.types; fields = a.fields; vertices = a.vertices; slots = c.aim.new.self; live = a.live } in
+    let b : Inside = record { id = a.id; types = a.types; fields = a.fields; vertices = a.vertices; slots = c.aim.new.self; holes = a.holes } in
     (aim_done a b g c.args.number.0 c.args.tip _ c.args.len _ c.self.view_is c.self.invariant c.requires.live c.requires.tip c.ranges.len c.new.ensures (to_z-of_z w64 c.args.len c.ranges.len) refl refl refl refl refl c.aim.ensures).graph
 
 pub returns-clause-names : goal.returns-clause-names
 returns-clause-names c =
     let a = c.self.inside in
     let g = c.args.self.now in
-    let b : Inside = record { id = a.id; types = a.types; fields = a.fields; vertices = a.vertices; slots = c.aim.new.self; live = a.live } in
+    let b : Inside = record { id = a.id; types = a.types; fields = a.fields; vertices = a.vertices; slots = c.aim.new.self; holes = a.holes } in
     (aim_done a b g c.args.number.0 c.args.tip _ c.args.len _ c.self.view_is c.self.invariant c.requires.live c.requires.tip c.ranges.len c.new.ensures (to_z-of_z w64 c.args.len c.ranges.len) refl refl refl refl refl c.aim.ensures).names
 
 pub returns-clause-sound : goal.returns-clause-sound
 returns-clause-sound c =
     let a = c.self.inside in
     let g = c.args.self.now in
-    let b : Inside = record { id = a.id; types = a.types; fields = a.fields; vertices = a.vertices; slots = c.aim.new.self; live = a.live } in
+    let b : Inside = record { id = a.id; types = a.types; fields = a.fields; vertices = a.vertices; slots = c.aim.new.self; holes = a.holes } in
     (aim_done a b g c.args.number.0 c.args.tip _ c.args.len _ c.self.view_is c.self.invariant c.requires.live c.requires.tip c.ranges.len c.new.ensures (to_z-of_z w64 c.args.len c.ranges.len) refl refl refl refl refl c.aim.ensures).sound

@@ -1,4 +1,4 @@
-use Rattle.std.proofs.Common.{◌∙◌, sym, refl, ◌-◌}
+use Rattle.std.proofs.Common.{◌∙◌, sym, refl, ◌+◌}
 use Rattle.sgb_graph.specs.declared.graph.Graph.TheInside.{Inside}
 use Rattle.sgb_graph.proofs.Shows.{opened}
 use Rattle.sgb_graph.proofs.InsertLemmas.{SameOwn}
@@ -17,7 +17,7 @@ invariant_of-self c =
       vertices = refl;
       slots = refl;
     } in
-    let b : Inside = record { id = a.id; types = a.types; fields = a.fields; vertices = c.take_out-arc.new.vertices; slots = c.take_out-arc.new.slots; live = a.live - 1 } in
+    let b : Inside = record { id = a.id; types = a.types; fields = a.fields; vertices = c.take_out-arc.new.vertices; slots = c.take_out-arc.new.slots; holes = a.holes + 1 } in
     let own : SameOwn a b = record { id = refl; types = refl; fields = refl } in
     (cut_left a b g k c.take_out-arc.result _ _ _ _ x (cut_accepted g k tested) c.take_out-arc.ensures
     refl refl refl own).arena
@@ -34,7 +34,7 @@ returns-clause-graph c =
       vertices = refl;
       slots = refl;
     } in
-    let b : Inside = record { id = a.id; types = a.types; fields = a.fields; vertices = c.take_out-arc.new.vertices; slots = c.take_out-arc.new.slots; live = a.live - 1 } in
+    let b : Inside = record { id = a.id; types = a.types; fields = a.fields; vertices = c.take_out-arc.new.vertices; slots = c.take_out-arc.new.slots; holes = a.holes + 1 } in
     let own : SameOwn a b = record { id = refl; types = refl; fields = refl } in
     (cut_left a b g k c.take_out-arc.result _ _ _ _ x (cut_accepted g k tested) c.take_out-arc.ensures
     refl refl refl own).graph
@@ -51,7 +51,7 @@ returns-clause-left c =
       vertices = refl;
       slots = refl;
     } in
-    let b : Inside = record { id = a.id; types = a.types; fields = a.fields; vertices = c.take_out-arc.new.vertices; slots = c.take_out-arc.new.slots; live = a.live - 1 } in
+    let b : Inside = record { id = a.id; types = a.types; fields = a.fields; vertices = c.take_out-arc.new.vertices; slots = c.take_out-arc.new.slots; holes = a.holes + 1 } in
     let own : SameOwn a b = record { id = refl; types = refl; fields = refl } in
     (cut_left a b g k c.take_out-arc.result _ _ _ _ x (cut_accepted g k tested) c.take_out-arc.ensures
     refl refl refl own).left
@@ -68,7 +68,7 @@ returns-clause-sound c =
       vertices = refl;
       slots = refl;
     } in
-    let b : Inside = record { id = a.id; types = a.types; fields = a.fields; vertices = c.take_out-arc.new.vertices; slots = c.take_out-arc.new.slots; live = a.live - 1 } in
+    let b : Inside = record { id = a.id; types = a.types; fields = a.fields; vertices = c.take_out-arc.new.vertices; slots = c.take_out-arc.new.slots; holes = a.holes + 1 } in
     let own : SameOwn a b = record { id = refl; types = refl; fields = refl } in
     (cut_left a b g k c.take_out-arc.result _ _ _ _ x (cut_accepted g k tested) c.take_out-arc.ensures
     refl refl refl own).sound

@@ -12,7 +12,7 @@ pub invariant_of-self-2 : goal.invariant_of-self-2
 invariant_of-self-2 c =
     let a = c.self.inside in
     let g = c.args.self.now in
-    let b : Inside = record { id = a.id; types = a.types; fields = a.fields; vertices = c.push.new.self; slots = a.slots; live = a.live } in
+    let b : Inside = record { id = a.id; types = a.types; fields = a.fields; vertices = c.push.new.self; slots = a.slots; holes = a.holes } in
     let storable : All IsStorable (map stored c.args.fields) = subst (All IsStorable) c.stored_six.ensures.value c.stored_six.ensures.storable in
     let six : length (map stored c.args.fields) ≡ 6 = ap length (sym c.stored_six.ensures.value) ∙ c.stored_six.ensures.six in
     let after : Opened b (with_vertex_last g (new_vertex c.args.label c.args.fields)) =
@@ -24,7 +24,7 @@ pub returns-clause-ok : goal.returns-clause-ok
 returns-clause-ok c =
     let a = c.self.inside in
     let g = c.args.self.now in
-    let b : Inside = record { id = a.id; types = a.types; fields = a.fields; vertices = c.push.new.self; slots = a.slots; live = a.live } in
+    let b : Inside = record { id = a.id; types = a.types; fields = a.fields; vertices = c.push.new.self; slots = a.slots; holes = a.holes } in
     let storable : All IsStorable (map stored c.args.fields) = subst (All IsStorable) c.stored_six.ensures.value c.stored_six.ensures.storable in
     let six : length (map stored c.args.fields) ≡ 6 = ap length (sym c.stored_six.ensures.value) ∙ c.stored_six.ensures.six in
     let after : Opened b (with_vertex_last g (new_vertex c.args.label c.args.fields)) =

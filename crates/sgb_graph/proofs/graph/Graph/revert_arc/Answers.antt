@@ -1,10 +1,9 @@
-use Rattle.std.proofs.Common.{refl, arith, ◌-◌}
+use Rattle.std.proofs.Common.{refl}
 use Rattle.sgb_graph.specs.declared.graph.Graph.TheInside.{Inside}
 use Rattle.sgb_graph.proofs.Shows.{Opened, opened, closed, closed_arena}
 use Rattle.sgb_graph.proofs.InsertLemmas.{SameOwn}
 use Rattle.sgb_graph.specs.Graph.{GraphOf}
 use Rattle.sgb_graph.specs.Delta.{LeftByArc}
-use Rattle.sgb_graph.proofs.TakeOut.{found_live, take_m}
 use Rattle.sgb_graph.proofs.CutLemmas.{RevertCan, revert_requires, revert_arc_can, revert_arc_after}
 use Rattle.sgb_graph.proofs.graph.Graph.revert_arc.Goals as goal
 
@@ -19,17 +18,6 @@ take_out-requires c =
     } in
     revert_requires a h c.args.number.0 _ _ x (revert_arc_can c.requires.0 h c.args.number c.requires.1)
 
-pub overflow_sub-self : goal.overflow_sub-self
-overflow_sub-self c =
-    let h = c.args.self.now in
-    let a = c.self.inside in
-    let x : RevertCan a h c.self.inside.vertices c.self.inside.slots = record {
-      opened = opened a h c.self.view_is c.self.invariant;
-      vertices = refl;
-      slots = refl;
-    } in
-    omega (arith, x.opened.live, take_m h c.args.number.0 (found_live h c.args.number.0 x.opened.graph (revert_arc_can c.requires.0 h c.args.number c.requires.1).live))
-
 pub invariant_of-self : goal.invariant_of-self
 invariant_of-self c =
     let h = c.args.self.now in
@@ -39,7 +27,7 @@ invariant_of-self c =
       vertices = refl;
       slots = refl;
     } in
-    let b : Inside = record { id = a.id; types = a.types; fields = a.fields; vertices = c.take_out.new.vertices; slots = c.truncate.new.self; live = a.live - 1 } in
+    let b : Inside = record { id = a.id; types = a.types; fields = a.fields; vertices = c.take_out.new.vertices; slots = c.truncate.new.self; holes = a.holes } in
     let own : SameOwn a b = record { id = refl; types = refl; fields = refl } in
     let after : (g : GraphOf) → LeftByArc g c.args.number h → Opened b g = λ g l.
     revert_arc_after a b h c.args.number c.take_out.result _ _ _ _ g x l c.take_out.ensures
@@ -57,7 +45,7 @@ returns-clause-back c =
       vertices = refl;
       slots = refl;
     } in
-    let b : Inside = record { id = a.id; types = a.types; fields = a.fields; vertices = c.take_out.new.vertices; slots = c.truncate.new.self; live = a.live - 1 } in
+    let b : Inside = record { id = a.id; types = a.types; fields = a.fields; vertices = c.take_out.new.vertices; slots = c.truncate.new.self; holes = a.holes } in
     let own : SameOwn a b = record { id = refl; types = refl; fields = refl } in
     let after : (g : GraphOf) → LeftByArc g c.args.number h → Opened b g = λ g l.
     revert_arc_after a b h c.args.number c.take_out.result _ _ _ _ g x l c.take_out.ensures
@@ -75,7 +63,7 @@ returns-clause-sound c =
       vertices = refl;
       slots = refl;
     } in
-    let b : Inside = record { id = a.id; types = a.types; fields = a.fields; vertices = c.take_out.new.vertices; slots = c.truncate.new.self; live = a.live - 1 } in
+    let b : Inside = record { id = a.id; types = a.types; fields = a.fields; vertices = c.take_out.new.vertices; slots = c.truncate.new.self; holes = a.holes } in
     let own : SameOwn a b = record { id = refl; types = refl; fields = refl } in
     let after : (g : GraphOf) → LeftByArc g c.args.number h → Opened b g = λ g l.
     revert_arc_after a b h c.args.number c.take_out.result _ _ _ _ g x l c.take_out.ensures

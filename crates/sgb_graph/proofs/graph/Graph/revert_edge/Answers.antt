@@ -1,10 +1,10 @@
-use Rattle.std.proofs.Common.{refl, arith, ◌-◌}
+use Rattle.std.proofs.Common.{refl}
 use Rattle.sgb_graph.specs.declared.graph.Graph.TheInside.{Inside}
 use Rattle.sgb_graph.proofs.Shows.{Opened, opened, closed, closed_arena}
 use Rattle.sgb_graph.proofs.InsertLemmas.{SameOwn}
 use Rattle.sgb_graph.specs.Graph.{GraphOf}
 use Rattle.sgb_graph.specs.Delta.{LeftByEdge}
-use Rattle.sgb_graph.proofs.CutLemmas.{RevertCan, revert_edge_requires, revert_edge_live, revert_edge_after}
+use Rattle.sgb_graph.proofs.CutLemmas.{RevertCan, revert_edge_requires, revert_edge_after}
 use Rattle.sgb_graph.proofs.graph.Graph.revert_edge.Goals as goal
 
 pub take_out_both-requires : goal.take_out_both-requires
@@ -18,17 +18,6 @@ take_out_both-requires c =
     } in
     revert_edge_requires a h c.args.number _ _ c.requires.0 x c.requires.1
 
-pub overflow_sub-self : goal.overflow_sub-self
-overflow_sub-self c =
-    let h = c.args.self.now in
-    let a = c.self.inside in
-    let x : RevertCan a h c.self.inside.vertices c.self.inside.slots = record {
-      opened = opened a h c.self.view_is c.self.invariant;
-      vertices = refl;
-      slots = refl;
-    } in
-    omega (arith, x.opened.live, revert_edge_live c.requires.0 h c.args.number x.opened.graph c.requires.1)
-
 pub invariant_of-self : goal.invariant_of-self
 invariant_of-self c =
     let h = c.args.self.now in
@@ -38,7 +27,7 @@ invariant_of-self c =
       vertices = refl;
       slots = refl;
     } in
-    let b : Inside = record { id = a.id; types = a.types; fields = a.fields; vertices = c.take_out_both.new.vertices; slots = c.truncate.new.self; live = a.live - 2 } in
+    let b : Inside = record { id = a.id; types = a.types; fields = a.fields; vertices = c.take_out_both.new.vertices; slots = c.truncate.new.self; holes = a.holes } in
     let own : SameOwn a b = record { id = refl; types = refl; fields = refl } in
     let after : (g : GraphOf) → LeftByEdge g c.args.number h → Opened b g = λ g l.
     revert_edge_after a b h c.args.number _ _ _ _ g x l c.take_out_both.ensures
@@ -56,7 +45,7 @@ returns-clause-back c =
       vertices = refl;
       slots = refl;
     } in
-    let b : Inside = record { id = a.id; types = a.types; fields = a.fields; vertices = c.take_out_both.new.vertices; slots = c.truncate.new.self; live = a.live - 2 } in
+    let b : Inside = record { id = a.id; types = a.types; fields = a.fields; vertices = c.take_out_both.new.vertices; slots = c.truncate.new.self; holes = a.holes } in
     let own : SameOwn a b = record { id = refl; types = refl; fields = refl } in
     let after : (g : GraphOf) → LeftByEdge g c.args.number h → Opened b g = λ g l.
     revert_edge_after a b h c.args.number _ _ _ _ g x l c.take_out_both.ensures
@@ -74,7 +63,7 @@ returns-clause-sound c =
       vertices = refl;
       slots = refl;
     } in
-    let b : Inside = record { id = a.id; types = a.types; fields = a.fields; vertices = c.take_out_both.new.vertices; slots = c.truncate.new.self; live = a.live - 2 } in
+    let b : Inside = record { id = a.id; types = a.types; fields = a.fields; vertices = c.take_out_both.new.vertices; slots = c.truncate.new.self; holes = a.holes } in
     let own : SameOwn a b = record { id = refl; types = refl; fields = refl } in
     let after : (g : GraphOf) → LeftByEdge g c.args.number h → Opened b g = λ g l.
     revert_edge_after a b h c.args.number _ _ _ _ g x l c.take_out_both.ensures

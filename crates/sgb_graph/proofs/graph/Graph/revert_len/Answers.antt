@@ -16,7 +16,7 @@ pub invariant_of-self : goal.invariant_of-self
 invariant_of-self c =
     let a = c.self.inside in
     let h = c.args.self.now in
-    let b : Inside = record { id = a.id; types = a.types; fields = a.fields; vertices = a.vertices; slots = c.replace_len.new.self; live = a.live } in
+    let b : Inside = record { id = a.id; types = a.types; fields = a.fields; vertices = a.vertices; slots = c.replace_len.new.self; holes = a.holes } in
     let after : (g : GraphOf) → LeftByLen g c.args.number c.args.len h → Opened b g = λ g l.
     revert_len_after a b h c.args.number c.args.len _ _ _ g c.self.view_is c.self.invariant l (to_z-of_z w64 c.args.len c.ranges.len)
     refl c.replace_len.ensures.slots refl refl refl refl refl
@@ -27,7 +27,7 @@ pub returns-clause-back : goal.returns-clause-back
 returns-clause-back c =
     let a = c.self.inside in
     let h = c.args.self.now in
-    let b : Inside = record { id = a.id; types = a.types; fields = a.fields; vertices = a.vertices; slots = c.replace_len.new.self; live = a.live } in
+    let b : Inside = record { id = a.id; types = a.types; fields = a.fields; vertices = a.vertices; slots = c.replace_len.new.self; holes = a.holes } in
     let after : (g : GraphOf) → LeftByLen g c.args.number c.args.len h → Opened b g = λ g l.
     revert_len_after a b h c.args.number c.args.len _ _ _ g c.self.view_is c.self.invariant l (to_z-of_z w64 c.args.len c.ranges.len)
     refl c.replace_len.ensures.slots refl refl refl refl refl
@@ -38,7 +38,7 @@ pub returns-clause-sound : goal.returns-clause-sound
 returns-clause-sound c =
     let a = c.self.inside in
     let h = c.args.self.now in
-    let b : Inside = record { id = a.id; types = a.types; fields = a.fields; vertices = a.vertices; slots = c.replace_len.new.self; live = a.live } in
+    let b : Inside = record { id = a.id; types = a.types; fields = a.fields; vertices = a.vertices; slots = c.replace_len.new.self; holes = a.holes } in
     let after : (g : GraphOf) → LeftByLen g c.args.number c.args.len h → Opened b g = λ g l.
     revert_len_after a b h c.args.number c.args.len _ _ _ g c.self.view_is c.self.invariant l (to_z-of_z w64 c.args.len c.ranges.len)
     refl c.replace_len.ensures.slots refl refl refl refl refl

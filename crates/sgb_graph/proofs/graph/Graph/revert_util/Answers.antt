@@ -16,7 +16,7 @@ pub invariant_of-self : goal.invariant_of-self
 invariant_of-self c =
     let a = c.self.inside in
     let h = c.args.self.now in
-    let b : Inside = record { id = a.id; types = a.types; fields = c.exchange.new.fields; vertices = c.exchange.new.vertices; slots = c.exchange.new.slots; live = a.live } in
+    let b : Inside = record { id = a.id; types = a.types; fields = c.exchange.new.fields; vertices = c.exchange.new.vertices; slots = c.exchange.new.slots; holes = a.holes } in
     let after : (g : GraphOf) → LeftByUtil g c.args.place c.args.value h → Opened b g = λ g l.
     subst (Opened b) (left_util g h c.args.place c.args.value l).back
     (util_after a b h c.args.place c.args.value c.args.value c.exchange.result _ _ _ _ _ _
@@ -28,7 +28,7 @@ pub returns-clause-back : goal.returns-clause-back
 returns-clause-back c =
     let a = c.self.inside in
     let h = c.args.self.now in
-    let b : Inside = record { id = a.id; types = a.types; fields = c.exchange.new.fields; vertices = c.exchange.new.vertices; slots = c.exchange.new.slots; live = a.live } in
+    let b : Inside = record { id = a.id; types = a.types; fields = c.exchange.new.fields; vertices = c.exchange.new.vertices; slots = c.exchange.new.slots; holes = a.holes } in
     let after : (g : GraphOf) → LeftByUtil g c.args.place c.args.value h → Opened b g = λ g l.
     subst (Opened b) (left_util g h c.args.place c.args.value l).back
     (util_after a b h c.args.place c.args.value c.args.value c.exchange.result _ _ _ _ _ _
@@ -40,7 +40,7 @@ pub returns-clause-sound : goal.returns-clause-sound
 returns-clause-sound c =
     let a = c.self.inside in
     let h = c.args.self.now in
-    let b : Inside = record { id = a.id; types = a.types; fields = c.exchange.new.fields; vertices = c.exchange.new.vertices; slots = c.exchange.new.slots; live = a.live } in
+    let b : Inside = record { id = a.id; types = a.types; fields = c.exchange.new.fields; vertices = c.exchange.new.vertices; slots = c.exchange.new.slots; holes = a.holes } in
     let after : (g : GraphOf) → LeftByUtil g c.args.place c.args.value h → Opened b g = λ g l.
     subst (Opened b) (left_util g h c.args.place c.args.value l).back
     (util_after a b h c.args.place c.args.value c.args.value c.exchange.result _ _ _ _ _ _

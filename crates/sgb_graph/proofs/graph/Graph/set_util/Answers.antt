@@ -35,7 +35,7 @@ invariant_of-self c =
       vertices = refl;
       slots = refl;
     } in
-    let b : Inside = record { id = a.id; types = a.types; fields = c.exchange-old.new.fields; vertices = c.exchange-old.new.vertices; slots = c.exchange-old.new.slots; live = a.live } in
+    let b : Inside = record { id = a.id; types = a.types; fields = c.exchange-old.new.fields; vertices = c.exchange-old.new.vertices; slots = c.exchange-old.new.slots; holes = a.holes } in
     (util_done a b g c.args.place c.args.value c.stored-value.result c.exchange-old.result _ _ _ _ _ _ k named c.stored-value.ensures.value c.stored-value.ensures.storable c.exchange-old.ensures refl
     refl refl refl refl refl).arena
 
@@ -53,7 +53,7 @@ returns-clause-graph c =
       vertices = refl;
       slots = refl;
     } in
-    let b : Inside = record { id = a.id; types = a.types; fields = c.exchange-old.new.fields; vertices = c.exchange-old.new.vertices; slots = c.exchange-old.new.slots; live = a.live } in
+    let b : Inside = record { id = a.id; types = a.types; fields = c.exchange-old.new.fields; vertices = c.exchange-old.new.vertices; slots = c.exchange-old.new.slots; holes = a.holes } in
     (util_done a b g c.args.place c.args.value c.stored-value.result c.exchange-old.result _ _ _ _ _ _ k named c.stored-value.ensures.value c.stored-value.ensures.storable c.exchange-old.ensures refl
     refl refl refl refl refl).graph
 
@@ -71,7 +71,7 @@ returns-clause-left c =
       vertices = refl;
       slots = refl;
     } in
-    let b : Inside = record { id = a.id; types = a.types; fields = c.exchange-old.new.fields; vertices = c.exchange-old.new.vertices; slots = c.exchange-old.new.slots; live = a.live } in
+    let b : Inside = record { id = a.id; types = a.types; fields = c.exchange-old.new.fields; vertices = c.exchange-old.new.vertices; slots = c.exchange-old.new.slots; holes = a.holes } in
     (util_done a b g c.args.place c.args.value c.stored-value.result c.exchange-old.result _ _ _ _ _ _ k named c.stored-value.ensures.value c.stored-value.ensures.storable c.exchange-old.ensures refl
     refl refl refl refl refl).left
 
@@ -89,6 +89,6 @@ returns-clause-sound c =
       vertices = refl;
       slots = refl;
     } in
-    let b : Inside = record { id = a.id; types = a.types; fields = c.exchange-old.new.fields; vertices = c.exchange-old.new.vertices; slots = c.exchange-old.new.slots; live = a.live } in
+    let b : Inside = record { id = a.id; types = a.types; fields = c.exchange-old.new.fields; vertices = c.exchange-old.new.vertices; slots = c.exchange-old.new.slots; holes = a.holes } in
     (util_done a b g c.args.place c.args.value c.stored-value.result c.exchange-old.result _ _ _ _ _ _ k named c.stored-value.ensures.value c.stored-value.ensures.storable c.exchange-old.ensures refl
     refl refl refl refl refl).sound

@@ -9,7 +9,7 @@ invariant_of-self c =
     let a = c.self.inside in
     let g = c.args.self.now in
     let low : c.args.vertex.0 < n_of g = c.requires in
-    let b : Inside = record { id = a.id; types = a.types; fields = a.fields; vertices = c.replace_label.new.self; slots = a.slots; live = a.live } in
+    let b : Inside = record { id = a.id; types = a.types; fields = a.fields; vertices = c.replace_label.new.self; slots = a.slots; holes = a.holes } in
     (label_done a b g c.args.vertex c.args.label c.replace_label.result c.self.view_is c.self.invariant low c.bytes.ensures.text
     c.replace_label.ensures.old refl refl refl refl refl c.replace_label.ensures.vertices).arena
 
@@ -18,7 +18,7 @@ returns-clause-graph c =
     let a = c.self.inside in
     let g = c.args.self.now in
     let low : c.args.vertex.0 < n_of g = c.requires in
-    let b : Inside = record { id = a.id; types = a.types; fields = a.fields; vertices = c.replace_label.new.self; slots = a.slots; live = a.live } in
+    let b : Inside = record { id = a.id; types = a.types; fields = a.fields; vertices = c.replace_label.new.self; slots = a.slots; holes = a.holes } in
     (label_done a b g c.args.vertex c.args.label c.replace_label.result c.self.view_is c.self.invariant low c.bytes.ensures.text
     c.replace_label.ensures.old refl refl refl refl refl c.replace_label.ensures.vertices).graph
 
@@ -27,7 +27,7 @@ returns-clause-left c =
     let a = c.self.inside in
     let g = c.args.self.now in
     let low : c.args.vertex.0 < n_of g = c.requires in
-    let b : Inside = record { id = a.id; types = a.types; fields = a.fields; vertices = c.replace_label.new.self; slots = a.slots; live = a.live } in
+    let b : Inside = record { id = a.id; types = a.types; fields = a.fields; vertices = c.replace_label.new.self; slots = a.slots; holes = a.holes } in
     (label_done a b g c.args.vertex c.args.label c.replace_label.result c.self.view_is c.self.invariant low c.bytes.ensures.text
     c.replace_label.ensures.old refl refl refl refl refl c.replace_label.ensures.vertices).left
 
@@ -36,6 +36,6 @@ returns-clause-sound c =
     let a = c.self.inside in
     let g = c.args.self.now in
     let low : c.args.vertex.0 < n_of g = c.requires in
-    let b : Inside = record { id = a.id; types = a.types; fields = a.fields; vertices = c.replace_label.new.self; slots = a.slots; live = a.live } in
+    let b : Inside = record { id = a.id; types = a.types; fields = a.fields; vertices = c.replace_label.new.self; slots = a.slots; holes = a.holes } in
     (label_done a b g c.args.vertex c.args.label c.replace_label.result c.self.view_is c.self.invariant low c.bytes.ensures.text
     c.replace_label.ensures.old refl refl refl refl refl c.replace_label.ensures.vertices).sound

@@ -11,7 +11,7 @@ invariant_of-self c =
     let a = c.self.inside in
     let g = c.args.self.now in
     let there : has_arc g c.args.number.0 ≡ true = c.requires in
-    let b : Inside = record { id = a.id; types = a.types; fields = a.fields; vertices = a.vertices; slots = c.replace_len.new.self; live = a.live } in
+    let b : Inside = record { id = a.id; types = a.types; fields = a.fields; vertices = a.vertices; slots = c.replace_len.new.self; holes = a.holes } in
     (len_done a b g c.args.number c.args.len _ c.replace_len.result a.slots _ c.self.view_is c.self.invariant there c.ranges.len (to_z-of_z w64 c.args.len c.ranges.len)
     refl c.replace_len.ensures.old c.replace_len.ensures.slots refl refl refl refl refl
     refl).arena
@@ -21,7 +21,7 @@ returns-clause-graph c =
     let a = c.self.inside in
     let g = c.args.self.now in
     let there : has_arc g c.args.number.0 ≡ true = c.requires in
-    let b : Inside = record { id = a.id; types = a.types; fields = a.fields; vertices = a.vertices; slots = c.replace_len.new.self; live = a.live } in
+    let b : Inside = record { id = a.id; types = a.types; fields = a.fields; vertices = a.vertices; slots = c.replace_len.new.self; holes = a.holes } in
     (len_done a b g c.args.number c.args.len _ c.replace_len.result a.slots _ c.self.view_is c.self.invariant there c.ranges.len (to_z-of_z w64 c.args.len c.ranges.len)
     refl c.replace_len.ensures.old c.replace_len.ensures.slots refl refl refl refl refl
     refl).graph
@@ -31,7 +31,7 @@ returns-clause-left c =
     let a = c.self.inside in
     let g = c.args.self.now in
     let there : has_arc g c.args.number.0 ≡ true = c.requires in
-    let b : Inside = record { id = a.id; types = a.types; fields = a.fields; vertices = a.vertices; slots = c.replace_len.new.self; live = a.live } in
+    let b : Inside = record { id = a.id; types = a.types; fields = a.fields; vertices = a.vertices; slots = c.replace_len.new.self; holes = a.holes } in
     (len_done a b g c.args.number c.args.len _ c.replace_len.result a.slots _ c.self.view_is c.self.invariant there c.ranges.len (to_z-of_z w64 c.args.len c.ranges.len)
     refl c.replace_len.ensures.old c.replace_len.ensures.slots refl refl refl refl refl
     refl).left
@@ -41,7 +41,7 @@ returns-clause-sound c =
     let a = c.self.inside in
     let g = c.args.self.now in
     let there : has_arc g c.args.number.0 ≡ true = c.requires in
-    let b : Inside = record { id = a.id; types = a.types; fields = a.fields; vertices = a.vertices; slots = c.replace_len.new.self; live = a.live } in
+    let b : Inside = record { id = a.id; types = a.types; fields = a.fields; vertices = a.vertices; slots = c.replace_len.new.self; holes = a.holes } in
     (len_done a b g c.args.number c.args.len _ c.replace_len.result a.slots _ c.self.view_is c.self.invariant there c.ranges.len (to_z-of_z w64 c.args.len c.ranges.len)
     refl c.replace_len.ensures.old c.replace_len.ensures.slots refl refl refl refl refl
     refl).sound
