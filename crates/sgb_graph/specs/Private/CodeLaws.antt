@@ -1,6 +1,6 @@
 -- A number is told by the link, the owner or the tip that it stands for.
-use Rattle.std.specs.Prelude.{◌≡◌, ℕ, ◌-◌, ◌^◌, ◌==◌, if◌then◌else◌, Some, None}
-use Rattle.std.proofs.Common.{refl, ap, sym, ◌∙◌, inl, inr}
+use Rattle.std.specs.Prelude.{◌≡◌, ℕ, ◌==◌, if◌then◌else◌, Some, None}
+use Rattle.std.proofs.Common.{refl, ap, sym, inl, inr}
 use Rattle.std.proofs.lemmas.Bool.{cases_Bool, eqb-true}
 use Rattle.sgb_graph.specs.declared.field.Tip.TheVariants as tips
 use Rattle.sgb_graph.specs.declared.graph.codes.Link.TheInside as link
@@ -10,9 +10,9 @@ use Rattle.sgb_graph.specs.Private.Codes.{link_of, code_of_link, owner_of_code, 
 
 -- a number that stands for a where it is the code of a, and else for b, whose code it is then
 coded : {X : Type 0} (code : X → ℕ) (n : ℕ) (a b : X) → code b ≡ n → code (if n == code a then a else b) ≡ n
-coded code n a b else = elim (cases_Bool (n == code a)) [
+coded code n a b by_b = elim (cases_Bool (n == code a)) [
   | inl same ↦ rw same (sym (eqb-true n (code a) same))
-  | inr other ↦ rw other else
+  | inr other ↦ rw other by_b
 ]
 
 link_code : (n : ℕ) → code_of_link (link_of n) ≡ n

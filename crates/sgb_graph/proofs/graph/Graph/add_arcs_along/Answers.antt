@@ -1,4 +1,4 @@
-use Rattle.std.proofs.Common.{arith, refl, true, length}
+use Rattle.std.proofs.Common.{arith, refl, true}
 use Rattle.sgb_graph.specs.declared.graph.Graph.TheInside.{Inside}
 use Rattle.sgb_graph.proofs.Shows.{opened}
 use Rattle.sgb_graph.proofs.Joining.{along_joined}

@@ -1,4 +1,4 @@
-use Rattle.std.proofs.Common.{arith, refl, false, length}
+use Rattle.std.proofs.Common.{arith, refl, false}
 use Rattle.sgb_graph.specs.declared.graph.Graph.TheInside.{Inside}
 use Rattle.sgb_graph.proofs.Shows.{opened}
 use Rattle.sgb_graph.proofs.Joining.{along_joined}

@@ -1,4 +1,4 @@
-use Rattle.std.proofs.Common.{◌∙◌, ◌-◌, ◌+◌, ◌++◌, length, map, None, ap, refl, arith}
+use Rattle.std.proofs.Common.{◌∙◌, ◌-◌, ◌++◌, length, map, None, ap, refl, arith}
 use Rattle.std.specs.Int.{w64}
 use Rattle.std.proofs.lemmas.Int.{to_z-of_z}
 use Rattle.sgb_graph.specs.declared.graph.Graph.TheInside.{Inside}
