@@ -95,7 +95,6 @@ impl Graph {
         ensures unchanged { OnErr result (self.new ≡ self.old) }
         ensures sound { IsGraph self.new }
     {
-        let _ = self.n();
         let number = ArcNo(self.made());
         self.slots.push_arc(&mut self.vertices, from, to, len)?;
         Ok(number)
@@ -119,7 +118,6 @@ impl Graph {
         ensures unchanged { OnErr result (self.new ≡ self.old) }
         ensures sound { IsGraph self.new }
     {
-        let _ = self.n();
         let number = ArcNo(self.made());
         self.slots.push_edge(&mut self.vertices, from, to, len)?;
         Ok(number)
@@ -140,8 +138,6 @@ impl Graph {
         ensures err { IfErr result (IsRefusedAt (made_of self.old + (end - first))) }
         ensures unchanged { OnErr result (self.new ≡ self.old) }
     {
-        let _ = self.n();
-        let _ = self.made();
         let next = self.vertices.first(from);
         let link = self.slots.push_row(from, first, end, next, len)?;
         self.vertices.replace_first(from, link);
@@ -163,8 +159,6 @@ impl Graph {
         ensures err { IfErr result (IsRefusedAt (made_of self.old + 2 * (end - first))) }
         ensures unchanged { OnErr result (self.new ≡ self.old) }
     {
-        let _ = self.n();
-        let _ = self.made();
         self.slots
             .push_edges(&mut self.vertices, from, first, end, len)?;
         Ok(())
@@ -178,8 +172,6 @@ impl Graph {
         ensures err { IfErr result (IsRefusedAt (made_of self.old + length spokes.now)) }
         ensures unchanged { OnErr result (self.new ≡ self.old) }
     {
-        let _ = self.n();
-        let _ = self.made();
         self.slots
             .push_arcs_along(&mut self.vertices, from, spokes)?;
         Ok(())
@@ -197,8 +189,6 @@ impl Graph {
         ensures err { IfErr result (IsRefusedAt (made_of self.old + 2 * length spokes.now)) }
         ensures unchanged { OnErr result (self.new ≡ self.old) }
     {
-        let _ = self.n();
-        let _ = self.made();
         self.slots
             .push_edges_along(&mut self.vertices, from, spokes)?;
         Ok(())
