@@ -67,11 +67,15 @@ rtlib = rt.rtlib
 
 
 class Function:
-    """A function of a file: its module, the type and the trait of its impl, its name, and the lines of its body."""
+    """A function of a file: its module, the type and the trait of its impl, its name, the line of that, and the lines of its body."""
 
-    def __init__(self, module, owner, name, lines):
-        self.module, self.owner, self.name, self.lines = module, owner, name, lines
+    def __init__(self, path, module, owner, name, head, lines):
+        self.file, self.module, self.owner, self.name, self.head, self.lines = path, module, owner, name, head, lines
         self.key = ('/'.join(module), owner, name)
+
+    def answers(self):
+        """Where the proofs of its goals are written, if any are."""
+        return '/'.join(['proofs', *self.module, *([''.join(self.owner)] if self.owner else []), self.name, 'Answers.antt'])
 
     def path(self):
         """By what a check finds the function: by the end of its name where it is a method, which stands where its type does."""
@@ -130,7 +134,7 @@ def functions_of(path, text):
         head = FUNCTION.match(line)
         body = head and body_of(lines, at, head[1])
         if body:
-            found.append(Function(module, owner if head[1] else None, head[2], body))
+            found.append(Function(path, module, owner if head[1] else None, head[2], at, body))
     return found
 
 
@@ -212,6 +216,24 @@ def lay(crate, edits, room):
             with open('%s/%s' % (room, path), 'w', encoding='utf-8') as file:
                 file.write(text)
     return left
+
+
+def leave_open(edits, room):
+    """Has a check of a laid copy try no goal of the edited functions whose proof is not written, where others are: then these alone
+    can refuse them. Returns the edits of such functions. A file that says of a function how to prove it is left as it is."""
+    opened = []
+    for edit in edits:
+        for function in edit.functions:
+            is_told = 'tactic(' in rtlib.text_of('%s/%s' % (edit.crate.folder, function.file))
+            if is_told or not os.path.isfile('%s/%s' % (room, function.answers())):
+                continue
+            file = '%s/%s' % (room, function.file)
+            lines = rtlib.text_of(file).split('\n')
+            lines[function.head] = re.sub(r'^( *)', r'\1#[tactic(none)] ', lines[function.head])
+            with open(file, 'w', encoding='utf-8') as laid:
+                laid.write('\n'.join(lines))
+            opened.append(edit)
+    return opened
 
 
 class Said:
@@ -347,11 +369,13 @@ def only_edited(groups):
             for word in ('--only', path)]
 
 
-def check(crate, edits, flags=(), is_first=False):
-    """What the check says of the crate with these edits, and those that are not in it. The first one leaves what it proves."""
+def check(crate, edits, flags=(), is_first=False, by_answers=False):
+    """What the check says of the crate with these edits, those that are not in it, and those that written answers alone can refuse
+    in it. The first one leaves what it proves."""
     await_room()
     with tempfile.TemporaryDirectory(prefix='sgb-edits-') as room:
         left = lay(crate, edits, room)
+        opened = leave_open([it for it in edits if it not in left], room) if by_answers else []
         changed = {path for it in edits for path in it.texts}
         over = kept(crate) if is_first else '%s/kept' % room
         if not is_first:
@@ -360,11 +384,11 @@ def check(crate, edits, flags=(), is_first=False):
         said = Said(*rattle(crate, room, ['--incremental', over, '--allow-holes', *flags]), changed)
         if is_first:
             TOLD[crate.name] = [path for path, _ in said.told]
-        return said, left
+        return said, left, opened
 
 
 def try_alone(edit):
-    said, _ = check(edit.crate, [edit])
+    said, _, _ = check(edit.crate, [edit])
     if said.unread:
         return False, 'it cannot be read, so no contract was tried: ' + said.unread[:200]
     well, why = said.judge(edit, True)
@@ -376,16 +400,16 @@ def try_alone(edit):
     return bool(well), why
 
 
-def try_group(edits, is_first=False, flags=()):
-    """Tries the edits of a group, and returns what came of each."""
+def try_group(edits, is_first=False, flags=(), by_answers=False):
+    """Tries the edits of a group, and returns what came of each: of one that written answers alone could refuse, and did not, None."""
     crate = edits[0].crate
     flags = flags or only(crate, edits)
     if len(edits) == 1 and not is_first and not flags:
         return {edits[0]: try_alone(edits[0])}
-    said, left = check(crate, edits, flags, is_first)
+    said, left, opened = check(crate, edits, flags, is_first, by_answers)
     if is_first and not TOLD[crate.name]:
         # (a name fits several functions, say: then all are checked)
-        said, left = check(crate, edits, (), is_first)
+        said, left, opened = check(crate, edits, (), is_first, by_answers)
     found = {}
     if said.unread:
         broken = [it for it in edits if any(said.unread.startswith((at + ':', './%s:' % at)) for at in it.places)]
@@ -394,6 +418,7 @@ def try_group(edits, is_first=False, flags=()):
     else:
         judged = {it: said.judge(it, False) for it in edits if it not in left}
         found = {it: told for it, told in judged.items() if told[0]}
+        found.update({it: (None, '') for it in opened if it not in found})
         halves = [[it] for it in edits if it not in found]
     for half in filter(None, halves):
         found.update({half[0]: try_alone(half[0])} if len(edits) == 1 else try_group(half))
@@ -490,10 +515,15 @@ class Tally:
         if self.proved and groups:
             os.makedirs(kept(crate), exist_ok=True)
             flags = only_edited(groups)
-            tried.append(self.lanes.submit(FIRST, try_group, groups.pop(0), True, flags))
+            tried.append(self.lanes.submit(FIRST, try_group, groups.pop(0), True, flags, True))
             tried[0].result()
-        tried += [self.lanes.submit(rank_of(it), try_group, it) for it in groups]
-        return [it.result() for it in tried]
+        tried += [self.lanes.submit(rank_of(it), try_group, it, False, (), True) for it in groups]
+        found = {edit: told for it in tried for edit, told in it.result().items()}
+        # What no answer refused is tried again, now by all goals.
+        left = groups_of([edit for edit, (well, _) in found.items() if well is None])
+        for it in [self.lanes.submit(rank_of(it), try_group, it) for it in left]:
+            found.update(it.result())
+        return found
 
     def try_crate(self, crate, files):
         """Tries the edits of a crate that is proved."""
@@ -505,15 +535,14 @@ class Tally:
         good = [it for it in edits if not it.why]
         is_ready = not good or self.make_ready(crate)
         # (the first check proves what it needs of the crate itself, so it does not wait for another run's proof of that)
-        tried = self.try_groups(crate, groups_of(good)) if is_ready else []
+        tried = self.try_groups(crate, groups_of(good)) if is_ready else {}
         if good and not (is_ready and self.is_proved(crate)):
             self.tell(False, crate.name, 'the crate is not proved, so its %d edits show nothing' % len(good))
             return
         refused, took = 0, TOOK.get(crate.name, [])
-        for found in tried:
-            for edit, (well, why) in sorted(found.items(), key=lambda it: it[0].label):
-                self.tell(well, edit.label, why)
-                refused += well
+        for edit, (well, why) in sorted(tried.items(), key=lambda it: it[0].label):
+            self.tell(well, edit.label, why)
+            refused += well
         if edits or unread:
             with self.telling:
                 print('%s: %d of %d edits refused, by %d checks of %.0f s of processor, the longest of %.0f s'

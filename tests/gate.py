@@ -197,6 +197,11 @@ class Gate:
                 shutil.copytree(library, '%s/%s' % (self.copy, library))
             self.names.write(proved[1] + '\n')
 
+    def tell_edits(self, line):
+        """Prints what is said of edits, but for each that was refused as it must be, which the log alone tells."""
+        if ': refused, as it must be: ' not in line and not counted([line]):
+            self.say(line)
+
     def say(self, line):
         with self.telling:
             print('%6s  %s' % (clock(time.time() - self.log.start), line[:160]), flush=True)
@@ -230,7 +235,7 @@ class Gate:
             shutil.copytree('.', self.copy, symlinks=True, ignore=shutil.ignore_patterns('.git', 'out', 'bin'))
             proved, told = os.pipe()
             with os.fdopen(told, 'w', buffering=1) as self.names:
-                beside = [pool.submit(self.beside, 'edits', ['tests/edits.py', '--as-proved'], proved),
+                beside = [pool.submit(self.beside, 'edits', ['tests/edits.py', '-v', '--as-proved'], proved, self.tell_edits),
                           pool.submit(self.beside, 'the tests of tests/edits.py', ['tests/test_edits.py'])]
                 # One job a check: several on one check take half as much processor again, and the edits use what is idle.
                 lanes = max(1, min(rt.processors(), rt.free() // MEMORY))
@@ -244,8 +249,8 @@ class Gate:
         print('%d passed, %d failed' % (self.passed, self.failed))
         return 1 if self.failed else 0
 
-    def beside(self, name, words, given=subprocess.DEVNULL):
-        self.part(name, [*GENTLY, sys.executable, *words], folder=self.copy, given=given)
+    def beside(self, name, words, given=subprocess.DEVNULL, tell=None):
+        self.part(name, [*GENTLY, sys.executable, *words], tell, self.copy, given)
 
     def run_program(self):
         program = next(it for it in crates() if it.is_program)

@@ -21,6 +21,10 @@ TINY = '''// Functions to try edits on.
 
 ghost use Rattle.std.specs.Prelude.{◌≡◌, ◌≤◌, ◌+◌, ◌*◌};
 
+mod apart;
+
+pub use apart::held;
+
 /// What `raised` adds.
 const STEP: u32 = 2;
 
@@ -61,6 +65,19 @@ use Rattle.tiny.proofs.capped.Goals as goal
 pub returns-then-x-lt9 : goal.returns-then-x-lt9
 returns-then-x-lt9 c = search rules
 '''
+
+HELD = '''//! A function in a file that says nothing of how to prove it.
+ghost use Rattle.std.specs.Prelude.{◌≤◌};
+
+/// At most nine.
+pub fn held(x: u32) -> u32
+    ensures few { result ≤ 9 }
+{
+    if x < 9 { x } else { 9 }
+}
+'''
+
+HELD_PROOF = PROOF.replace('capped', 'apart.held')
 
 OPEN = '''// A function that is not proved.
 #![tactic(auto)]
@@ -103,6 +120,10 @@ EDITS_TRIED = [
     ('tiny', 'lowered-found_often', 'u32) -> u32', 'u32) -> u64', 'an \'old:\' text is in src/lib.rt 4 times'),
     ('tiny', 'capped-of_no_name', 'if x < 9', 'if y < 9', 'it cannot be read'),
     ('tiny', 'capped-at_eight', 'if x < 9', 'if x <= 8', 'a proof of tiny::capped names what it took away'),
+    # Of these the first is refused by a written answer, and the second by a goal that has none.
+    ('tiny', 'held-two_more', '{ x }', '{ x + 2 }', 'refused, as it must be: tiny::apart::held, `returns-then-x-lt9`'),
+    ('tiny', 'held-at_ten', '{ 9 }', '{ 10 }', 'refused, as it must be: tiny::apart::held, `returns-else-x-lt9`'),
+    ('tiny', 'held-one_more', '{ x }', '{ x + 1 }', 'NOT REFUSED'),
     ('upper', 'raised_twice-once', 'raised(raised(x))', 'raised(x)', 'refused, as it must be: upper::raised_twice'),
     ('open', 'next-after_all', '    x\n', '    x / 2\n', None),
 ]
@@ -110,9 +131,9 @@ EDITS_TRIED = [
 # What else must be told, and what the runs end with.
 TOLD = ['crates/tiny/edits/notes.txt: no edit',
         'open: the crate is not proved, so its 1 edits show nothing',
-        'tiny: 4 of 11 edits refused',
+        'tiny: 6 of 14 edits refused',
         'upper: 1 of 1 edits refused',
-        'edits: 5 passed, 8 failed']
+        'edits: 7 passed, 9 failed']
 
 
 def write(file, text):
@@ -127,11 +148,14 @@ def make(room):
     write(room + '/crates.txt', 'tiny:\nopen:\nupper: tiny\n')
     write(room + '/crates/tiny/src/lib.rt', TINY)
     write(room + '/crates/tiny/proofs/capped/Answers.antt', PROOF)
+    write(room + '/crates/tiny/src/apart.rt', HELD)
+    write(room + '/crates/tiny/proofs/apart/held/Answers.antt', HELD_PROOF)
     write(room + '/crates/open/src/lib.rt', OPEN)
     write(room + '/crates/upper/src/lib.rt', UPPER)
     for crate, name, old, new, _ in EDITS_TRIED:
+        file = 'apart' if name.startswith('held-') else 'lib'
         write('%s/crates/%s/edits/%s.edit' % (room, crate, name),
-              'file: src/lib.rt\nold: %s\nnew: %s\n' % (old.rstrip('\n'), new.rstrip('\n')))
+              'file: src/%s.rt\nold: %s\nnew: %s\n' % (file, old.rstrip('\n'), new.rstrip('\n')))
     write(room + '/crates/tiny/edits/notes.txt', 'This is no edit.\n')
 
 
