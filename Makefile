@@ -103,7 +103,7 @@ bench_flip: $(BENCH)/plain_flip
 
 bench_graph: $(BENCH)/plain_graph
 	sh bench/build.sh graph sgb_graph $(BENCH)
-	python3 bench/compare.py $(BENCH)/graph/crates/graph_bench/out/graph_bench $(BENCH)/plain_graph
+	python3 bench/compare.py --turns 40 $(BENCH)/graph/crates/graph_bench/out/graph_bench $(BENCH)/plain_graph
 
 bench_make: $(BENCH)/plain_make
 	sh bench/build.sh make "sgb_flip sgb_graph sgb_plan sgb_simplex sgb_perms sgb_binary sgb_random sgb_make" $(BENCH)
