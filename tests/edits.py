@@ -7,9 +7,10 @@
 An edit is written as those in must-fail/ are. Many are tried at a time, at most one for a function: they are laid on one
 copy of the crate, the copy is checked over the work that `rt check` kept, and each edit must be refused at a function
 whose body it edits. Where no refusal names an edit, or the copy cannot be read, the edit is tried again alone; so is
-one that edits no body, which any refusal may meet. The crates themselves must be proved. With names it tries the
-edits of those crates alone, with files those edits, also of must-fail/, and with -v it tells what refused each, and
-how long that function took the check; what the check begins with counts with the first.
+one that edits no body, which any refusal may meet. An edit of a function with written answers is tried by the answers alone
+first, and by all goals where none of them refuses it. The crates themselves must be proved. With names it tries the edits of
+those crates alone, with files those edits, also of must-fail/, and with -v it tells what refused each, and how long that
+function took the check; what the check begins with counts with the first.
 
 With --as-proved it reads names of crates, one a line, as another run proves them and leaves their libraries, and tries
 the edits of each once those below it are named; those of a crate that is not named in the end fail. There the first check,
