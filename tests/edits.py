@@ -4,13 +4,15 @@
     edits.py [-v] [NAME | FILE ..]
     edits.py --as-proved
 
-An edit is written as those in must-fail/ are. Many are tried at a time, at most one for a function: they are laid on one
-copy of the crate, the copy is checked over the work that `rt check` kept, and each edit must be refused at a function
-whose body it edits. Where no refusal names an edit, or the copy cannot be read, the edit is tried again alone; so is
-one that edits no body, which any refusal may meet. An edit of a function with written answers is tried by the answers alone
-first, and by all goals where none of them refuses it. The crates themselves must be proved. With names it tries the edits of
-those crates alone, with files those edits, also of must-fail/, and with -v it tells what refused each, and how long that
-function took the check; what the check begins with counts with the first.
+An edit is written as those in must-fail/ are. Many are tried at a time: they are laid on one copy of the crate, the copy
+is checked over the work that `rt check` kept, and each edit must be refused at a function whose body it edits. Where it can,
+an edit of a function is laid on a twin, which stands beside it with its contract and its written proofs, so that a check takes
+many edits of one function; else on the function itself, one at a time. Where no refusal names an edit, or the copy cannot be
+read, the edit is tried again alone; so is one that edits no body, which any refusal may meet. An edit of a function with
+written answers is tried by these alone first, but for one that says that none refuses it, and by all goals where none does.
+The crates themselves must be proved. With names it tries the edits of those crates alone, with files those edits, also of
+must-fail/, and with -v it tells what refused each, and how long that function took the check; what the check begins with
+counts with the first.
 
 With --as-proved it reads names of crates, one a line, as another run proves them and leaves their libraries, and tries
 the edits of each once those below it are named; those of a crate that is not named in the end fail. There the first check,
@@ -35,7 +37,7 @@ from concurrent.futures import Future, ThreadPoolExecutor, wait
 MEMORY = 3_000_000_000
 DISK = 1_000_000_000
 # How many edits a check takes, at most.
-AT_ONCE = 30
+AT_ONCE = 40
 # The rank of a crate's first check, for which its others wait.
 FIRST = -AT_ONCE - 1
 # One check is started at a time.
@@ -48,6 +50,10 @@ TOOK = {}
 NAME = re.compile(r'\w+-[\w-]+\.edit')
 FUNCTION = re.compile(r'( *)(?:pub(?:\([^)]*\))? )?(?:\w+ )*fn (\w+)')
 OWNER = re.compile(r'(?:pub(?:\([^)]*\))? )?(?:impl|trait)\b')
+# The line of an edit that is not tried by answers alone, so that nothing is lost but time where it is wrong.
+NO_ANSWER = 'No written answer refuses it.'
+# With this on a function, a check tries those of its goals alone whose proof is written.
+NO_TACTIC = '#[tactic(none)]'
 # A function that a check is done with.
 DONE = re.compile(r'checked (\S+), \d+ of \d+$')
 # How antt tells that a proof names what the edit took away, which says nothing of a contract.
@@ -68,15 +74,41 @@ rtlib = rt.rtlib
 
 
 class Function:
-    """A function of a file: its module, the type and the trait of its impl, its name, the line of that, and the lines of its body."""
+    """A function of a file: its module, the type and the trait of its impl, or the trait alone, its name, the line of that, and the
+    lines of its body; and of a twin the function that it stands beside."""
 
-    def __init__(self, path, module, owner, name, head, lines):
+    def __init__(self, path, module, owner, name, head, lines, origin=None):
         self.file, self.module, self.owner, self.name, self.head, self.lines = path, module, owner, name, head, lines
-        self.key = ('/'.join(module), owner, name)
+        self.key, self.origin = ('/'.join(module), owner, name), origin or self
+        # The modules where it may stand: a method stands where its type does, of which there may be several of one name.
+        self.homes = origin.homes if origin else [module]
+
+    def twin(self, ending):
+        """The function that stands beside it under its name and such an ending."""
+        name = '%s__%s' % (self.name, ending)
+        return Function(self.file, self.module, self.owner, name, self.head, self.lines, self)
+
+    def takes_twin(self, lines):
+        """Whether another one may stand beside it in these lines of its file: not in a trait, nor in an impl of one, where all names are
+        given, nor where its proofs are not known to be, nor beside one that calls itself or others in a circle, whose proof is theirs."""
+        body = '\n'.join(lines[self.lines[0]:self.lines[1] + 1])
+        attributes = '\n'.join(lines[it] for it in range(self.above(lines), self.head))
+        before = r'(?:\bself\.|\b(?:Self|%s)::)' % self.owner[0] if self.owner else r'(?:::|(?<![\w.]))'
+        own_call = r'%s%s(?:::<.*>)?\(' % (before, self.name)
+        is_alone = not re.search(own_call, body.partition('{')[2]) and '#[cycle' not in attributes
+        return is_alone and len(self.homes) == 1 and (self.owner is None or self.owner[1:] == ('',))
+
+    def above(self, lines):
+        """The line with which its attributes begin."""
+        return next(it for it in range(self.head, -1, -1) if it == 0 or not lines[it - 1].lstrip().startswith('#['))
+
+    def folder(self):
+        """Where the proofs of its goals are written, if any are."""
+        home = self.homes[0] if self.homes else self.module
+        return '/'.join(['proofs', *home, *([''.join(self.owner)] if self.owner else []), self.name])
 
     def answers(self):
-        """Where the proofs of its goals are written, if any are."""
-        return '/'.join(['proofs', *self.module, *([''.join(self.owner)] if self.owner else []), self.name, 'Answers.antt'])
+        return self.folder() + '/Answers.antt'
 
     def path(self):
         """By what a check finds the function: by the end of its name where it is a method, which stands where its type does."""
@@ -94,18 +126,20 @@ class Function:
         if not self.owner:
             return module == self.module and words == own
         # A method stands where its type does, and the name of a trait's impl may tell the trait's arguments too.
-        is_owner = words[:1] == own[:1] or bool(self.owner[1]) and words[0].startswith(own[0])
+        is_owner = words[:1] == own[:1] or any(self.owner[1:]) and words[0].startswith(own[0])
         return len(words) == 2 and is_owner and words[1] == own[1]
 
 
 def owner_of(header):
-    """The type and the trait of an impl's header, or the name of a trait."""
+    """The type and the trait of an impl's header, or the name of a trait alone."""
     words, depth = '', 0
     for letter in header.replace('->', ''):
         depth += (letter == '<') - (letter == '>')
         words += letter if depth == 0 and letter not in "<>&'" else ' '
     words = re.sub(r'\w+::', '', words.split('{')[0].split(' where ')[0]).split()
-    words = words[words.index('impl' if 'impl' in words else 'trait') + 1:]
+    if 'impl' not in words:
+        return (words[words.index('trait') + 1].rstrip(':'),)
+    words = words[words.index('impl') + 1:]
     return (words[words.index('for') + 1], words[0]) if 'for' in words else (words[0].rstrip(':'), '')
 
 
@@ -125,9 +159,26 @@ def body_of(lines, start, indent):
     return None
 
 
+def module_of(path):
+    return [it for it in path[len('src/'):-len('.rt')].split('/') if it not in ('lib', 'main', 'mod')]
+
+
+def functions_of_all(texts):
+    """By file, the functions with a body in a crate's files, of whose texts no comment, string or clause is left."""
+    homes = {}
+    for path, text in texts.items():
+        for name in re.findall(r'(?m)^(?:pub(?:\([^)]*\))? )?(?:struct|enum|union) (\w+)', text):
+            homes.setdefault(name, []).append(module_of(path))
+    found = {path: functions_of(path, text) for path, text in texts.items()}
+    for it in itertools.chain.from_iterable(found.values()):
+        if it.owner and it.owner[1:] == ('',):
+            it.homes = homes.get(it.owner[0], [])
+    return found
+
+
 def functions_of(path, text):
-    """The functions with a body in a file, of whose text no comment, string or clause is left."""
-    module = [it for it in path[len('src/'):-len('.rt')].split('/') if it not in ('lib', 'main', 'mod')]
+    """The functions with a body in a file."""
+    module = module_of(path)
     lines, owner, found = text.split('\n'), None, []
     for at, line in enumerate(lines):
         if OWNER.match(line):
@@ -140,19 +191,35 @@ def functions_of(path, text):
 
 
 class Edit:
-    """An edit of a crate: the texts that it makes, and the functions whose bodies it edits, none where it edits more."""
+    """An edit of a crate: the texts that it makes, and the functions whose bodies it edits, none where it edits more. A twin stands for
+    a function that takes one."""
 
     def __init__(self, crate, file, functions):
         self.crate, self.file = crate, file
         self.label = os.path.relpath(file)
         self.texts, self.why = rt.read_edit(file, crate.folder)
+        self.by_answers = not self.why and NO_ANSWER not in rtlib.text_of(file).split('\n')
         self.functions = [] if self.why else self.edited(functions)
+        self.is_beside = len(self.functions) == 1 and self.functions[0].takes_twin(self.lines())
+        if self.is_beside:
+            ending = os.path.basename(file).partition('-')[2].removesuffix('.edit').replace('-', '_')
+            self.functions = [self.functions[0].twin(ending)]
         if not self.why and all(rtlib.text_of('%s/%s' % (crate.folder, it)) == text for it, text in self.texts.items()):
             self.why = 'it changes nothing'
 
+    def lines(self):
+        """The lines that it makes of the file of its one function."""
+        return self.texts[self.functions[0].file].split('\n')
+
+    def twin(self, attribute):
+        """The lines of the twin, and this attribute."""
+        it, lines = self.functions[0], self.lines()
+        head = re.sub(r'\bfn %s\b' % it.origin.name, 'fn ' + it.name, lines[it.head], count=1)
+        return [*lines[it.above(lines):it.head], *attribute, head, *lines[it.head + 1:it.lines[1] + 1]]
+
     def edited(self, functions):
         """The functions whose bodies hold the edit's texts, none where a text stands outside; a pair meets what those before it made."""
-        found, path, texts, self.places = {}, None, {}, set()
+        found, path, texts = {}, None, {}
         for line in rtlib.text_of(self.file).split('\n'):
             if line.startswith('file: '):
                 path = line[len('file: '):].strip()
@@ -160,7 +227,6 @@ class Edit:
             elif line.startswith('old: '):
                 before, old, after = texts[path].partition(line[len('old: '):])
                 at = before.count('\n')
-                self.places.add('%s:%d' % (path, at + 1))
                 inside = [it for it in functions.get(path, []) if it.lines[0] <= at <= it.lines[1]]
                 found[inside[-1].key if inside else None] = inside[-1] if inside else None
             elif line.startswith('new:'):
@@ -176,12 +242,12 @@ def edits_of(crate, files):
     if not found:
         return [], []
     texts = {os.path.relpath(file, crate.folder): text for file, text in rtlib.blanked(crate.folder).items()}
-    functions = {path: functions_of(path, text) for path, text in texts.items() if path.endswith('.rt')}
+    functions = functions_of_all({path: text for path, text in texts.items() if path.endswith('.rt')})
     return [Edit(crate, it, functions) for it in found if it not in unread], [os.path.relpath(it) for it in unread]
 
 
 def groups_of(edits):
-    """The edits in groups with at most one edit a function and AT_ONCE in all, and each that edits no body in one of its
+    """The edits in groups with at most one edit a function or twin and AT_ONCE in all, and each that edits no body in one of its
     own. These come last, and small groups before large ones."""
     groups = []
     for edit in edits:
@@ -202,39 +268,59 @@ def rank_of(edits):
     return -len(edits) if edits[0].functions else -AT_ONCE
 
 
-def lay(crate, edits, room):
-    """Lays the edits on a copy of the crate, and returns those that another one keeps off."""
+def lay(crate, edits, room, by_answers):
+    """Lays the edits on a copy of the crate, and returns those that another one keeps off, and those that written answers alone can
+    refuse in it, if any are to."""
     for part in rtlib.PARTS:
         if os.path.isdir('%s/%s' % (crate.folder, part)):
             shutil.copytree('%s/%s' % (crate.folder, part), '%s/%s' % (room, part))
-    left = []
+    left, opened, twins = [], [], {}
     for edit in edits:
-        texts, why = rt.read_edit(edit.file, room)
+        is_opened = by_answers and edit.by_answers and any(has_answers(crate, it) for it in edit.functions)
+        texts, why = ({}, None) if edit.is_beside else rt.read_edit(edit.file, room)
         if why:
             left.append(edit)
             continue
+        opened += [edit] * is_opened
         for path, text in texts.items():
-            with open('%s/%s' % (room, path), 'w', encoding='utf-8') as file:
-                file.write(text)
-    return left
+            write('%s/%s' % (room, path), text)
+        for it in edit.functions:
+            if edit.is_beside:
+                twins.setdefault(it.file, []).append((it, edit.twin([NO_TACTIC] * is_opened)))
+                lay_proofs(crate, it, room)
+            elif is_opened and has_answers(crate, it):
+                lines = rtlib.text_of('%s/%s' % (room, it.file)).split('\n')
+                lines[it.head] = re.sub(r'^( *)', r'\1%s ' % NO_TACTIC, lines[it.head])
+                write('%s/%s' % (room, it.file), '\n'.join(lines))
+    for path, found in twins.items():
+        lines = rtlib.text_of('%s/%s' % (room, path)).split('\n')
+        # (from the end, so that those before it stand where they stood)
+        for it, own in sorted(found, key=lambda twin: -twin[0].lines[1]):
+            lines[it.lines[1] + 1:it.lines[1] + 1] = ['', *own]
+        write('%s/%s' % (room, path), '\n'.join(lines))
+    return left, opened
 
 
-def leave_open(edits, room):
-    """Has a check of a laid copy try no goal of the edited functions whose proof is not written, where others are: then these alone
-    can refuse them. Returns the edits of such functions. A file that says of a function how to prove it is left as it is."""
-    opened = []
-    for edit in edits:
-        for function in edit.functions:
-            is_told = 'tactic(' in rtlib.text_of('%s/%s' % (edit.crate.folder, function.file))
-            if is_told or not os.path.isfile('%s/%s' % (room, function.answers())):
-                continue
-            file = '%s/%s' % (room, function.file)
-            lines = rtlib.text_of(file).split('\n')
-            lines[function.head] = re.sub(r'^( *)', r'\1#[tactic(none)] ', lines[function.head])
-            with open(file, 'w', encoding='utf-8') as laid:
-                laid.write('\n'.join(lines))
-            opened.append(edit)
-    return opened
+def write(path, text):
+    with open(path, 'w', encoding='utf-8') as file:
+        file.write(text)
+
+
+def has_answers(crate, function):
+    """Whether proofs of goals of the function are written, and its file does not say of a function how to prove it."""
+    is_told = 'tactic(' in rtlib.text_of('%s/%s' % (crate.folder, function.file))
+    return not is_told and os.path.isfile('%s/%s' % (crate.folder, function.origin.answers()))
+
+
+def lay_proofs(crate, twin, room):
+    """Gives a twin the written proofs of its function, where they name what is made of that."""
+    origin, folder = twin.origin.folder(), '%s/%s' % (room, twin.folder())
+    if os.path.isdir('%s/%s' % (room, origin)):
+        shutil.copytree('%s/%s' % (crate.folder, origin), folder)
+        own, its = ['.'.join(['Rattle', crate.name, *it.split('/')]) for it in (origin, twin.folder())]
+        for name in os.listdir(folder):
+            text = rtlib.text_of('%s/%s' % (folder, name))
+            write('%s/%s' % (folder, name), re.sub(r'%s\b' % re.escape(own), its, text))
 
 
 class Said:
@@ -281,9 +367,12 @@ class Said:
         if not found:
             return None, ''
         path, (goal, is_real) = next((it for it in found if it[1][1]), found[0])
+        spent = self.spent.get(path, 0)
+        for it in edit.functions:
+            path = re.sub(r'\b%s$' % it.name, it.origin.name, path)
         if not is_real:
             return False, 'a proof of %s names what it took away, so no contract was tried: keep the names' % path
-        return True, '%s, %s, %.1f s' % (path, goal, self.spent.get(path, 0))
+        return True, '%s, %s, %.1f s' % (path, goal, spent)
 
 
 def kept(crate):
@@ -359,15 +448,17 @@ def opens_no_more(process):
 
 def only(crate, edits):
     """The flags with which a check passes over what neither these edits turn nor that calls, where all turn functions that were told."""
-    names = [[it for it in TOLD.get(crate.name, []) if any(function.is_at(it) and it.endswith('::' + function.name)
-                                                           for function in edit.functions)] for edit in edits]
+    names = [[told.removesuffix(it.origin.name) + it.name for it in edit.functions for told in TOLD.get(crate.name, [])
+              if it.origin.is_at(told) and told.endswith('::' + it.origin.name)] for edit in edits]
     return [word for found in names for it in found for word in ('--only', it)] if all(names) else []
 
 
 def only_edited(groups):
-    """The flags with which the first check of a crate passes over what no edit turns nor that calls, as its derived impls."""
-    return [word for path in sorted({it.path() for edits in groups for edit in edits for it in edit.functions})
-            for word in ('--only', path)]
+    """The flags with which the first check of a crate, on the first of the groups, passes over what no edit turns nor that calls, as its
+    derived impls."""
+    paths = {it.origin.path() for edits in groups for edit in edits for it in edit.functions}
+    paths |= {it.path() for edit in groups[0] for it in edit.functions}
+    return [word for path in sorted(paths) for word in ('--only', path)]
 
 
 def check(crate, edits, flags=(), is_first=False, by_answers=False):
@@ -375,8 +466,7 @@ def check(crate, edits, flags=(), is_first=False, by_answers=False):
     in it. The first one leaves what it proves."""
     await_room()
     with tempfile.TemporaryDirectory(prefix='sgb-edits-') as room:
-        left = lay(crate, edits, room)
-        opened = leave_open([it for it in edits if it not in left], room) if by_answers else []
+        left, opened = lay(crate, edits, room, by_answers)
         changed = {path for it in edits for path in it.texts}
         over = kept(crate) if is_first else '%s/kept' % room
         if not is_first:
@@ -413,9 +503,7 @@ def try_group(edits, is_first=False, flags=(), by_answers=False):
         said, left, opened = check(crate, edits, (), is_first, by_answers)
     found = {}
     if said.unread:
-        broken = [it for it in edits if any(said.unread.startswith((at + ':', './%s:' % at)) for at in it.places)]
-        rest = [it for it in edits if it not in broken]
-        halves = [[it] for it in broken] + [rest] if broken and rest else [edits[:len(edits) // 2], edits[len(edits) // 2:]]
+        halves = [edits[:len(edits) // 2], edits[len(edits) // 2:]]
     else:
         judged = {it: said.judge(it, False) for it in edits if it not in left}
         found = {it: told for it, told in judged.items() if told[0]}
@@ -523,7 +611,7 @@ class Tally:
         # What no answer refused is tried again, now by all goals.
         left = groups_of([edit for edit, (well, _) in found.items() if well is None])
         for it in [self.lanes.submit(rank_of(it), try_group, it) for it in left]:
-            found.update(it.result())
+            found.update({edit: (well, why + ', by no answer' * well) for edit, (well, why) in it.result().items()})
         return found
 
     def try_crate(self, crate, files):

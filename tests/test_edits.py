@@ -23,7 +23,7 @@ ghost use Rattle.std.specs.Prelude.{◌≡◌, ◌≤◌, ◌+◌, ◌*◌};
 
 mod apart;
 
-pub use apart::held;
+pub use apart::{Digit, held};
 
 /// What `raised` adds.
 const STEP: u32 = 2;
@@ -75,9 +75,25 @@ pub fn held(x: u32) -> u32
 {
     if x < 9 { x } else { 9 }
 }
+
+/// A number of which no more than eight is shown.
+#[derive(Clone, Copy)]
+pub struct Digit {
+    number: u32,
+}
+
+impl Digit {
+    /// At most eight.
+    pub fn shown(self) -> u32
+        ensures few { result ≤ 8 }
+    {
+        if self.number < 8 { self.number } else { 8 }
+    }
+}
 '''
 
 HELD_PROOF = PROOF.replace('capped', 'apart.held')
+SHOWN_PROOF = PROOF.replace('capped', 'apart.Digit.shown').replace('x-lt9', 'self-lt8')
 
 OPEN = '''// A function that is not proved.
 #![tactic(auto)]
@@ -124,6 +140,10 @@ EDITS_TRIED = [
     ('tiny', 'held-two_more', '{ x }', '{ x + 2 }', 'refused, as it must be: tiny::apart::held, `returns-then-x-lt9`'),
     ('tiny', 'held-at_ten', '{ 9 }', '{ 10 }', 'refused, as it must be: tiny::apart::held, `returns-else-x-lt9`'),
     ('tiny', 'held-one_more', '{ x }', '{ x + 1 }', 'NOT REFUSED'),
+    # The twin of a method has its written answer, which proves what the contract allows.
+    ('tiny', 'shown-two_more', '{ self.number }', '{ self.number + 2 }',
+     'refused, as it must be: tiny::apart::Digit::shown, `returns-then-self-lt8`'),
+    ('tiny', 'shown-one_more', '{ self.number }', '{ self.number + 1 }', 'NOT REFUSED'),
     ('upper', 'raised_twice-once', 'raised(raised(x))', 'raised(x)', 'refused, as it must be: upper::raised_twice'),
     ('open', 'next-after_all', '    x\n', '    x / 2\n', None),
 ]
@@ -131,9 +151,9 @@ EDITS_TRIED = [
 # What else must be told, and what the runs end with.
 TOLD = ['crates/tiny/edits/notes.txt: no edit',
         'open: the crate is not proved, so its 1 edits show nothing',
-        'tiny: 6 of 14 edits refused',
+        'tiny: 7 of 16 edits refused',
         'upper: 1 of 1 edits refused',
-        'edits: 7 passed, 9 failed']
+        'edits: 8 passed, 10 failed']
 
 
 def write(file, text):
@@ -150,10 +170,11 @@ def make(room):
     write(room + '/crates/tiny/proofs/capped/Answers.antt', PROOF)
     write(room + '/crates/tiny/src/apart.rt', HELD)
     write(room + '/crates/tiny/proofs/apart/held/Answers.antt', HELD_PROOF)
+    write(room + '/crates/tiny/proofs/apart/Digit/shown/Answers.antt', SHOWN_PROOF)
     write(room + '/crates/open/src/lib.rt', OPEN)
     write(room + '/crates/upper/src/lib.rt', UPPER)
     for crate, name, old, new, _ in EDITS_TRIED:
-        file = 'apart' if name.startswith('held-') else 'lib'
+        file = 'apart' if name.startswith(('held-', 'shown-')) else 'lib'
         write('%s/crates/%s/edits/%s.edit' % (room, crate, name),
               'file: src/%s.rt\nold: %s\nnew: %s\n' % (file, old.rstrip('\n'), new.rstrip('\n')))
     write(room + '/crates/tiny/edits/notes.txt', 'This is no edit.\n')
