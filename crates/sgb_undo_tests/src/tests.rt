@@ -37,9 +37,13 @@ fn has_bytes(journal: &Journal<ByteStack>, bytes: &[u8]) -> bool {
     machine(journal).bytes() == bytes
 }
 
+fn has_commands(journal: &Journal<ByteStack>, standing: usize, undone: usize) -> bool {
+    has_counts(journal, standing, undone)
+}
+
 // Whether the stack has these bytes, so many commands stand, and so many are undone.
 fn stands(journal: &Journal<ByteStack>, bytes: &[u8], standing: usize, undone: usize) -> bool {
-    has_bytes(journal, bytes) && has_counts(journal, standing, undone)
+    has_bytes(journal, bytes) && has_commands(journal, standing, undone)
 }
 
 // Whether so many commands are undone, and leave these bytes.
@@ -58,13 +62,18 @@ fn undoes_to(journal: &mut Journal<Counter>, value: u8, standing: usize, undone:
     undoes(journal) && is_at(journal, value, standing, undone)
 }
 
+fn redo_addition(journal: &mut Journal<Counter>) -> Result<u8, JournalRefusal<TooLarge>> {
+    redo(journal)
+}
+
 // Whether a command is redone, and its reply is the value.
 fn redoes_to(journal: &mut Journal<Counter>, value: u8, standing: usize, undone: usize) -> bool {
-    matches!(redo(journal), Ok(reply) if reply == value) && is_at(journal, value, standing, undone)
+    matches!(redo_addition(journal), Ok(reply) if reply == value)
+        && is_at(journal, value, standing, undone)
 }
 
 fn has_nothing_to_redo(journal: &mut Journal<Counter>) -> bool {
-    matches!(redo(journal), Err(JournalRefusal::NothingToRedo))
+    matches!(redo_addition(journal), Err(JournalRefusal::NothingToRedo))
 }
 
 fn add(journal: &mut Journal<Counter>, amount: u8) -> Result<u8, JournalRefusal<TooLarge>> {
@@ -132,8 +141,13 @@ fn pop_row(
     apply_row(journal, CommandRow::Pop, None)
 }
 
-fn redoes_row(journal: &mut Journal<ByteStack>, other: Option<u8>, reply: Option<u8>) -> bool {
-    redo_row(journal, other) == Ok(Some(reply))
+// Whether it answers this to a redo from a row: the reply, or `None` where it leaves the command.
+fn answers_row(
+    journal: &mut Journal<ByteStack>,
+    other: Option<u8>,
+    answer: Option<Option<u8>>,
+) -> bool {
+    redo_row(journal, other) == Ok(answer)
 }
 
 fn has_nothing(journal: &mut Journal<Counter>) -> bool {
@@ -274,8 +288,8 @@ fn undoes_mixed(journal: &mut Journal<ByteStack>) -> bool {
 fn redoes_mixed(journal: &mut Journal<ByteStack>) -> bool {
     replies_again(journal, None)
         && replies_again(journal, None)
-        && redoes_row(journal, None, Some(8))
-        && redoes_row(journal, Some(1), None)
+        && answers_row(journal, None, Some(Some(8)))
+        && answers_row(journal, Some(1), Some(None))
         && stands(journal, &[7, 9], 4, 1)
         && replies_again(journal, Some(9))
         && stands(journal, &[7], 5, 0)
@@ -292,7 +306,7 @@ fn rows_and_others_are_undone_and_redone(rt: HostRuntime) {
 // Whether the last command, which stands apart, is not redone from a row.
 fn leaves_last(journal: &mut Journal<ByteStack>) -> bool {
     takes_back(journal, 1, &[7, 9], 4, 1)
-        && redo_row(journal, None) == Ok(None)
+        && answers_row(journal, None, None)
         && stands(journal, &[7, 9], 4, 1)
 }
 
@@ -427,7 +441,7 @@ fn redoes_all(journal: &mut Journal<ByteStack>) -> bool {
             return false;
         }
     }
-    has_counts(journal, 40, 0)
+    has_commands(journal, 40, 0)
 }
 
 #[test]
