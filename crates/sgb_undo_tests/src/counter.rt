@@ -7,12 +7,12 @@ ghost use Rattle.sgb_undo_tests.specs.declared.counter.TooLarge.{TooLarge};
 use sgb_rows::{ByteRow, Rows};
 use sgb_undo::Reversible;
 
-#[derive(Debug, Drop)]
+#[derive(Drop)]
 pub struct Counter {
     pub value: u8,
 }
 
-#[derive(Clone, Copy, Debug, PartialEq, Eq)]
+#[derive(Clone, Copy)]
 pub struct TooLarge;
 
 impl Reversible for Counter {

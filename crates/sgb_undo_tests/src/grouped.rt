@@ -32,19 +32,19 @@ impl Model for GroupedStack {
     ghost view = { λ s. s.stack };
 }
 
-#[derive(Debug, Drop)]
+#[derive(Drop)]
 pub enum GroupedCommand {
     One(StackCommand),
     Group(Vec<StackCommand>),
 }
 
-#[derive(Debug, Drop)]
+#[derive(Drop)]
 pub enum GroupedDelta {
     One(StackDelta),
     Group(Members<StackDelta>),
 }
 
-#[derive(Debug, Drop, PartialEq, Eq)]
+#[derive(Drop, PartialEq, Eq)]
 pub enum GroupedReply {
     One(Option<u8>),
     Group(Members<Option<u8>>),

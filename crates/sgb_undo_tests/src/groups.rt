@@ -1,5 +1,6 @@
 //! Groups, of a machine's own commands and in a journal. As of the journal, the small functions promise nothing.
 
+use crate::calls::{apply, apply_row, counts, has_counts, machine, redone, undoes};
 use crate::counter::{Counter, TooLarge};
 use crate::grouped::{GroupedCommand, GroupedReply, GroupedStack};
 use crate::stack::{ByteStack, CommandRow, StackCommand, StackRefusal};
@@ -11,14 +12,31 @@ type Answer = Result<(Members<u8>, Members<u8>), GroupRefusal<TooLarge>>;
 
 // What a counter answers to a group. Where the lists are refused their places nothing has changed, and
 // they are asked for once more.
-fn apply(rt: &impl Abort, alloc: Global, counter: &mut Counter, commands: &[u8]) -> Answer {
+fn apply_group(alloc: Global, counter: &mut Counter, commands: &[u8]) -> Answer {
     let before = counter.value;
     match apply_all(alloc, counter, commands) {
-        Err(GroupRefusal::NoRoom) => {
-            assert!(rt; counter.value == before);
-            apply_all(alloc, counter, commands)
-        }
+        Err(GroupRefusal::NoRoom) if counter.value == before => apply_all(alloc, counter, commands),
         answer => answer,
+    }
+}
+
+// Whether 5, 7 and 1 are added to 3 in order.
+fn adds_in_order(alloc: Global, counter: &mut Counter) -> bool {
+    match apply_group(alloc, counter, &[5, 7, 1]) {
+        Ok((deltas, replies)) => deltas.as_slice() == [5, 7, 1].as_slice() && are_sums(&replies),
+        Err(_) => false,
+    }
+}
+
+fn are_sums(replies: &Members<u8>) -> bool {
+    replies.as_slice() == [8, 15, 16].as_slice() && replies.len() == 3 && *replies.get(1) == 15
+}
+
+// Whether a group of none is performed, and gives nothing.
+fn adds_none(alloc: Global, counter: &mut Counter) -> bool {
+    match apply_all(alloc, counter, &[]) {
+        Ok((deltas, replies)) => deltas.is_empty() && replies.is_empty(),
+        Err(_) => false,
     }
 }
 
@@ -34,29 +52,21 @@ fn there_and_back(alloc: Global, counter: &mut Counter, commands: &[u8]) -> Opti
 fn a_group_is_performed_in_order(rt: HostRuntime) {
     group_law::<Counter>();
     let mut counter = Counter { value: 3 };
-    let (deltas, replies) = apply(&rt, rt.alloc(), &mut counter, &[5, 7, 1])
-        .ok()
-        .expect(&rt, "a group that is accepted");
+    assert!(rt; adds_in_order(rt.alloc(), &mut counter));
     assert!(rt; counter.value == 16);
-    assert!(rt; deltas.as_slice() == [5, 7, 1].as_slice());
-    assert!(rt; replies.as_slice() == [8, 15, 16].as_slice());
-    assert!(rt; replies.len() == 3 && *replies.get(1) == 15);
 }
 
 #[test]
 fn a_group_of_none_changes_nothing(rt: HostRuntime) {
     let mut counter = Counter { value: 3 };
-    let (deltas, replies) = apply_all(rt.alloc(), &mut counter, &[])
-        .ok()
-        .expect(&rt, "a group of none");
+    assert!(rt; adds_none(rt.alloc(), &mut counter));
     assert!(rt; counter.value == 3);
-    assert!(rt; deltas.is_empty() && replies.is_empty());
 }
 
 #[test]
 fn a_refused_third_member_leaves_nothing(rt: HostRuntime) {
     let mut counter = Counter { value: 3 };
-    let answer = apply(&rt, rt.alloc(), &mut counter, &[5, 7, 241, 1]);
+    let answer = apply_group(rt.alloc(), &mut counter, &[5, 7, 241, 1]);
     assert!(rt; matches!(answer, Err(GroupRefusal::Machine(TooLarge))));
     assert!(rt; counter.value == 3);
 }
@@ -83,24 +93,29 @@ fn stacks(alloc: Global, growths: u32) -> Stacks {
 }
 
 fn has_bytes(journal: &Stacks, bytes: &[u8]) -> bool {
-    journal.machine().bytes() == bytes
+    machine(journal).bytes() == bytes
 }
 
-fn counts(journal: &Stacks) -> (usize, usize) {
-    (journal.standing(), journal.undone())
+// Whether the stack has these bytes, so many commands stand, and so many are undone.
+fn stands(journal: &Stacks, bytes: &[u8], standing: usize, undone: usize) -> bool {
+    has_bytes(journal, bytes) && has_counts(journal, standing, undone)
 }
 
-fn undo(journal: &mut Stacks) -> bool {
-    journal.undo().is_ok()
+// Whether the last command is undone, and leaves these bytes.
+fn takes_back(journal: &mut Stacks, bytes: &[u8], standing: usize, undone: usize) -> bool {
+    undoes(journal) && stands(journal, bytes, standing, undone)
 }
 
-fn redo(journal: &mut Stacks) -> Result<GroupedReply, JournalRefusal<StackRefusal>> {
-    journal.redo()
+fn perform(
+    journal: &mut Stacks,
+    command: GroupedCommand,
+) -> Result<GroupedReply, JournalRefusal<StackRefusal>> {
+    apply(journal, command)
 }
 
 fn push(journal: &mut Stacks, byte: u8) -> bool {
     let command = GroupedCommand::One(StackCommand::Push(byte));
-    matches!(journal.apply(command), Ok(GroupedReply::One(None)))
+    matches!(perform(journal, command), Ok(GroupedReply::One(None)))
 }
 
 fn group(
@@ -115,7 +130,7 @@ fn group(
             .ok()
             .expect(rt, "memory for the commands"),
     };
-    journal.apply(GroupedCommand::Group(commands))
+    perform(journal, GroupedCommand::Group(commands))
 }
 
 // Performs a group that is accepted. Where memory is refused nothing has changed, and it is asked for once more.
@@ -162,71 +177,98 @@ fn stack_of(rt: &impl Abort, alloc: Global, byte: u8) -> Stacks {
 
 // Whether the journal leaves a pop in a row.
 fn leaves_pop(journal: &mut Stacks) -> bool {
-    matches!(journal.apply_row(CommandRow::Pop, &mut None), Ok(false))
+    matches!(apply_row(journal, CommandRow::Pop, None), Ok(None)) && stands(journal, &[7], 1, 0)
 }
 
-fn pop(journal: &mut Stacks) -> Result<GroupedReply, JournalRefusal<StackRefusal>> {
-    journal.apply(GroupedCommand::One(StackCommand::Pop))
+fn pops(journal: &mut Stacks) -> bool {
+    let command = GroupedCommand::One(StackCommand::Pop);
+    perform(journal, command) == Ok(GroupedReply::One(Some(7))) && stands(journal, &[], 2, 0)
 }
 
 #[test]
 fn a_machine_leaves_rows_unless_it_tells_otherwise(rt: HostRuntime) {
     let mut journal = stack_of(&rt, rt.alloc(), 7);
     assert!(rt; leaves_pop(&mut journal));
-    assert!(rt; has_bytes(&journal, &[7]) && counts(&journal) == (1, 0));
-    assert!(rt; pop(&mut journal) == Ok(GroupedReply::One(Some(7))));
-    assert!(rt; has_bytes(&journal, &[]) && counts(&journal) == (2, 0));
+    assert!(rt; pops(&mut journal));
+}
+
+// Whether 8 is pushed and popped and 9 is pushed, as a group.
+fn performs_three(rt: &impl Abort, alloc: Global, journal: &mut Stacks) -> bool {
+    are_of_pop(&grouped(rt, alloc, journal, &PUSH_POP_PUSH), 8) && stands(journal, &[7, 9], 2, 0)
+}
+
+// Whether they are undone whole.
+fn undoes_three(journal: &mut Stacks) -> bool {
+    takes_back(journal, &[7], 1, 1)
+}
+
+// Whether they are redone whole, where a growth may be refused first.
+fn redoes_three(journal: &mut Stacks) -> bool {
+    match redone(journal) {
+        Some(reply) => are_of_pop(&reply, 8) && stands(journal, &[7, 9], 2, 0),
+        None => false,
+    }
+}
+
+fn undoes_all(journal: &mut Stacks) -> bool {
+    takes_back(journal, &[7], 1, 1) && takes_back(journal, &[], 0, 2)
 }
 
 #[test]
 fn a_group_is_undone_and_redone_whole(rt: HostRuntime) {
     let mut journal = stack_of(&rt, rt.alloc(), 7);
-    let reply = grouped(&rt, rt.alloc(), &mut journal, &PUSH_POP_PUSH);
-    assert!(rt; are_of_pop(&reply, 8));
-    assert!(rt; has_bytes(&journal, &[7, 9]) && counts(&journal) == (2, 0));
-    assert!(rt; undo(&mut journal));
-    assert!(rt; has_bytes(&journal, &[7]) && counts(&journal) == (1, 1));
-    let reply = match redo(&mut journal) {
-        Ok(reply) => reply,
-        Err(_) => redo(&mut journal).ok().expect(&rt, "memory for a redo"),
-    };
-    assert!(rt; are_of_pop(&reply, 8));
-    assert!(rt; has_bytes(&journal, &[7, 9]) && counts(&journal) == (2, 0));
-    assert!(rt; undo(&mut journal) && undo(&mut journal));
-    assert!(rt; has_bytes(&journal, &[]) && counts(&journal) == (0, 2));
+    assert!(rt; performs_three(&rt, rt.alloc(), &mut journal));
+    assert!(rt; undoes_three(&mut journal));
+    assert!(rt; redoes_three(&mut journal));
+    assert!(rt; undoes_all(&mut journal));
 }
 
-// Whether the group is refused as a pop from the empty stack is, where a growth may be refused first.
-fn is_refused(
-    rt: &impl Abort,
-    alloc: Global,
-    journal: &mut Stacks,
-    commands: &[StackCommand],
-) -> bool {
-    let empty = Err(JournalRefusal::Machine(StackRefusal::Empty));
-    group(rt, alloc, journal, commands) == empty || group(rt, alloc, journal, commands) == empty
+const POP_POP_PUSH: [StackCommand; 3] = [
+    StackCommand::Pop,
+    StackCommand::Pop,
+    StackCommand::Push(8),
+];
+
+// Whether two pops and a push are refused as a pop from the empty stack is.
+fn is_refused(rt: &impl Abort, alloc: Global, journal: &mut Stacks) -> bool {
+    matches!(
+        group(rt, alloc, journal, &POP_POP_PUSH),
+        Err(JournalRefusal::Machine(StackRefusal::Empty))
+    )
+}
+
+// The same, where a growth may be refused first.
+fn refuses_pops(rt: &impl Abort, alloc: Global, journal: &mut Stacks) -> bool {
+    is_refused(rt, alloc, journal) || is_refused(rt, alloc, journal)
 }
 
 #[test]
 fn a_refused_group_leaves_the_stack(rt: HostRuntime) {
     let mut journal = stack_of(&rt, rt.alloc(), 7);
-    let reply = grouped(&rt, rt.alloc(), &mut journal, &PUSH_POP_PUSH);
-    assert!(rt; are_of_pop(&reply, 8));
-    assert!(rt; undo(&mut journal));
-    let commands = [StackCommand::Pop, StackCommand::Pop, StackCommand::Push(8)];
-    assert!(rt; is_refused(&rt, rt.alloc(), &mut journal, &commands));
-    assert!(rt; has_bytes(&journal, &[7]) && counts(&journal) == (1, 1));
+    assert!(rt; performs_three(&rt, rt.alloc(), &mut journal));
+    assert!(rt; undoes_three(&mut journal));
+    assert!(rt; refuses_pops(&rt, rt.alloc(), &mut journal));
+    assert!(rt; stands(&journal, &[7], 1, 1));
+}
+
+const PUSH_PUSH: [StackCommand; 2] = [StackCommand::Push(7), StackCommand::Push(8)];
+
+// Whether two pushes are refused as a group, which leaves nothing.
+fn refuses_two(rt: &impl Abort, alloc: Global, journal: &mut Stacks) -> bool {
+    group(rt, alloc, journal, &PUSH_PUSH).is_err() && stands(journal, &[], 0, 0)
+}
+
+// Whether they are performed as a group.
+fn performs_two(rt: &impl Abort, alloc: Global, journal: &mut Stacks) -> bool {
+    are_none(&grouped(rt, alloc, journal, &PUSH_PUSH)) && stands(journal, &[7, 8], 1, 0)
 }
 
 #[test]
 fn a_member_without_memory_leaves_nothing(rt: HostRuntime) {
     // One growth, and then one is refused, and then all are granted.
     let mut journal = stacks(rt.alloc(), 1);
-    let commands = [StackCommand::Push(7), StackCommand::Push(8)];
-    assert!(rt; group(&rt, rt.alloc(), &mut journal, &commands).is_err());
-    assert!(rt; has_bytes(&journal, &[]) && counts(&journal) == (0, 0));
-    assert!(rt; are_none(&grouped(&rt, rt.alloc(), &mut journal, &commands)));
-    assert!(rt; has_bytes(&journal, &[7, 8]) && counts(&journal) == (1, 0));
+    assert!(rt; refuses_two(&rt, rt.alloc(), &mut journal));
+    assert!(rt; performs_two(&rt, rt.alloc(), &mut journal));
 }
 
 // Whether the replies are those of two pushes.

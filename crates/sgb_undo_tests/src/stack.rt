@@ -34,20 +34,20 @@ impl Model for ByteStack {
     ghost invariant = { λ s. (vec_len s.bytes ≤ s.places) × (s.places ≤ vec_capacity s.bytes) × (s.places ≤ 200) };
 }
 
-#[derive(Clone, Copy, Debug, Drop)]
+#[derive(Clone, Copy, Drop)]
 pub enum StackCommand {
     Push(u8),
     Pop,
 }
 
-#[derive(Debug, Drop)]
+#[derive(Drop)]
 pub enum StackDelta {
     // The places before.
     Pushed(usize),
     Popped(u8),
 }
 
-#[derive(Clone, Copy, Debug, PartialEq, Eq)]
+#[derive(Clone, Copy, PartialEq, Eq)]
 pub enum StackRefusal {
     NoRoom,
     Full,
@@ -168,7 +168,7 @@ impl Reversible for ByteStack {
 }
 
 /// A command of the stack, or the place of one that stands apart.
-#[derive(Clone, Copy, Debug)]
+#[derive(Clone, Copy)]
 pub enum CommandRow {
     Apart(usize),
     Push(u8),
@@ -206,7 +206,7 @@ impl Packed for StackCommand {
 }
 
 /// A delta of the stack, or the place of one that stands apart.
-#[derive(Clone, Copy, Debug)]
+#[derive(Clone, Copy)]
 pub enum DeltaRow {
     Apart(usize),
     Pushed(usize),
