@@ -1,6 +1,8 @@
 //! Arcs and edges: their numbers, their order, and cuts.
 
-use crate::edits::{arc, arc_and_back, cut, cut_and_back, edge, edge_and_back, new_graph, star};
+use crate::edits::{
+    add_star, arc, arc_and_back, cut, cut_and_back, edge, edge_and_back, new_graph,
+};
 use crate::looks::{has_counts, has_id, holds, is_arc, is_followed_by, is_hole, lists, shows};
 use sgb_graph::{ArcNo, Graph, Refusal};
 use std::test::Fail;
@@ -57,11 +59,12 @@ fn have_two_halves(graph: &mut Graph) -> Result<bool, Refusal> {
 
 #[test]
 fn a_cut_arc_comes_back(rt: HostRuntime) -> Result<(), Fail> {
-    assert!(rt; holds(star(rt.alloc(), 4), come_back)?);
+    assert!(rt; holds(new_graph(rt.alloc(), 4), come_back)?);
     Ok(())
 }
 
 fn come_back(graph: &mut Graph) -> Result<bool, Refusal> {
+    add_star(graph)?;
     Ok(comes_back(graph, 0)? && comes_back(graph, 1)? && comes_back(graph, 2)?)
 }
 
@@ -83,11 +86,12 @@ fn comes_back(graph: &mut Graph, number: u32) -> Result<bool, Refusal> {
 
 #[test]
 fn a_cut_arc_leaves_a_hole(rt: HostRuntime) -> Result<(), Fail> {
-    assert!(rt; holds(star(rt.alloc(), 4), leaves_a_hole)?);
+    assert!(rt; holds(new_graph(rt.alloc(), 4), leaves_a_hole)?);
     Ok(())
 }
 
 fn leaves_a_hole(graph: &mut Graph) -> Result<bool, Refusal> {
+    add_star(graph)?;
     cut(graph, 1)?;
     Ok(is_hole(graph, 1) && lists(graph, 0, &[2, 0]) && cut(graph, 1) == Err(Refusal::BadOperand))
 }

@@ -29,18 +29,10 @@ fn value(alloc: Global, letter: u8, number: u32) -> Result<Util, Refusal> {
     })
 }
 
-// Gives the field an arc or a vertex.
+// Gives the field this value.
 fn set(graph: &mut Graph, value: Util) -> Result<(), Refusal> {
     let _delta = graph.set_util(FIELD, value)?;
     Ok(())
-}
-
-fn set_arc(graph: &mut Graph, number: u32) -> Result<(), Refusal> {
-    set(graph, Util::Arc(ArcNo(number)))
-}
-
-fn set_vertex(graph: &mut Graph, number: u32) -> Result<(), Refusal> {
-    set(graph, Util::Vertex(VertexNo(number)))
 }
 
 #[test]
@@ -50,10 +42,13 @@ fn a_field_names_what_is_there(rt: HostRuntime) -> Result<(), Fail> {
 }
 
 fn names_what_is_there(graph: &mut Graph) -> Result<bool, Refusal> {
-    let without = set_arc(graph, 0);
+    let without = set(graph, Util::Arc(ArcNo(0)));
     arc(graph, 0, 0, 1)?;
-    set_arc(graph, 0)?;
-    Ok(without == Err(Refusal::BadOperand) && set_vertex(graph, 1) == Err(Refusal::BadOperand))
+    set(graph, Util::Arc(ArcNo(0)))?;
+    Ok(
+        without == Err(Refusal::BadOperand)
+            && set(graph, Util::Vertex(VertexNo(1))) == Err(Refusal::BadOperand),
+    )
 }
 
 // Whether the arc 0 is refused a cut while a field of its own names it, which is then taken back.
@@ -226,13 +221,18 @@ fn sets_lengths(graph: &mut Graph) -> Result<bool, Refusal> {
     Ok(is_arc(graph, 0, 0, 0, -9) && set_len(graph, 1, 1) == Err(Refusal::BadOperand))
 }
 
-// Whether the graph is honest where the field has this letter and this value.
-fn is_honest_with(graph: &mut Graph, letter: u8, value: Util) -> Result<bool, Refusal> {
+// Gives the field this letter, and all others a Z.
+fn set_letter(graph: &mut Graph, letter: u8) {
     let mut letters = [b'Z'; 14];
     letters[0] = letter;
     if let Some(types) = Types::new(&letters) {
         let _old = graph.set_types(types);
     }
+}
+
+// Whether the graph is honest where the field has this letter and this value.
+fn is_honest_with(graph: &mut Graph, letter: u8, value: Util) -> Result<bool, Refusal> {
+    set_letter(graph, letter);
     let delta = graph.set_util(FIELD, value)?;
     let honest = graph.is_honest();
     graph.revert(delta);

@@ -3,7 +3,6 @@
 use crate::edits::{arc, arc_and_back, cut, cut_and_back, edge, new_graph};
 use crate::looks::{has_counts, holds, shows};
 use sgb_graph::{Graph, MOST_ARCS, MOST_VERTICES, Refusal, VertexNo};
-use std::alloc::Global;
 use std::test::Fail;
 
 #[test]
@@ -17,13 +16,12 @@ fn is_largest(graph: &Graph) -> bool {
     graph.n() == 65_535
 }
 
-// A graph of 65,535 vertices that has given out so many numbers.
-fn with_arcs(alloc: Global, count: u32) -> Result<Graph, Refusal> {
-    let mut graph = new_graph(alloc, MOST_VERTICES)?;
+// Makes so many arcs in a graph of 65,535 vertices.
+fn add_arcs(graph: &mut Graph, count: u32) -> Result<(), Refusal> {
     for number in 0..count {
-        arc(&mut graph, number % MOST_VERTICES, 7, 1)?;
+        arc(graph, number % MOST_VERTICES, 7, 1)?;
     }
-    Ok(graph)
+    Ok(())
 }
 
 // Cuts the first arcs.
@@ -36,11 +34,12 @@ fn cut_all(graph: &mut Graph, count: u32) -> Result<(), Refusal> {
 
 #[test]
 fn no_more_numbers_than_a_million(rt: HostRuntime) -> Result<(), Fail> {
-    assert!(rt; holds(with_arcs(rt.alloc(), 999_999), is_filled_up)?);
+    assert!(rt; holds(new_graph(rt.alloc(), MOST_VERTICES), is_filled_up)?);
     Ok(())
 }
 
 fn is_filled_up(graph: &mut Graph) -> Result<bool, Refusal> {
+    add_arcs(graph, 999_999)?;
     Ok(
         edge(graph, 0, 1, 1) == Err(Refusal::TooLarge)
             && arc_and_back(graph, 0, 1)? == 999_999
@@ -69,11 +68,12 @@ fn listed(graph: &Graph) -> u32 {
 
 #[test]
 fn the_largest_graph(rt: HostRuntime) -> Result<(), Fail> {
-    assert!(rt; holds(with_arcs(rt.alloc(), MOST_ARCS), is_walked_and_cut)?);
+    assert!(rt; holds(new_graph(rt.alloc(), MOST_VERTICES), is_walked_and_cut)?);
     Ok(())
 }
 
 fn is_walked_and_cut(graph: &mut Graph) -> Result<bool, Refusal> {
+    add_arcs(graph, MOST_ARCS)?;
     if listed(graph) != MOST_ARCS {
         return Ok(false);
     }

@@ -12,24 +12,17 @@ fn edges_are_paired(rt: HostRuntime) -> Result<(), Fail> {
 }
 
 fn are_edges_paired(graph: &mut Graph) -> Result<bool, Refusal> {
-    Ok(
-        is_paired(graph)
-            && is_paired_behind_edge(graph, 1, 0)?
-            && is_paired_behind_edge(graph, 1, 1)?
-            && is_paired_behind_edge(graph, 1, 1)?
-            && !is_paired_behind_arc(graph, 0, 1)?,
-    )
+    let are_edges = is_paired(graph)
+        && is_paired_behind_edge(graph, 1, 0)?
+        && is_paired_behind_edge(graph, 1, 1)?
+        && is_paired_behind_edge(graph, 1, 1)?;
+    arc(graph, 0, 1, 1)?;
+    Ok(are_edges && !is_paired(graph))
 }
 
 // Whether the graph is paired once it has this edge.
 fn is_paired_behind_edge(graph: &mut Graph, from: u32, to: u32) -> Result<bool, Refusal> {
     edge(graph, from, to, 1)?;
-    Ok(is_paired(graph))
-}
-
-// Whether the graph is paired once it has this arc.
-fn is_paired_behind_arc(graph: &mut Graph, from: u32, to: u32) -> Result<bool, Refusal> {
-    arc(graph, from, to, 1)?;
     Ok(is_paired(graph))
 }
 

@@ -21,11 +21,17 @@ fn zeros() -> [Util; 6] {
 
 // A vertex with the number 7 in its last field, and a number 0 in its first.
 fn vertex(alloc: Global, label: &[u8], first: Option<ArcNo>) -> Result<VertexPart, Refusal> {
-    let mut fields = zeros();
-    fields[0] = Util::Int(0);
-    fields[5] = Util::Int(7);
+    let label = Label::new(Text::new(alloc, label)?);
+    let fields = [
+        Util::Int(0),
+        Util::Zero,
+        Util::Zero,
+        Util::Zero,
+        Util::Zero,
+        Util::Int(7),
+    ];
     Ok(VertexPart {
-        label: Label::new(Text::new(alloc, label)?),
+        label,
         fields,
         first,
     })
@@ -140,11 +146,20 @@ fn a_chain_that_returns(rt: HostRuntime) {
 fn pushed(alloc: Global, number: u32, numbers: &[u32]) -> Result<(usize, usize, bool), Refusal> {
     let mut items = Items::from_vec(vec![in alloc; 7u32]?);
     let before = items.len();
-    items.push(number)?;
+    push(&mut items, number)?;
     let after = items.len();
-    let is_same = items.as_slice() == numbers && !items.is_empty();
+    let is_same = is_list(&items, numbers);
     let len = items.into_vec().len();
     Ok((before, after, is_same && len == after))
+}
+
+fn push(items: &mut Items<u32>, number: u32) -> Result<(), Refusal> {
+    items.push(number)?;
+    Ok(())
+}
+
+fn is_list(items: &Items<u32>, numbers: &[u32]) -> bool {
+    items.as_slice() == numbers && !items.is_empty()
 }
 
 #[test]
