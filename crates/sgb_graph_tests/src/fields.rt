@@ -84,16 +84,6 @@ fn before(graph: &mut Graph, value: Util) -> Result<u8, Refusal> {
     })
 }
 
-// Whether the field held this before each of these values.
-fn are_before(alloc: Global, graph: &mut Graph, values: &[(u8, u32, u8)]) -> Result<bool, Refusal> {
-    for (letter, number, held) in values {
-        if before(graph, value(alloc, *letter, *number)?)? != *held {
-            return Ok(false);
-        }
-    }
-    Ok(true)
-}
-
 #[test]
 fn values_are_kept(rt: HostRuntime) -> Result<(), Fail> {
     let alloc = rt.alloc();
@@ -101,15 +91,20 @@ fn values_are_kept(rt: HostRuntime) -> Result<(), Fail> {
     Ok(())
 }
 
+// Gives the field these values, behind each of which stands what the field held before.
 fn keeps_values(alloc: Global, graph: &mut Graph) -> Result<bool, Refusal> {
-    let values = [
+    for (letter, number, held) in [
         (b'I', 0, b'Z'),
         (b'S', 0, b'Z'),
         (b'S', 1, b'Z'),
         (b'Z', 0, b'S'),
         (b'I', 7, b'Z'),
-    ];
-    Ok(are_before(alloc, graph, &values)? && is_seven(graph) && are_others_zero(graph))
+    ] {
+        if before(graph, value(alloc, letter, number)?)? != held {
+            return Ok(false);
+        }
+    }
+    Ok(is_seven(graph) && are_others_zero(graph))
 }
 
 // Whether the field is 7, as each reader of fields gives it.
@@ -221,36 +216,17 @@ fn sets_lengths(graph: &mut Graph) -> Result<bool, Refusal> {
     Ok(is_arc(graph, 0, 0, 0, -9) && set_len(graph, 1, 1) == Err(Refusal::BadOperand))
 }
 
-// Gives the field this letter, and all others a Z.
-fn set_letter(graph: &mut Graph, letter: u8) {
+// Whether the graph is honest where the field has this letter and this value.
+fn is_honest_with(graph: &mut Graph, letter: u8, value: Util) -> Result<bool, Refusal> {
     let mut letters = [b'Z'; 14];
     letters[0] = letter;
     if let Some(types) = Types::new(&letters) {
         let _old = graph.set_types(types);
     }
-}
-
-// Whether the graph is honest where the field has this letter and this value.
-fn is_honest_with(graph: &mut Graph, letter: u8, value: Util) -> Result<bool, Refusal> {
-    set_letter(graph, letter);
     let delta = graph.set_util(FIELD, value)?;
     let honest = graph.is_honest();
     graph.revert(delta);
     Ok(honest)
-}
-
-// Whether each of these letters allows the value behind it, or does not, as stands behind that.
-fn are_allowed_so(
-    alloc: Global,
-    graph: &mut Graph,
-    table: &[(u8, u8, u32, bool)],
-) -> Result<bool, Refusal> {
-    for (letter, kind, number, allowed) in table {
-        if is_honest_with(graph, *letter, value(alloc, *kind, *number)?)? != *allowed {
-            return Ok(false);
-        }
-    }
-    Ok(true)
 }
 
 #[test]
@@ -260,8 +236,9 @@ fn letters_allow_values(rt: HostRuntime) -> Result<(), Fail> {
     Ok(())
 }
 
+// Whether each of these letters allows the value behind it, or does not, as stands behind that.
 fn allows_by_letters(alloc: Global, graph: &mut Graph) -> Result<bool, Refusal> {
-    let table = [
+    for (letter, kind, number, allowed) in [
         (b'Z', b'Z', 0, true),
         (b'Z', b'I', 1, false),
         (b'I', b'I', 2, true),
@@ -273,6 +250,10 @@ fn allows_by_letters(alloc: Global, graph: &mut Graph) -> Result<bool, Refusal> 
         (b'A', b'V', 0, false),
         (b'S', b'S', 1, true),
         (b'S', b'I', 1, false),
-    ];
-    are_allowed_so(alloc, graph, &table)
+    ] {
+        if is_honest_with(graph, letter, value(alloc, kind, number)?)? != allowed {
+            return Ok(false);
+        }
+    }
+    Ok(true)
 }

@@ -146,20 +146,11 @@ fn a_chain_that_returns(rt: HostRuntime) {
 fn pushed(alloc: Global, number: u32, numbers: &[u32]) -> Result<(usize, usize, bool), Refusal> {
     let mut items = Items::from_vec(vec![in alloc; 7u32]?);
     let before = items.len();
-    push(&mut items, number)?;
+    items.push(number)?;
     let after = items.len();
-    let is_same = is_list(&items, numbers);
+    let is_same = items.as_slice() == numbers && !items.is_empty();
     let len = items.into_vec().len();
     Ok((before, after, is_same && len == after))
-}
-
-fn push(items: &mut Items<u32>, number: u32) -> Result<(), Refusal> {
-    items.push(number)?;
-    Ok(())
-}
-
-fn is_list(items: &Items<u32>, numbers: &[u32]) -> bool {
-    items.as_slice() == numbers && !items.is_empty()
 }
 
 #[test]
