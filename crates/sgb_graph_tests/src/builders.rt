@@ -1,9 +1,8 @@
 //! Graphs that are built by insertions.
 
-use crate::looks::{has_counts, has_id, has_label, is_arc};
+use crate::looks::{has_counts, has_id, has_label, is_arc, shows};
 use sgb_graph::{Builder, Graph, Label, Refusal, Spoke, Text, Types, Util, VertexNo};
 use std::alloc::Global;
-use std::process::Abort;
 use std::test::Fail;
 
 fn begun(alloc: Global, directed: bool) -> Result<Builder, Refusal> {
@@ -59,28 +58,25 @@ fn two_vertices_again(alloc: Global) -> Result<Graph, Refusal> {
 
 #[test]
 fn an_edge_is_inserted(rt: HostRuntime) -> Result<(), Fail> {
-    let graph = two_vertices_again(rt.alloc())?;
-    expect_edge(&rt, &graph);
+    assert!(rt; shows(two_vertices_again(rt.alloc()), is_edge)?);
     Ok(())
 }
 
-fn expect_edge(rt: &impl Abort, graph: &Graph) {
-    assert!(rt; has_id(graph, b"two"));
-    assert!(rt; has_label(graph, 1, b"b"));
-    assert!(rt; has_counts(graph, 2, 2));
-    assert!(rt; is_arc(graph, 1, 1, 0, 9));
+fn is_edge(graph: &Graph) -> bool {
+    has_id(graph, b"two")
+        && has_label(graph, 1, b"b")
+        && has_counts(graph, 2, 2)
+        && is_arc(graph, 1, 1, 0, 9)
 }
 
 #[test]
 fn an_arc_is_inserted(rt: HostRuntime) -> Result<(), Fail> {
-    let graph = two_vertices(rt.alloc(), true)?;
-    expect_arc(&rt, &graph);
+    assert!(rt; shows(two_vertices(rt.alloc(), true), is_lone_arc)?);
     Ok(())
 }
 
-fn expect_arc(rt: &impl Abort, graph: &Graph) {
-    assert!(rt; has_counts(graph, 1, 1));
-    assert!(rt; is_arc(graph, 0, 1, 0, 9));
+fn is_lone_arc(graph: &Graph) -> bool {
+    has_counts(graph, 1, 1) && is_arc(graph, 0, 1, 0, 9)
 }
 
 fn push_three(alloc: Global, builder: &mut Builder) -> Result<(), Refusal> {
@@ -106,23 +102,27 @@ fn three_vertices(alloc: Global, directed: bool) -> Result<Graph, Refusal> {
 
 #[test]
 fn a_row_is_inserted(rt: HostRuntime) -> Result<(), Fail> {
-    let graph = three_vertices(rt.alloc(), true)?;
-    expect_row(&rt, &graph, 2, 1);
+    assert!(rt; shows(three_vertices(rt.alloc(), true), are_two_arcs)?);
     Ok(())
 }
 
 #[test]
 fn a_row_of_edges_is_inserted(rt: HostRuntime) -> Result<(), Fail> {
-    let graph = three_vertices(rt.alloc(), false)?;
-    expect_row(&rt, &graph, 4, 2);
+    assert!(rt; shows(three_vertices(rt.alloc(), false), are_two_edges)?);
     Ok(())
 }
 
+fn are_two_arcs(graph: &Graph) -> bool {
+    is_row(graph, 2, 1)
+}
+
+fn are_two_edges(graph: &Graph) -> bool {
+    is_row(graph, 4, 2)
+}
+
 // So many arcs, the first to the second vertex, and the one of this number to the third.
-fn expect_row(rt: &impl Abort, graph: &Graph, count: u32, number: u32) {
-    assert!(rt; has_counts(graph, count, count));
-    assert!(rt; is_arc(graph, 0, 0, 1, 4));
-    assert!(rt; is_arc(graph, number, 0, 2, 4));
+fn is_row(graph: &Graph, count: u32, number: u32) -> bool {
+    has_counts(graph, count, count) && is_arc(graph, 0, 0, 1, 4) && is_arc(graph, number, 0, 2, 4)
 }
 
 fn insert_along(builder: &mut Builder) -> Result<(), Refusal> {
@@ -143,14 +143,12 @@ fn three_along(alloc: Global, directed: bool) -> Result<Graph, Refusal> {
 
 #[test]
 fn arcs_are_inserted_along_spokes(rt: HostRuntime) -> Result<(), Fail> {
-    let graph = three_along(rt.alloc(), true)?;
-    expect_row(&rt, &graph, 2, 1);
+    assert!(rt; shows(three_along(rt.alloc(), true), are_two_arcs)?);
     Ok(())
 }
 
 #[test]
 fn edges_are_inserted_along_spokes(rt: HostRuntime) -> Result<(), Fail> {
-    let graph = three_along(rt.alloc(), false)?;
-    expect_row(&rt, &graph, 4, 2);
+    assert!(rt; shows(three_along(rt.alloc(), false), are_two_edges)?);
     Ok(())
 }

@@ -38,13 +38,12 @@ pub fn cut(graph: &mut Graph, number: u32) -> Result<(), Refusal> {
     Ok(())
 }
 
-/// A graph of so many vertices, of which the first has an arc of length k to vertex k, for k from 1.
-pub fn star(alloc: Global, n: u32) -> Result<Graph, Refusal> {
-    let mut graph = new_graph(alloc, n)?;
-    for to in 1..n {
-        arc(&mut graph, 0, to, i64::from(to))?;
-    }
-    Ok(graph)
+/// Makes a star of a graph: its first vertex gets an arc of length k to vertex k, for k from 1 up to 3.
+pub fn add_star(graph: &mut Graph) -> Result<(), Refusal> {
+    arc(graph, 0, 1, 1)?;
+    arc(graph, 0, 2, 2)?;
+    arc(graph, 0, 3, 3)?;
+    Ok(())
 }
 
 /// Makes an arc and takes it back; answers its number.

@@ -1,12 +1,11 @@
 //! Utility fields, labels, ids and letters.
 
 use crate::edits::{arc, cut, letters, new_graph, text};
-use crate::looks::{has_counts, has_id, has_label, is_arc};
+use crate::looks::{has_counts, has_id, has_label, holds, is_arc};
 use sgb_graph::{
     ArcField, ArcNo, Graph, GraphDelta, Place, Refusal, Text, Types, Util, VertexField, VertexNo,
 };
 use std::alloc::Global;
-use std::process::Abort;
 use std::test::Fail;
 
 const FIELD: Place = Place::Vertex(VertexNo(0), VertexField::U);
@@ -18,7 +17,7 @@ fn one_loop(alloc: Global) -> Result<Graph, Refusal> {
     Ok(graph)
 }
 
-// The value of this number that a letter allows. No test holds it beside a graph: both would be dropped at each way out.
+// The value of this number that a letter allows. No function holds it beside a graph: both would be dropped at each way out.
 fn value(alloc: Global, letter: u8, number: u32) -> Result<Util, Refusal> {
     Ok(match letter {
         b'I' => Util::Int(i64::from(number)),
@@ -30,32 +29,26 @@ fn value(alloc: Global, letter: u8, number: u32) -> Result<Util, Refusal> {
     })
 }
 
-// Gives the field an arc or a vertex.
+// Gives the field this value.
 fn set(graph: &mut Graph, value: Util) -> Result<(), Refusal> {
     let _delta = graph.set_util(FIELD, value)?;
     Ok(())
 }
 
-fn set_arc(graph: &mut Graph, number: u32) -> Result<(), Refusal> {
-    set(graph, Util::Arc(ArcNo(number)))
-}
-
-fn set_vertex(graph: &mut Graph, number: u32) -> Result<(), Refusal> {
-    set(graph, Util::Vertex(VertexNo(number)))
-}
-
 #[test]
 fn a_field_names_what_is_there(rt: HostRuntime) -> Result<(), Fail> {
-    let mut graph = new_graph(rt.alloc(), 1)?;
-    name_in_field(&rt, &mut graph)
+    assert!(rt; holds(new_graph(rt.alloc(), 1), names_what_is_there)?);
+    Ok(())
 }
 
-fn name_in_field(rt: &impl Abort, graph: &mut Graph) -> Result<(), Fail> {
-    assert!(rt; set_arc(graph, 0) == Err(Refusal::BadOperand));
+fn names_what_is_there(graph: &mut Graph) -> Result<bool, Refusal> {
+    let without = set(graph, Util::Arc(ArcNo(0)));
     arc(graph, 0, 0, 1)?;
-    set_arc(graph, 0)?;
-    assert!(rt; set_vertex(graph, 1) == Err(Refusal::BadOperand));
-    Ok(())
+    set(graph, Util::Arc(ArcNo(0)))?;
+    Ok(
+        without == Err(Refusal::BadOperand)
+            && set(graph, Util::Vertex(VertexNo(1))) == Err(Refusal::BadOperand),
+    )
 }
 
 // Whether the arc 0 is refused a cut while a field of its own names it, which is then taken back.
@@ -71,15 +64,14 @@ fn is_kept_by_its_own_field(graph: &mut Graph) -> Result<bool, Refusal> {
 
 #[test]
 fn a_named_arc_is_not_cut(rt: HostRuntime) -> Result<(), Fail> {
-    let mut graph = one_loop(rt.alloc())?;
-    cut_named(&rt, &mut graph)
+    assert!(rt; holds(one_loop(rt.alloc()), is_kept_while_named)?);
+    Ok(())
 }
 
-fn cut_named(rt: &impl Abort, graph: &mut Graph) -> Result<(), Fail> {
-    assert!(rt; is_kept_by_its_own_field(graph)?);
+fn is_kept_while_named(graph: &mut Graph) -> Result<bool, Refusal> {
+    let is_kept = is_kept_by_its_own_field(graph)?;
     cut(graph, 0)?;
-    assert!(rt; has_counts(graph, 1, 0));
-    Ok(())
+    Ok(is_kept && has_counts(graph, 1, 0))
 }
 
 // What the field held before it got the value: nothing, a text, or another value.
@@ -92,38 +84,27 @@ fn before(graph: &mut Graph, value: Util) -> Result<u8, Refusal> {
     })
 }
 
-// What the field held before each of these values. Answers the place of the first that held something else.
-fn first_unlike(
-    alloc: Global,
-    graph: &mut Graph,
-    values: &[(u8, u32, u8)],
-) -> Result<Option<usize>, Refusal> {
-    for (place, (letter, number, held)) in values.iter().enumerate() {
-        if before(graph, value(alloc, *letter, *number)?)? != *held {
-            return Ok(Some(place));
-        }
-    }
-    Ok(None)
-}
-
 #[test]
 fn values_are_kept(rt: HostRuntime) -> Result<(), Fail> {
-    let mut graph = one_loop(rt.alloc())?;
-    keep_values(rt.alloc(), &rt, &mut graph)
+    let alloc = rt.alloc();
+    assert!(rt; holds(one_loop(alloc), |graph| keeps_values(alloc, graph))?);
+    Ok(())
 }
 
-fn keep_values(alloc: Global, rt: &impl Abort, graph: &mut Graph) -> Result<(), Fail> {
-    let values = [
+// Gives the field these values, behind each of which stands what the field held before.
+fn keeps_values(alloc: Global, graph: &mut Graph) -> Result<bool, Refusal> {
+    for (letter, number, held) in [
         (b'I', 0, b'Z'),
         (b'S', 0, b'Z'),
         (b'S', 1, b'Z'),
         (b'Z', 0, b'S'),
         (b'I', 7, b'Z'),
-    ];
-    assert_eq!(rt; first_unlike(alloc, graph, &values)?, None);
-    assert!(rt; is_seven(graph));
-    assert!(rt; are_others_zero(graph));
-    Ok(())
+    ] {
+        if before(graph, value(alloc, letter, number)?)? != held {
+            return Ok(false);
+        }
+    }
+    Ok(is_seven(graph) && are_others_zero(graph))
 }
 
 // Whether the field is 7, as each reader of fields gives it.
@@ -154,16 +135,17 @@ fn id_and_back(graph: &mut Graph, id: Text) -> Result<usize, Refusal> {
 
 #[test]
 fn ids_have_a_limit(rt: HostRuntime) -> Result<(), Fail> {
-    let mut graph = new_graph(rt.alloc(), 1)?;
-    limit_ids(rt.alloc(), &rt, &mut graph)
+    let alloc = rt.alloc();
+    assert!(rt; holds(new_graph(alloc, 1), |graph| limits_ids(alloc, graph))?);
+    Ok(())
 }
 
-fn limit_ids(alloc: Global, rt: &impl Abort, graph: &mut Graph) -> Result<(), Fail> {
-    let refused = id_and_back(graph, letters(alloc, 161)?);
-    assert!(rt; refused == Err(Refusal::BadOperand));
-    assert!(rt; id_and_back(graph, letters(alloc, 160)?)? == 160);
-    assert!(rt; has_id(graph, b"gb_new_graph(1)"));
-    Ok(())
+fn limits_ids(alloc: Global, graph: &mut Graph) -> Result<bool, Refusal> {
+    Ok(
+        id_and_back(graph, letters(alloc, 161)?) == Err(Refusal::BadOperand)
+            && id_and_back(graph, letters(alloc, 160)?)? == 160
+            && has_id(graph, b"gb_new_graph(1)"),
+    )
 }
 
 fn set_label(graph: &mut Graph, vertex: u32, label: Text) -> Result<(), Refusal> {
@@ -173,16 +155,17 @@ fn set_label(graph: &mut Graph, vertex: u32, label: Text) -> Result<(), Refusal>
 
 #[test]
 fn labels_are_set(rt: HostRuntime) -> Result<(), Fail> {
-    let mut graph = new_graph(rt.alloc(), 1)?;
-    set_labels(rt.alloc(), &rt, &mut graph)
+    let alloc = rt.alloc();
+    assert!(rt; holds(new_graph(alloc, 1), |graph| sets_labels(alloc, graph))?);
+    Ok(())
 }
 
-fn set_labels(alloc: Global, rt: &impl Abort, graph: &mut Graph) -> Result<(), Fail> {
+fn sets_labels(alloc: Global, graph: &mut Graph) -> Result<bool, Refusal> {
     set_label(graph, 0, text(alloc, b"a name")?)?;
-    assert!(rt; has_label(graph, 0, b"a name"));
-    let refused = set_label(graph, 1, text(alloc, b"x")?);
-    assert!(rt; refused == Err(Refusal::BadOperand));
-    Ok(())
+    Ok(
+        has_label(graph, 0, b"a name")
+            && set_label(graph, 1, text(alloc, b"x")?) == Err(Refusal::BadOperand),
+    )
 }
 
 fn set_len(graph: &mut Graph, number: u32, len: i64) -> Result<(), Refusal> {
@@ -208,29 +191,29 @@ fn swap_id(graph: &mut Graph, id: Text) -> Option<usize> {
 
 #[test]
 fn lengths_and_ids_are_swapped(rt: HostRuntime) -> Result<(), Fail> {
-    let mut graph = one_loop(rt.alloc())?;
-    swap_both(rt.alloc(), &rt, &mut graph)
+    let alloc = rt.alloc();
+    assert!(rt; holds(one_loop(alloc), |graph| swaps_both(alloc, graph))?);
+    Ok(())
 }
 
-fn swap_both(alloc: Global, rt: &impl Abort, graph: &mut Graph) -> Result<(), Fail> {
-    assert!(rt; swap_len(graph, 0, 8) == Some(1));
-    assert!(rt; is_arc(graph, 0, 0, 0, 8));
-    assert!(rt; swap_id(graph, text(alloc, b"two")?) == Some(15));
-    assert!(rt; has_id(graph, b"two"));
-    Ok(())
+fn swaps_both(alloc: Global, graph: &mut Graph) -> Result<bool, Refusal> {
+    Ok(
+        swap_len(graph, 0, 8) == Some(1)
+            && is_arc(graph, 0, 0, 0, 8)
+            && swap_id(graph, text(alloc, b"two")?) == Some(15)
+            && has_id(graph, b"two"),
+    )
 }
 
 #[test]
 fn lengths_are_set(rt: HostRuntime) -> Result<(), Fail> {
-    let mut graph = one_loop(rt.alloc())?;
-    set_lengths(&rt, &mut graph)
+    assert!(rt; holds(one_loop(rt.alloc()), sets_lengths)?);
+    Ok(())
 }
 
-fn set_lengths(rt: &impl Abort, graph: &mut Graph) -> Result<(), Fail> {
+fn sets_lengths(graph: &mut Graph) -> Result<bool, Refusal> {
     set_len(graph, 0, -9)?;
-    assert!(rt; is_arc(graph, 0, 0, 0, -9));
-    assert!(rt; set_len(graph, 1, 1) == Err(Refusal::BadOperand));
-    Ok(())
+    Ok(is_arc(graph, 0, 0, 0, -9) && set_len(graph, 1, 1) == Err(Refusal::BadOperand))
 }
 
 // Whether the graph is honest where the field has this letter and this value.
@@ -246,28 +229,16 @@ fn is_honest_with(graph: &mut Graph, letter: u8, value: Util) -> Result<bool, Re
     Ok(honest)
 }
 
-// The place of the first of these letters that allows the value behind it, or does not, against what stands behind that.
-fn first_wrong(
-    alloc: Global,
-    graph: &mut Graph,
-    table: &[(u8, u8, u32, bool)],
-) -> Result<Option<usize>, Refusal> {
-    for (place, (letter, kind, number, allowed)) in table.iter().enumerate() {
-        if is_honest_with(graph, *letter, value(alloc, *kind, *number)?)? != *allowed {
-            return Ok(Some(place));
-        }
-    }
-    Ok(None)
-}
-
 #[test]
 fn letters_allow_values(rt: HostRuntime) -> Result<(), Fail> {
-    let mut graph = one_loop(rt.alloc())?;
-    allow_by_letters(rt.alloc(), &rt, &mut graph)
+    let alloc = rt.alloc();
+    assert!(rt; holds(one_loop(alloc), |graph| allows_by_letters(alloc, graph))?);
+    Ok(())
 }
 
-fn allow_by_letters(alloc: Global, rt: &impl Abort, graph: &mut Graph) -> Result<(), Fail> {
-    let table = [
+// Whether each of these letters allows the value behind it, or does not, as stands behind that.
+fn allows_by_letters(alloc: Global, graph: &mut Graph) -> Result<bool, Refusal> {
+    for (letter, kind, number, allowed) in [
         (b'Z', b'Z', 0, true),
         (b'Z', b'I', 1, false),
         (b'I', b'I', 2, true),
@@ -279,7 +250,10 @@ fn allow_by_letters(alloc: Global, rt: &impl Abort, graph: &mut Graph) -> Result
         (b'A', b'V', 0, false),
         (b'S', b'S', 1, true),
         (b'S', b'I', 1, false),
-    ];
-    assert_eq!(rt; first_wrong(alloc, graph, &table)?, None);
-    Ok(())
+    ] {
+        if is_honest_with(graph, letter, value(alloc, kind, number)?)? != allowed {
+            return Ok(false);
+        }
+    }
+    Ok(true)
 }

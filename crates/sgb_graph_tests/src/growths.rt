@@ -1,14 +1,15 @@
 //! What a refused growth leads to.
 
-use sgb_graph::{Graph, Refusal, VertexNo};
+use crate::edits::{arc, edge, new_graph};
+use crate::looks::holds;
+use sgb_graph::{Graph, Refusal};
 use std::alloc::Global;
-use std::process::Abort;
 use std::test::Fail;
 
 // A graph of three vertices. Where a growth is refused, it is asked for once more.
 fn three_vertices(alloc: Global) -> Result<Graph, Refusal> {
-    match Graph::new(alloc, 3) {
-        Err(Refusal::NoRoom) => Graph::new(alloc, 3),
+    match new_graph(alloc, 3) {
+        Err(Refusal::NoRoom) => new_graph(alloc, 3),
         made => made,
     }
 }
@@ -17,34 +18,30 @@ fn counts(graph: &Graph) -> (u32, u32) {
     (graph.made(), graph.m())
 }
 
-// Makes an arc. Where a growth is refused nothing has changed, and it is asked for once more.
-fn arc_again(rt: &impl Abort, graph: &mut Graph, from: VertexNo, to: VertexNo) {
+// Whether an arc is made. Where a growth is refused nothing has changed, and it is asked for once more.
+fn is_arc_made(graph: &mut Graph, from: u32, to: u32) -> bool {
     let before = counts(graph);
-    if graph.new_arc(from, to, 1).is_err() {
-        assert!(rt; counts(graph) == before);
-        assert!(rt; graph.new_arc(from, to, 1).is_ok());
-    }
+    arc(graph, from, to, 1).is_ok() || counts(graph) == before && arc(graph, from, to, 1).is_ok()
 }
 
-fn edge_again(rt: &impl Abort, graph: &mut Graph, from: VertexNo, to: VertexNo) {
+fn is_edge_made(graph: &mut Graph, from: u32, to: u32) -> bool {
     let before = counts(graph);
-    if graph.new_edge(from, to, 1).is_err() {
-        assert!(rt; counts(graph) == before);
-        assert!(rt; graph.new_edge(from, to, 1).is_ok());
-    }
+    edge(graph, from, to, 1).is_ok() || counts(graph) == before && edge(graph, from, to, 1).is_ok()
 }
 
 #[test]
 fn growths_are_granted_when_asked_again(rt: HostRuntime) -> Result<(), Fail> {
-    let mut graph = three_vertices(rt.alloc())?;
-    grow_again(&rt, &mut graph)
+    assert!(rt; holds(three_vertices(rt.alloc()), are_granted)?);
+    Ok(())
 }
 
-fn grow_again(rt: &impl Abort, graph: &mut Graph) -> Result<(), Fail> {
+fn are_granted(graph: &mut Graph) -> Result<bool, Refusal> {
     for number in 0..40u32 {
-        arc_again(&rt, graph, VertexNo(number % 3), VertexNo(number % 2));
-        edge_again(&rt, graph, VertexNo(number % 3), VertexNo(number % 2));
+        if !is_arc_made(graph, number % 3, number % 2)
+            || !is_edge_made(graph, number % 3, number % 2)
+        {
+            return Ok(false);
+        }
     }
-    assert!(rt; counts(graph) == (120, 120));
-    Ok(())
+    Ok(counts(graph) == (120, 120))
 }

@@ -1,28 +1,27 @@
 //! The largest graphs.
 
 use crate::edits::{arc, arc_and_back, cut, cut_and_back, edge, new_graph};
-use crate::looks::has_counts;
+use crate::looks::{has_counts, holds, shows};
 use sgb_graph::{Graph, MOST_ARCS, MOST_VERTICES, Refusal, VertexNo};
-use std::alloc::Global;
-use std::process::Abort;
 use std::test::Fail;
 
 #[test]
 fn no_more_vertices_than_65535(rt: HostRuntime) -> Result<(), Fail> {
-    let large = new_graph(rt.alloc(), 65_536).err();
-    assert!(rt; large == Some(Refusal::TooLarge));
-    let largest = new_graph(rt.alloc(), 65_535)?;
-    assert!(rt; largest.n() == 65_535);
+    assert!(rt; shows(new_graph(rt.alloc(), 65_536), is_largest) == Err(Refusal::TooLarge));
+    assert!(rt; shows(new_graph(rt.alloc(), 65_535), is_largest)?);
     Ok(())
 }
 
-// A graph of 65,535 vertices that has given out so many numbers.
-fn with_arcs(alloc: Global, count: u32) -> Result<Graph, Refusal> {
-    let mut graph = new_graph(alloc, MOST_VERTICES)?;
+fn is_largest(graph: &Graph) -> bool {
+    graph.n() == 65_535
+}
+
+// Makes so many arcs in a graph of 65,535 vertices.
+fn add_arcs(graph: &mut Graph, count: u32) -> Result<(), Refusal> {
     for number in 0..count {
-        arc(&mut graph, number % MOST_VERTICES, 7, 1)?;
+        arc(graph, number % MOST_VERTICES, 7, 1)?;
     }
-    Ok(graph)
+    Ok(())
 }
 
 // Cuts the first arcs.
@@ -35,19 +34,25 @@ fn cut_all(graph: &mut Graph, count: u32) -> Result<(), Refusal> {
 
 #[test]
 fn no_more_numbers_than_a_million(rt: HostRuntime) -> Result<(), Fail> {
-    let mut graph = with_arcs(rt.alloc(), 999_999)?;
-    fill_up(&rt, &mut graph)
+    assert!(rt; holds(new_graph(rt.alloc(), MOST_VERTICES), is_filled_up)?);
+    Ok(())
 }
 
-fn fill_up(rt: &impl Abort, graph: &mut Graph) -> Result<(), Fail> {
-    assert!(rt; edge(graph, 0, 1, 1) == Err(Refusal::TooLarge));
-    assert!(rt; arc_and_back(graph, 0, 1)? == 999_999);
-    assert!(rt; arc(graph, 0, 1, 1)? == 999_999);
-    assert!(rt; arc(graph, 0, 1, 1) == Err(Refusal::TooLarge));
+fn is_filled_up(graph: &mut Graph) -> Result<bool, Refusal> {
+    add_arcs(graph, 999_999)?;
+    Ok(
+        edge(graph, 0, 1, 1) == Err(Refusal::TooLarge)
+            && arc_and_back(graph, 0, 1)? == 999_999
+            && arc(graph, 0, 1, 1)? == 999_999
+            && arc(graph, 0, 1, 1) == Err(Refusal::TooLarge)
+            && stays_full(graph)?,
+    )
+}
+
+// Whether there are no numbers left where all arcs are cut.
+fn stays_full(graph: &mut Graph) -> Result<bool, Refusal> {
     cut_all(graph, 1_000_000)?;
-    assert!(rt; has_counts(graph, 1_000_000, 0));
-    assert!(rt; arc(graph, 0, 1, 1) == Err(Refusal::TooLarge));
-    Ok(())
+    Ok(has_counts(graph, 1_000_000, 0) && arc(graph, 0, 1, 1) == Err(Refusal::TooLarge))
 }
 
 // How many arcs all lists have.
@@ -63,15 +68,19 @@ fn listed(graph: &Graph) -> u32 {
 
 #[test]
 fn the_largest_graph(rt: HostRuntime) -> Result<(), Fail> {
-    let mut graph = with_arcs(rt.alloc(), MOST_ARCS)?;
-    walk_and_cut(&rt, &mut graph)
+    assert!(rt; holds(new_graph(rt.alloc(), MOST_VERTICES), is_walked_and_cut)?);
+    Ok(())
 }
 
-fn walk_and_cut(rt: &impl Abort, graph: &mut Graph) -> Result<(), Fail> {
-    assert!(rt; listed(graph) == MOST_ARCS);
-    for number in 0..1000u32 {
-        assert!(rt; cut_and_back(graph, number * 999)? == Some(999_999));
+fn is_walked_and_cut(graph: &mut Graph) -> Result<bool, Refusal> {
+    add_arcs(graph, MOST_ARCS)?;
+    if listed(graph) != MOST_ARCS {
+        return Ok(false);
     }
-    assert!(rt; has_counts(graph, MOST_ARCS, MOST_ARCS));
-    Ok(())
+    for number in 0..1000u32 {
+        if cut_and_back(graph, number * 999)? != Some(999_999) {
+            return Ok(false);
+        }
+    }
+    Ok(has_counts(graph, MOST_ARCS, MOST_ARCS))
 }

@@ -1,6 +1,27 @@
 //! How a graph looks: questions that promise nothing, so that the proof of a test stays short.
 
-use sgb_graph::{ArcNo, ArcView, Graph, Tip, VertexNo};
+use sgb_graph::{ArcNo, ArcView, Graph, Refusal, Tip, VertexNo};
+
+/// Whether this is so of a graph once it is made. A proof has to follow the graph to each way out of its owner, so tests
+/// own none: they hand it on to this, which does.
+pub fn holds<F: FnOnce(&mut Graph) -> Result<bool, Refusal>>(
+    made: Result<Graph, Refusal>,
+    is_so: F,
+) -> Result<bool, Refusal>
+    requires { F.IsAlwaysCallable is_so }
+{
+    is_so(&mut made?)
+}
+
+/// Whether a graph looks so once it is made.
+pub fn shows<F: FnOnce(&Graph) -> bool>(
+    made: Result<Graph, Refusal>,
+    is_so: F,
+) -> Result<bool, Refusal>
+    requires { F.IsAlwaysCallable is_so }
+{
+    Ok(is_so(&made?))
+}
 
 /// Whether a vertex lists these numbers.
 pub fn lists(graph: &Graph, vertex: u32, numbers: &[u32]) -> bool {

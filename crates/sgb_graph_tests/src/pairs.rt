@@ -1,28 +1,29 @@
 //! Arcs with their other halves.
 
 use crate::edits::{arc, edge, new_graph};
-use crate::looks::is_paired;
+use crate::looks::{holds, is_paired};
 use sgb_graph::{ArcNo, Graph, Refusal, VertexNo};
-use std::process::Abort;
 use std::test::Fail;
 
 #[test]
 fn edges_are_paired(rt: HostRuntime) -> Result<(), Fail> {
-    let mut graph = new_graph(rt.alloc(), 2)?;
-    pair_edges(&rt, &mut graph)
+    assert!(rt; holds(new_graph(rt.alloc(), 2), are_edges_paired)?);
+    Ok(())
 }
 
-fn pair_edges(rt: &impl Abort, graph: &mut Graph) -> Result<(), Fail> {
-    assert!(rt; is_paired(graph));
-    edge(graph, 1, 0, 1)?;
-    assert!(rt; is_paired(graph));
-    for _ in 0..2u32 {
-        edge(graph, 1, 1, 1)?;
-        assert!(rt; is_paired(graph));
-    }
+fn are_edges_paired(graph: &mut Graph) -> Result<bool, Refusal> {
+    let are_edges = is_paired(graph)
+        && is_paired_behind_edge(graph, 1, 0)?
+        && is_paired_behind_edge(graph, 1, 1)?
+        && is_paired_behind_edge(graph, 1, 1)?;
     arc(graph, 0, 1, 1)?;
-    assert!(rt; !is_paired(graph));
-    Ok(())
+    Ok(are_edges && !is_paired(graph))
+}
+
+// Whether the graph is paired once it has this edge.
+fn is_paired_behind_edge(graph: &mut Graph, from: u32, to: u32) -> Result<bool, Refusal> {
+    edge(graph, from, to, 1)?;
+    Ok(is_paired(graph))
 }
 
 // Whether the graph is paired while this arc is cut.
@@ -43,19 +44,22 @@ fn is_paired_with(graph: &mut Graph, from: u32, to: u32) -> Result<bool, Refusal
 
 #[test]
 fn a_half_alone_is_told(rt: HostRuntime) -> Result<(), Fail> {
-    let mut graph = new_graph(rt.alloc(), 2)?;
-    leave_halves_alone(&rt, &mut graph)
+    assert!(rt; holds(new_graph(rt.alloc(), 2), is_half_alone_told)?);
+    Ok(())
 }
 
-fn leave_halves_alone(rt: &impl Abort, graph: &mut Graph) -> Result<(), Fail> {
+fn is_half_alone_told(graph: &mut Graph) -> Result<bool, Refusal> {
     edge(graph, 1, 0, 1)?;
     edge(graph, 1, 1, 1)?;
     for number in 0..4u32 {
-        assert!(rt; !is_paired_without(graph, number)?);
+        if is_paired_without(graph, number)? {
+            return Ok(false);
+        }
     }
-    assert!(rt; is_paired(graph));
-    assert!(rt; !is_paired_with(graph, 0, 0)?);
-    assert!(rt; !is_paired_with(graph, 0, 1)?);
-    assert!(rt; is_paired(graph));
-    Ok(())
+    Ok(
+        is_paired(graph)
+            && !is_paired_with(graph, 0, 0)?
+            && !is_paired_with(graph, 0, 1)?
+            && is_paired(graph),
+    )
 }

@@ -1,12 +1,11 @@
 //! Graphs from their saved parts.
 
-use crate::looks::{has_counts, has_id, is_arc, is_hole, lists};
+use crate::looks::{has_counts, has_id, is_arc, is_hole, lists, shows};
 use sgb_graph::{
     ArcNo, ArcPart, Graph, Items, Label, Parts, Refusal, Text, Tip, Types, Util, VertexNo,
     VertexPart,
 };
 use std::alloc::Global;
-use std::process::Abort;
 use std::test::Fail;
 
 fn zeros() -> [Util; 6] {
@@ -22,11 +21,17 @@ fn zeros() -> [Util; 6] {
 
 // A vertex with the number 7 in its last field, and a number 0 in its first.
 fn vertex(alloc: Global, label: &[u8], first: Option<ArcNo>) -> Result<VertexPart, Refusal> {
-    let mut fields = zeros();
-    fields[0] = Util::Int(0);
-    fields[5] = Util::Int(7);
+    let label = Label::new(Text::new(alloc, label)?);
+    let fields = [
+        Util::Int(0),
+        Util::Zero,
+        Util::Zero,
+        Util::Zero,
+        Util::Zero,
+        Util::Int(7),
+    ];
     Ok(VertexPart {
-        label: Label::new(Text::new(alloc, label)?),
+        label,
         fields,
         first,
     })
@@ -94,18 +99,17 @@ fn one_edge_again(alloc: Global) -> Result<Graph, Refusal> {
 
 #[test]
 fn a_graph_of_parts(rt: HostRuntime) -> Result<(), Fail> {
-    let graph = one_edge_again(rt.alloc())?;
-    expect_one_edge(&rt, &graph);
+    assert!(rt; shows(one_edge_again(rt.alloc()), is_one_edge)?);
     Ok(())
 }
 
-fn expect_one_edge(rt: &impl Abort, graph: &Graph) {
-    assert!(rt; has_id(graph, b"two"));
-    assert!(rt; has_counts(graph, 3, 2));
-    assert!(rt; lists(graph, 0, &[0]));
-    assert!(rt; is_arc(graph, 0, 0, 1, 5));
-    assert!(rt; is_arc(graph, 1, 1, 0, 5));
-    assert!(rt; is_hole(graph, 2));
+fn is_one_edge(graph: &Graph) -> bool {
+    has_id(graph, b"two")
+        && has_counts(graph, 3, 2)
+        && lists(graph, 0, &[0])
+        && is_arc(graph, 0, 0, 1, 5)
+        && is_arc(graph, 1, 1, 0, 5)
+        && is_hole(graph, 2)
 }
 
 fn why_refused(
