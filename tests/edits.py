@@ -96,10 +96,12 @@ class Function:
         before = r'(?:\bself\.|\b(?:Self|%s)::)' % self.owner[0] if self.owner else r'(?:::|(?<![\w.]))'
         own_call = r'%s%s(?:::<.*>)?\(' % (before, self.name)
         is_alone = not re.search(own_call, body.partition('{')[2]) and '#[cycle' not in attributes
-        return is_alone and len(self.homes) == 1 and (self.owner is None or self.owner[1:] == ('',))
+        # (an attribute of several lines would be lost)
+        is_whole = not lines[self.above(lines) - 1].endswith(']')
+        return is_alone and is_whole and len(self.homes) == 1 and (self.owner is None or self.owner[1:] == ('',))
 
     def above(self, lines):
-        """The line with which its attributes begin."""
+        """The line with which its attributes begin, of which each has one."""
         return next(it for it in range(self.head, -1, -1) if it == 0 or not lines[it - 1].lstrip().startswith('#['))
 
     def folder(self):
