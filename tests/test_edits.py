@@ -139,7 +139,8 @@ EDITS_TRIED = [
     # Of these the first is refused by a written answer, and the second by a goal that has none.
     ('tiny', 'held-two_more', '{ x }', '{ x + 2 }', 'refused, as it must be: tiny::apart::held, `returns-then-x-lt9`'),
     ('tiny', 'held-at_ten', '{ 9 }', '{ 10 }', 'refused, as it must be: tiny::apart::held, `returns-else-x-lt9`'),
-    # The twin of a method has its written answer, which proves what the contract allows.
+    ('tiny', 'held-one_more', '{ x }', '{ x + 1 }', 'NOT REFUSED'),
+    # The twin of a method has its written answer too, which proves what the contract allows.
     ('tiny', 'shown-two_more', '{ self.number }', '{ self.number + 2 }',
      'refused, as it must be: tiny::apart::Digit::shown, `returns-then-self-lt8`'),
     ('tiny', 'shown-one_more', '{ self.number }', '{ self.number + 1 }', 'NOT REFUSED'),
@@ -150,9 +151,9 @@ EDITS_TRIED = [
 # What else must be told, and what the runs end with.
 TOLD = ['crates/tiny/edits/notes.txt: no edit',
         'open: the crate is not proved, so its 1 edits show nothing',
-        'tiny: 7 of 15 edits refused',
+        'tiny: 7 of 16 edits refused',
         'upper: 1 of 1 edits refused',
-        'edits: 8 passed, 9 failed']
+        'edits: 8 passed, 10 failed']
 
 
 def write(file, text):
