@@ -309,8 +309,9 @@ def write(path, text):
 
 
 def has_answers(crate, function):
-    """Whether proofs of goals of the function are written, and its file does not say of a function how to prove it."""
-    is_told = 'tactic(' in rtlib.text_of('%s/%s' % (crate.folder, function.file))
+    """Whether proofs of goals of the function are written, and it does not say itself how to prove it."""
+    lines = rtlib.text_of('%s/%s' % (crate.folder, function.file)).split('\n')
+    is_told = any('tactic(' in it for it in lines[function.above(lines):function.head + 1])
     return not is_told and os.path.isfile('%s/%s' % (crate.folder, function.origin.answers()))
 
 
