@@ -150,8 +150,8 @@ pub fn product_of_edges(alloc: Global, kind: i64, directed: bool) -> Made {
 }
 
 /// Whether it was made, with this id and with these arcs by their numbers.
-pub fn is_as(made: &Made, id: &[u8], arcs: &[Line]) -> bool {
-    has_id(made, id) && arcs_are(made, arcs)
+pub fn is_as(made: Made, id: &[u8], arcs: &[Line]) -> bool {
+    has_id(&made, id) && arcs_are(&made, arcs)
 }
 
 fn arcs_are(made: &Made, wanted: &[Line]) -> bool {

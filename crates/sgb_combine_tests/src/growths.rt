@@ -63,7 +63,7 @@ fn product_again(alloc: Global) -> Made {
 fn of_complements_are_granted_when_asked_again(rt: HostRuntime) {
     assert!(rt;
         is_as(
-            &complement_of_first(rt.alloc()),
+            complement_of_first(rt.alloc()),
             b"complement(gb_new_graph(4),1,1,1)",
             &[(0, 1, 1), (1, 0, 1), (1, 1, 1), (2, 0, 1), (3, 3, 1)]
         )
@@ -74,7 +74,7 @@ fn of_complements_are_granted_when_asked_again(rt: HostRuntime) {
 fn of_absences_are_granted_when_asked_again(rt: HostRuntime) {
     assert!(rt;
         is_as(
-            &absences_of_edge(rt.alloc()),
+            absences_of_edge(rt.alloc()),
             b"complement(gb_new_graph(2),0,1,1)",
             &[(0, 0, 1), (1, 1, 1)]
         )
@@ -85,7 +85,7 @@ fn of_absences_are_granted_when_asked_again(rt: HostRuntime) {
 fn of_unions_are_granted_when_asked_again(rt: HostRuntime) {
     assert!(rt;
         is_as(
-            &union_again(rt.alloc()),
+            union_again(rt.alloc()),
             b"gunion(gb_new_graph(4),gb_new_graph(3),0,0)",
             &[
                 (0, 1, 5),
@@ -103,7 +103,7 @@ fn of_unions_are_granted_when_asked_again(rt: HostRuntime) {
 fn of_intersections_are_granted_when_asked_again(rt: HostRuntime) {
     assert!(rt;
         is_as(
-            &intersection_again(rt.alloc()),
+            intersection_again(rt.alloc()),
             b"intersection(gb_new_graph(4),gb_new_graph(3),0,0)",
             &[(0, 1, 6), (1, 0, 6), (1, 1, 8), (1, 1, 8)]
         )
@@ -114,7 +114,7 @@ fn of_intersections_are_granted_when_asked_again(rt: HostRuntime) {
 fn of_products_are_granted_when_asked_again(rt: HostRuntime) {
     assert!(rt;
         is_as(
-            &product_again(rt.alloc()),
+            product_again(rt.alloc()),
             b"product(gb_new_graph(2),gb_new_graph(2),0,0)",
             &[
                 (0, 2, 5),

@@ -97,7 +97,11 @@ fn is_mixed(made: &Made) -> bool {
         && is_arc(made, 19, 4, 4, 6)
 }
 
+fn grants_mixed(alloc: Global) -> bool {
+    is_mixed(&induced_again(alloc, &mixed_again(alloc)))
+}
+
 #[test]
 fn growths_are_granted_when_asked_again(rt: HostRuntime) {
-    assert!(rt; is_mixed(&induced_again(rt.alloc(), &mixed_again(rt.alloc()))));
+    assert!(rt; grants_mixed(rt.alloc()));
 }

@@ -4,7 +4,6 @@ use crate::graphs::{Made, first, leading_to};
 use sgb_graph::{Graph, Refusal, Tip, VertexNo};
 use sgb_operand::{Spoke, check_operand, read_spokes};
 use std::alloc::{AllocError, Global};
-use std::process::Abort;
 
 // How many spokes vertex 1 has, and its first one.
 fn of_vertex_1(
@@ -28,36 +27,42 @@ fn of_made(alloc: Global, made: &Made, directed: bool) -> Option<(usize, Option<
 
 #[test]
 fn spokes(rt: HostRuntime) {
-    let graph = first(rt.alloc());
-    read_both(&rt, rt.alloc(), &graph);
+    assert!(rt; reads_both(rt.alloc(), first(rt.alloc())));
 }
 
-fn read_both(rt: &impl Abort, alloc: Global, graph: &Made) {
+fn reads_both(alloc: Global, graph: Made) -> bool {
+    has_spokes(alloc, &graph, true, 4) && has_spokes(alloc, &graph, false, 3)
+}
+
+fn has_spokes(alloc: Global, graph: &Made, directed: bool, count: usize) -> bool {
     let newest = Some(Spoke { to: 1, len: 3 });
-    assert!(rt; of_made(alloc, graph, true) == Some((4, newest)));
-    assert!(rt; of_made(alloc, graph, false) == Some((3, newest)));
+    of_made(alloc, graph, directed) == Some((count, newest))
 }
 
 // What is told of the graph as an operand.
-fn told(made: &Made) -> Result<(), Refusal> {
-    match made {
+fn told(made: Made) -> Result<(), Refusal> {
+    match &made {
         Ok(graph) => check_operand(graph),
         Err(_) => Err(Refusal::NoRoom),
     }
 }
 
 fn told_of_first(alloc: Global) -> Result<(), Refusal> {
-    told(&first(alloc))
+    told(first(alloc))
 }
 
 fn told_of(alloc: Global, tip: Tip) -> Result<(), Refusal> {
-    told(&leading_to(alloc, tip))
+    told(leading_to(alloc, tip))
 }
 
 #[test]
 fn checked(rt: HostRuntime) {
-    assert!(rt; told_of_first(rt.alloc()).is_ok());
-    assert!(rt; told_of(rt.alloc(), Tip::Zero) == Err(Refusal::BadOperand));
-    assert!(rt; told_of(rt.alloc(), Tip::One) == Err(Refusal::BadOperand));
-    assert!(rt; told_of(rt.alloc(), Tip::To(VertexNo(0))).is_ok());
+    assert!(rt; is_told(rt.alloc()));
+}
+
+fn is_told(alloc: Global) -> bool {
+    told_of_first(alloc).is_ok()
+        && told_of(alloc, Tip::Zero) == Err(Refusal::BadOperand)
+        && told_of(alloc, Tip::One) == Err(Refusal::BadOperand)
+        && told_of(alloc, Tip::To(VertexNo(0))).is_ok()
 }

@@ -13,17 +13,25 @@ fn stepping(alloc: Global, step: u32) -> Made {
 
 fn insert_steps(graph: &mut Graph, step: u32) -> Result<(), Refusal> {
     for v in 0..1000u32 {
-        for k in 1..51u32 {
-            let to = (v + k % 64 * (step % 64)) % 1000;
-            graph.new_edge(VertexNo(v), VertexNo(to), 1)?;
-        }
+        insert_from(graph, v, step)?;
     }
     Ok(())
 }
 
+fn insert_from(graph: &mut Graph, v: u32, step: u32) -> Result<(), Refusal> {
+    for k in 1..51u32 {
+        graph.new_edge(VertexNo(v), VertexNo(stepped(v, k, step)), 1)?;
+    }
+    Ok(())
+}
+
+fn stepped(v: u32, k: u32, step: u32) -> u32 {
+    (v % 1000 + k % 64 * (step % 64)) % 1000
+}
+
 // How many arcs the lists of all vertices have, one by one.
-fn walked(made: &Made) -> usize {
-    match made {
+fn walked(made: Made) -> usize {
+    match &made {
         Ok(graph) => count_arcs(graph),
         Err(_) => 0,
     }
@@ -39,7 +47,7 @@ fn count_arcs(graph: &Graph) -> usize {
 
 // How many arcs the union of steps of 1 to 50 and of 3 to 150 by threes has.
 fn walked_union(alloc: Global, multi: bool) -> usize {
-    walked(&union_of_steps(alloc, multi))
+    walked(union_of_steps(alloc, multi))
 }
 
 fn union_of_steps(alloc: Global, multi: bool) -> Made {
@@ -67,9 +75,12 @@ fn counted_steps(multi: bool) -> usize {
 
 #[test]
 fn of_many_edges(rt: HostRuntime) {
-    assert!(rt; counted_steps(true) == 200_000);
-    assert!(rt; walked_union(rt.alloc(), true) == counted_steps(true));
+    assert!(rt; has_steps(rt.alloc(), true, 200_000));
     // 16 of the steps by threes are below 51.
-    assert!(rt; counted_steps(false) == 168_000);
-    assert!(rt; walked_union(rt.alloc(), false) == counted_steps(false));
+    assert!(rt; has_steps(rt.alloc(), false, 168_000));
+}
+
+// Whether so many are counted, and the union has as many.
+fn has_steps(alloc: Global, multi: bool, count: usize) -> bool {
+    counted_steps(multi) == count && walked_union(alloc, multi) == counted_steps(multi)
 }

@@ -10,7 +10,6 @@ use sgb_graph::Refusal;
 use sgb_lengths::LengthsSpec;
 use sgb_plan::Seed;
 use std::alloc::Global;
-use std::process::Abort;
 
 fn spec(directed: bool, min: i64, max: i64) -> LengthsSpec {
     LengthsSpec { directed, min, max }
@@ -24,14 +23,13 @@ fn draws_of_a_die(alloc: Global, made: &mut Made) -> Option<u64> {
 
 #[test]
 fn an_edge_has_one_length(rt: HostRuntime) {
-    let mut made = one_edge(rt.alloc(), 9);
-    lengthen_edge(&rt, rt.alloc(), &mut made);
+    assert!(rt; lengthens_edge(rt.alloc(), one_edge(rt.alloc(), 9)));
 }
 
-fn lengthen_edge(rt: &impl Abort, alloc: Global, made: &mut Made) {
-    assert!(rt; draws_of_a_die(alloc, made) == Some(1));
-    assert!(rt; has_lengths(made, &[5, 5]));
-    assert!(rt; has_id(made, b"random_lengths(gb_new_graph(2),0,1,6,0,-)"));
+fn lengthens_edge(alloc: Global, mut made: Made) -> bool {
+    draws_of_a_die(alloc, &mut made) == Some(1)
+        && has_lengths(&made, &[5, 5])
+        && has_id(&made, b"random_lengths(gb_new_graph(2),0,1,6,0,-)")
 }
 
 // The number that a generator of seed 0 gives once lengths and their draws were taken back.
@@ -44,14 +42,13 @@ fn next_after_both(alloc: Global, made: &mut Made) -> Option<u32> {
 
 #[test]
 fn lengths_are_taken_back(rt: HostRuntime) {
-    let mut made = one_edge(rt.alloc(), 9);
-    take_back(&rt, rt.alloc(), &mut made);
+    assert!(rt; takes_back(rt.alloc(), one_edge(rt.alloc(), 9)));
 }
 
-fn take_back(rt: &impl Abort, alloc: Global, made: &mut Made) {
-    assert!(rt; next_after_both(alloc, made) == Some(2029883356));
-    assert!(rt; has_lengths(made, &[9, 9]));
-    assert!(rt; has_id(made, b"gb_new_graph(2)"));
+fn takes_back(alloc: Global, mut made: Made) -> bool {
+    next_after_both(alloc, &mut made) == Some(2029883356)
+        && has_lengths(&made, &[9, 9])
+        && has_id(&made, b"gb_new_graph(2)")
 }
 
 // The number of draws where the graph has lengths up to 1,000, of seed 5.
@@ -63,31 +60,28 @@ fn draws(alloc: Global, made: &mut Made, directed: bool) -> Option<u64> {
 
 #[test]
 fn every_arc_draws_where_arcs_are_meant(rt: HostRuntime) {
-    let mut made = mixed(rt.alloc());
-    lengthen_mixed(&rt, rt.alloc(), &mut made);
+    assert!(rt; lengthens_mixed(rt.alloc(), mixed(rt.alloc())));
 }
 
-fn lengthen_mixed(rt: &impl Abort, alloc: Global, made: &mut Made) {
-    assert!(rt; draws(alloc, made, true) == Some(6));
-    assert!(rt; has_lengths(made, &[978, 122, 709, 205, 776, 467]));
-    assert!(rt; has_id(made, b"random_lengths(gb_new_graph(4),1,1,1000,0,5)"));
+fn lengthens_mixed(alloc: Global, mut made: Made) -> bool {
+    draws(alloc, &mut made, true) == Some(6)
+        && has_lengths(&made, &[978, 122, 709, 205, 776, 467])
+        && has_id(&made, b"random_lengths(gb_new_graph(4),1,1,1000,0,5)")
 }
 
 #[test]
 fn other_halves_do_not_draw(rt: HostRuntime) {
-    let mut made = paired(rt.alloc());
-    lengthen_paired(&rt, rt.alloc(), &mut made);
+    assert!(rt; lengthens_paired(rt.alloc(), paired(rt.alloc())));
 }
 
-fn lengthen_paired(rt: &impl Abort, alloc: Global, made: &mut Made) {
-    assert!(rt; draws(alloc, made, false) == Some(4));
-    assert!(rt; has_lengths(made, &[467, 467, 978, 978, 709, 709, 122, 122]));
+fn lengthens_paired(alloc: Global, mut made: Made) -> bool {
+    draws(alloc, &mut made, false) == Some(4)
+        && has_lengths(&made, &[467, 467, 978, 978, 709, 709, 122, 122])
 }
 
 #[test]
 fn the_delta_keeps_lengths_and_id(rt: HostRuntime) {
-    let kept = kept_of_mixed(rt.alloc());
-    look_at_kept(&rt, &kept);
+    assert!(rt; is_kept(kept_of_mixed(rt.alloc())));
 }
 
 fn kept_of_mixed(alloc: Global) -> Kept {
@@ -95,9 +89,8 @@ fn kept_of_mixed(alloc: Global) -> Kept {
     kept(alloc, &mut made, &spec(true, 0, 9))
 }
 
-fn look_at_kept(rt: &impl Abort, kept: &Kept) {
-    assert!(rt; keeps_lengths(kept, &[0, 8, 8, 2, 2, 9]));
-    assert!(rt; keeps_id(kept, b"gb_new_graph(4)"));
+fn is_kept(kept: Kept) -> bool {
+    keeps_lengths(&kept, &[0, 8, 8, 2, 2, 9]) && keeps_id(&kept, b"gb_new_graph(4)")
 }
 
 // The refusal of lengths for this graph, and what a generator of seed 0 gives then.
@@ -108,16 +101,19 @@ fn refusal(alloc: Global, made: &mut Made, min: i64, max: i64) -> (Option<Refusa
     (refusal, flip.next())
 }
 
-#[test]
-fn refusals_have_their_order(rt: HostRuntime) {
-    let mut made = without(one_edge(rt.alloc(), 9), 1);
-    refuse_lengths(&rt, rt.alloc(), &mut made);
+// Whether lengths are refused so, and the generator still gives its first number.
+fn refuses(alloc: Global, made: &mut Made, min: i64, max: i64, wanted: Refusal) -> bool {
+    refusal(alloc, made, min, max) == (Some(wanted), 2029883356u32)
 }
 
-fn refuse_lengths(rt: &impl Abort, alloc: Global, made: &mut Made) {
-    let first = 2029883356u32;
-    assert!(rt; refusal(alloc, made, 5, 4) == (Some(Refusal::TooLarge), first));
-    assert!(rt; refusal(alloc, made, 0, 2147483648) == (Some(Refusal::LengthRange), first));
-    assert!(rt; refusal(alloc, made, 1, 6) == (Some(Refusal::BadOperand), first));
-    assert!(rt; has_lengths(made, &[9, -1]));
+#[test]
+fn refusals_have_their_order(rt: HostRuntime) {
+    assert!(rt; refuses_lengths(rt.alloc(), without(one_edge(rt.alloc(), 9), 1)));
+}
+
+fn refuses_lengths(alloc: Global, mut made: Made) -> bool {
+    refuses(alloc, &mut made, 5, 4, Refusal::TooLarge)
+        && refuses(alloc, &mut made, 0, 2147483648, Refusal::LengthRange)
+        && refuses(alloc, &mut made, 1, 6, Refusal::BadOperand)
+        && has_lengths(&made, &[9, -1])
 }
