@@ -4,19 +4,20 @@
     edits.py [-v] [NAME | FILE ..]
     edits.py --as-proved
 
-An edit is written as those in must-fail/ are. Many are tried at a time: they are laid on one copy of the crate, the copy
-is checked over the work that `rt check` kept, and each edit must be refused at a function whose body it edits. Where it can,
-an edit of a function is laid on a twin, which stands beside it with its contract and its written proofs, so that a check takes
-many edits of one function; else on the function itself, one at a time. Where no refusal names an edit, or the copy cannot be
-read, the edit is tried again alone; so is one that edits no body, which any refusal may meet. An edit of a function with
-written answers is tried by these alone first, but for one that says that none refuses it, and by all goals where none does.
+An edit is written as those in must-fail/ are. Many are tried at a time: they are laid on one copy of the crate, and each
+must be refused at a function whose body it edits. Where it can, an edit of a function is laid on a twin, which stands beside it
+with its contract and its written proofs, so that a check takes many edits of one function; else on the function itself, one at a
+time. What a function calls is known to it by its contract alone, so on the copy all bodies that no edit turns are left out, and
+the check passes over what no edit turns nor that calls. Where no refusal names an edit, or the copy cannot be read, the edit is
+tried again alone; so is one that edits no body, which any refusal may meet, on a copy with all bodies, and one of a constant,
+with those that name it. An edit of a function with written answers is tried by these alone first, but for one that says that
+none refuses it, and by all goals where none does.
 The crates themselves must be proved. With names it tries the edits of those crates alone, with files those edits, also of
 must-fail/, and with -v it tells what refused each, and how long that function took the check; what the check begins with
 counts with the first.
 
 With --as-proved it reads names of crates, one a line, as another run proves them and leaves their libraries, and tries
-the edits of each once those below it are named; those of a crate that is not named in the end fail. There the first check,
-with few edits, begins from nothing: it proves what edits turn and what that calls, and that is kept for the others.
+the edits of each once those below it are named; those of a crate that is not named in the end fail.
 """
 import importlib.machinery
 import importlib.util
@@ -36,24 +37,25 @@ from concurrent.futures import Future, ThreadPoolExecutor, wait
 # What one check takes, at most: of memory, and of the disk on which its copy lies.
 MEMORY = 3_000_000_000
 DISK = 1_000_000_000
-# How many edits a check takes, at most.
-AT_ONCE = 40
-# The rank of a crate's first check, for which its others wait.
-FIRST = -AT_ONCE - 1
+# How many edits a check takes, at most; and of a crate of so many functions, whose twins take more memory.
+AT_ONCE = 70
+LARGE, AT_ONCE_IN_LARGE = 100, 40
 # One check is started at a time.
 STARTING = threading.Lock()
-# By crate, the names of its functions, where a first check told them.
-TOLD = {}
 # By crate, the seconds of processor that each of its checks took.
 TOOK = {}
 
 NAME = re.compile(r'\w+-[\w-]+\.edit')
 FUNCTION = re.compile(r'( *)(?:pub(?:\([^)]*\))? )?(?:\w+ )*fn (\w+)')
+CONSTANT = re.compile(r' *(?:pub(?:\([^)]*\))? )?(?:const|static) (\w+): [^{]*$')
 OWNER = re.compile(r'(?:pub(?:\([^)]*\))? )?(?:impl|trait)\b')
 # The line of an edit that is not tried by answers alone, so that nothing is lost but time where it is wrong.
 NO_ANSWER = 'No written answer refuses it.'
 # With this on a function, a check tries those of its goals alone whose proof is written.
 NO_TACTIC = '#[tactic(none)]'
+# What stands on a copy for a body that no edit turns, and the files of its proof, which it has none of then.
+LEFT_OUT = 'unreachable!()'
+PROOFS = ('Answers.antt', 'Invariants.antt', 'Proof.antt')
 # A function that a check is done with.
 DONE = re.compile(r'checked (\S+), \d+ of \d+$')
 # How antt tells that a proof names what the edit took away, which says nothing of a contract.
@@ -90,15 +92,22 @@ class Function:
 
     def takes_twin(self, lines):
         """Whether another one may stand beside it in these lines of its file: not in a trait, nor in an impl of one, where all names are
-        given, nor where its proofs are not known to be, nor beside one that calls itself or others in a circle, whose proof is theirs."""
+        given, nor where its proofs are not known to be, nor beside one whose proof is not its own."""
+        return self.is_alone(lines) and len(self.homes) == 1 and (self.owner is None or self.owner[1:] == ('',))
+
+    def is_alone(self, lines):
+        """Whether its proof is its own: it calls neither itself nor others in a circle, whose proof is theirs."""
         body = '\n'.join(lines[self.lines[0]:self.lines[1] + 1])
         attributes = '\n'.join(lines[it] for it in range(self.above(lines), self.head))
         before = r'(?:\bself\.|\b(?:Self|%s)::)' % self.owner[0] if self.owner else r'(?:::|(?<![\w.]))'
         own_call = r'%s%s(?:::<.*>)?\(' % (before, self.name)
-        is_alone = not re.search(own_call, body.partition('{')[2]) and '#[cycle' not in attributes
         # (an attribute of several lines would be lost)
         is_whole = not lines[self.above(lines) - 1].endswith(']')
-        return is_alone and is_whole and len(self.homes) == 1 and (self.owner is None or self.owner[1:] == ('',))
+        return is_whole and not re.search(own_call, body.partition('{')[2]) and '#[cycle' not in attributes
+
+    def names(self, name, lines):
+        """Whether its body names this in these lines of its file."""
+        return any(re.search(r'\b%s\b' % name, it) for it in lines[self.lines[0]:self.lines[1] + 1])
 
     def above(self, lines):
         """The line with which its attributes begin, of which each has one."""
@@ -194,15 +203,19 @@ def functions_of(path, text):
 
 class Edit:
     """An edit of a crate: the texts that it makes, and the functions whose bodies it edits, none where it edits more. A twin stands for
-    a function that takes one."""
+    a function that takes one. Of a constant, which others meet too, it edits the bodies that name it, and is tried apart."""
 
-    def __init__(self, crate, file, functions):
+    def __init__(self, crate, file, functions, codes):
         self.crate, self.file = crate, file
         self.label = os.path.relpath(file)
         self.texts, self.why = rt.read_edit(file, crate.folder)
-        self.by_answers = not self.why and NO_ANSWER not in rtlib.text_of(file).split('\n')
         self.functions = [] if self.why else self.edited(functions)
-        self.is_beside = len(self.functions) == 1 and self.functions[0].takes_twin(self.lines())
+        constant = None if self.why or self.functions else self.constant()
+        if constant:
+            self.functions = [it for path, found in functions.items() for it in found if it.names(constant, codes[path].split('\n'))]
+        self.is_apart = not self.functions or bool(constant)
+        self.by_answers = not self.is_apart and NO_ANSWER not in rtlib.text_of(file).split('\n')
+        self.is_beside = len(self.functions) == 1 and not self.is_apart and self.functions[0].takes_twin(self.lines())
         if self.is_beside:
             ending = os.path.basename(file).partition('-')[2].removesuffix('.edit').replace('-', '_')
             self.functions = [self.functions[0].twin(ending)]
@@ -218,6 +231,16 @@ class Edit:
         it, lines = self.functions[0], self.lines()
         head = re.sub(r'\bfn %s\b' % it.origin.name, 'fn ' + it.name, lines[it.head], count=1)
         return [*lines[it.above(lines):it.head], *attribute, head, *lines[it.head + 1:it.lines[1] + 1]]
+
+    def constant(self):
+        """The constant that it edits, if its first text stands in one, in the layout of `rt fmt`."""
+        path, text = next(iter(self.texts.items()))
+        was = rtlib.text_of('%s/%s' % (self.crate.folder, path)).split('\n')
+        at = next((it for it, (old, new) in enumerate(zip(was, text.split('\n'))) if old != new), 0)
+        # (what ends a line before it ends the constant that began above)
+        start = next((it for it in range(at, -1, -1) if CONSTANT.match(was[it]) or it < at and was[it].endswith((';', '}'))), 0)
+        found = CONSTANT.match(was[start])
+        return found and found[1]
 
     def edited(self, functions):
         """The functions whose bodies hold the edit's texts, none where a text stands outside; a pair meets what those before it made."""
@@ -243,18 +266,26 @@ def edits_of(crate, files):
     unread = [it for it in found if not NAME.fullmatch(os.path.basename(it)) or not os.path.isfile(it)]
     if not found:
         return [], []
+    codes = code_of(crate)
+    functions = functions_of_all(codes)
+    return [Edit(crate, it, functions, codes) for it in found if it not in unread], [os.path.relpath(it) for it in unread]
+
+
+def code_of(crate):
+    """By file, the code of a crate, of which no comment, string or clause is left."""
     texts = {os.path.relpath(file, crate.folder): text for file, text in rtlib.blanked(crate.folder).items()}
-    functions = functions_of_all({path: text for path, text in texts.items() if path.endswith('.rt')})
-    return [Edit(crate, it, functions) for it in found if it not in unread], [os.path.relpath(it) for it in unread]
+    return {path: text for path, text in texts.items() if path.endswith('.rt')}
 
 
 def groups_of(edits):
-    """The edits in groups with at most one edit a function or twin and AT_ONCE in all, and each that edits no body in one of its
-    own. These come last, and small groups before large ones."""
+    """The edits of a crate in groups with at most one edit a function or twin and so many in all as a check takes, and each that is tried
+    apart in one of its own. These come last, and small groups before large ones."""
     groups = []
+    count = sum(map(len, functions_of_all(code_of(edits[0].crate)).values())) if edits else 0
+    most = AT_ONCE_IN_LARGE if count >= LARGE else AT_ONCE
     for edit in edits:
-        keys = {it.key for it in edit.functions}
-        fit = next((it for it in groups if keys and it[0] and not keys & it[0] and len(it[1]) < AT_ONCE), None)
+        keys = set() if edit.is_apart else {it.key for it in edit.functions}
+        fit = next((it for it in groups if keys and it[0] and not keys & it[0] and len(it[1]) < most), None)
         if fit is None:
             groups.append((keys, [edit]))
         else:
@@ -276,6 +307,8 @@ def lay(crate, edits, room, by_answers):
     for part in rtlib.PARTS:
         if os.path.isdir('%s/%s' % (crate.folder, part)):
             shutil.copytree('%s/%s' % (crate.folder, part), '%s/%s' % (room, part))
+    if all(edit.functions for edit in edits):
+        leave_out(crate, {it.key for edit in edits if not edit.is_beside for it in edit.functions}, room)
     left, opened, twins = [], [], {}
     for edit in edits:
         is_opened = by_answers and edit.by_answers and any(has_answers(crate, it) for it in edit.functions)
@@ -301,6 +334,25 @@ def lay(crate, edits, room, by_answers):
             lines[it.lines[1] + 1:it.lines[1] + 1] = ['', *own]
         write('%s/%s' % (room, path), '\n'.join(lines))
     return left, opened
+
+
+def leave_out(crate, turned, room):
+    """Leaves out the bodies on a copy of the crate, but for those that an edit turns where they stand, of one line, and whose proof is not
+    their own: a goal stands open for each, and each line where it stood."""
+    codes = code_of(crate)
+    for path, functions in functions_of_all(codes).items():
+        code, lines = codes[path].split('\n'), rtlib.text_of('%s/%s' % (room, path)).split('\n')
+        for it in functions:
+            (start, end), above = it.lines, it.above(code)
+            if it.key in turned or end - start < 2 or it.owner and len(it.owner) == 1 or not it.is_alone(code):
+                continue
+            lines[start + 1:end] = [LEFT_OUT] + [''] * (end - start - 2)
+            lines[above:it.head] = ['' if 'tactic(' in line else line for line in lines[above:it.head]]
+            lines[it.head] = re.sub(r'^( *)', r'\1%s ' % NO_TACTIC, lines[it.head])
+            for name in PROOFS:
+                if os.path.isfile('%s/%s/%s' % (room, it.folder(), name)):
+                    os.remove('%s/%s/%s' % (room, it.folder(), name))
+        write('%s/%s' % (room, path), '\n'.join(lines))
 
 
 def write(path, text):
@@ -378,19 +430,6 @@ class Said:
         return True, '%s, %s, %.1f s' % (path, goal, spent)
 
 
-def kept(crate):
-    """Where the work of the proved crate is kept."""
-    return '%s/out/incremental' % crate.folder
-
-
-def link(file, to):
-    """Lets another name stand for a file, or a copy of it where that is on another disk."""
-    try:
-        os.link(file, to)
-    except OSError:
-        shutil.copy2(file, to)
-
-
 def call(words, folder):
     """Runs a command, and returns its status and what it said."""
     ran = subprocess.run(words, cwd=folder, stdin=subprocess.DEVNULL, stdout=subprocess.PIPE, stderr=subprocess.STDOUT,
@@ -410,7 +449,9 @@ def rattle(crate, folder, flags):
     """What a check says, and the seconds that each function took, but for its offers of files to write a proof in: they take up to
     a half of it, and say nothing of what is refused."""
     stages = '%s/stages' % folder
-    words = ['check', *crate.words(['--jobs', '1'], keeps=False), '--progress', '--stage-times', stages, *flags]
+    # (what it keeps in the folder it lets go in memory)
+    words = ['check', *crate.words(['--jobs', '1'], keeps=False), '--incremental', folder + '/kept', '--allow-holes', '--progress',
+             '--stage-times', stages, *flags]
     with subprocess.Popen([*GUARD, rtlib.RATTLE, *words], cwd=folder, stdin=subprocess.DEVNULL, stdout=subprocess.PIPE,
                           stderr=subprocess.STDOUT, text=True, errors='replace') as ran, ThreadPoolExecutor(1) as beside:
         heard = beside.submit(hear, ran.stdout)
@@ -449,35 +490,18 @@ def opens_no_more(process):
         pass
 
 
-def only(crate, edits):
-    """The flags with which a check passes over what neither these edits turn nor that calls, where all turn functions that were told."""
-    names = [[told.removesuffix(it.origin.name) + it.name for it in edit.functions for told in TOLD.get(crate.name, [])
-              if it.origin.is_at(told) and told.endswith('::' + it.origin.name)] for edit in edits]
-    return [word for found in names for it in found for word in ('--only', it)] if all(names) else []
-
-
-def only_edited(groups):
-    """The flags with which the first check of a crate, on the first of the groups, passes over what no edit turns nor that calls, as its
-    derived impls."""
-    paths = {it.origin.path() for edits in groups for edit in edits for it in edit.functions}
-    paths |= {it.path() for edit in groups[0] for it in edit.functions}
-    return [word for path in sorted(paths) for word in ('--only', path)]
-
-
-def check(crate, edits, flags=(), is_first=False, by_answers=False):
+def check(crate, edits, by_answers=False):
     """What the check says of the crate with these edits, those that are not in it, and those that written answers alone can refuse
-    in it. The first one leaves what it proves."""
+    in it. It passes over what neither these edits turn nor that calls, as derived impls."""
     await_room()
     with tempfile.TemporaryDirectory(prefix='sgb-edits-') as room:
         left, opened = lay(crate, edits, room, by_answers)
         changed = {path for it in edits for path in it.texts}
-        over = kept(crate) if is_first else '%s/kept' % room
-        if not is_first:
-            # Each begins with the work of the proved crate, in links that a check replaces, so no edit meets what another one left.
-            shutil.copytree(kept(crate), over, copy_function=link)
-        said = Said(*rattle(crate, room, ['--incremental', over, '--allow-holes', *flags]), changed)
-        if is_first:
-            TOLD[crate.name] = [path for path, _ in said.told]
+        paths = [it.path() for edit in edits for it in edit.functions] if all(edit.functions for edit in edits) else []
+        said = Said(*rattle(crate, room, [word for it in paths for word in ('--only', it)]), changed)
+        if paths and not said.told:
+            # (a path fits several functions, say: then all are checked)
+            said = Said(*rattle(crate, room, []), changed)
         return said, left, opened
 
 
@@ -487,23 +511,17 @@ def try_alone(edit):
         return False, 'it cannot be read, so no contract was tried: ' + said.unread[:200]
     well, why = said.judge(edit, True)
     if well is None:
-        refused = [path for path, told in said.told if said.refusal(edit.crate.name, path, told)]
-        why = 'it is refused at %s, and not where it edits' % refused[0] if refused else 'NOT REFUSED: the contract allows it'
-        if not refused and any('could not tell' in told for _, told in said.told):
-            why = 'antt could not tell'
+        could_tell = not any('could not tell' in told for _, told in said.told)
+        why = 'NOT REFUSED: the contract allows it' if could_tell else 'antt could not tell'
     return bool(well), why
 
 
-def try_group(edits, is_first=False, flags=(), by_answers=False):
+def try_group(edits, by_answers=False):
     """Tries the edits of a group, and returns what came of each: of one that written answers alone could refuse, and did not, None."""
     crate = edits[0].crate
-    flags = flags or only(crate, edits)
-    if len(edits) == 1 and not is_first and not flags:
+    if len(edits) == 1 and not (by_answers and edits[0].functions):
         return {edits[0]: try_alone(edits[0])}
-    said, left, opened = check(crate, edits, flags, is_first, by_answers)
-    if is_first and not TOLD[crate.name]:
-        # (a name fits several functions, say: then all are checked)
-        said, left, opened = check(crate, edits, (), is_first, by_answers)
+    said, left, opened = check(crate, edits, by_answers)
     found = {}
     if said.unread:
         halves = [edits[:len(edits) // 2], edits[len(edits) // 2:]]
@@ -601,15 +619,9 @@ class Tally:
         """Whether a crate that was made ready is proved, or will be by another run."""
         return not self.proved or self.proved.await_name(crate.name)
 
-    def try_groups(self, crate, groups):
+    def try_groups(self, groups):
         """Tries groups of edits, and returns what came of each."""
-        tried = []
-        if self.proved and groups:
-            os.makedirs(kept(crate), exist_ok=True)
-            flags = only_edited(groups)
-            tried.append(self.lanes.submit(FIRST, try_group, groups.pop(0), True, flags, True))
-            tried[0].result()
-        tried += [self.lanes.submit(rank_of(it), try_group, it, False, (), True) for it in groups]
+        tried = [self.lanes.submit(rank_of(it), try_group, it, True) for it in groups]
         found = {edit: told for it in tried for edit, told in it.result().items()}
         # What no answer refused is tried again, now by all goals.
         left = groups_of([edit for edit, (well, _) in found.items() if well is None])
@@ -627,7 +639,7 @@ class Tally:
         good = [it for it in edits if not it.why]
         is_ready = not good or self.make_ready(crate)
         # (the first check proves what it needs of the crate itself, so it does not wait for another run's proof of that)
-        tried = self.try_groups(crate, groups_of(good)) if is_ready else {}
+        tried = self.try_groups(groups_of(good)) if is_ready else {}
         if good and not (is_ready and self.is_proved(crate)):
             self.tell(False, crate.name, 'the crate is not proved, so its %d edits show nothing' % len(good))
             return

@@ -129,7 +129,9 @@ EDITS_TRIED = [
     ('tiny', 'raised-by_one', 'x + STEP', 'x + STEP - 1', 'refused, as it must be: tiny::raised'),
     ('tiny', 'doubled-plus_one', 'x + x', 'x + x + 1', 'refused, as it must be: tiny::doubled'),
     ('tiny', 'doubled-thrice', 'x + x', 'x + 2 * x', 'refused, as it must be: tiny::doubled'),
+    # One of a constant is refused where a body names it, and one of no body wherever it may be.
     ('tiny', 'STEP-of_three', 'STEP: u32 = 2', 'STEP: u32 = 3', 'refused, as it must be: tiny::raised'),
+    ('tiny', 'less-for_certain', 'result ≤ x', 'result + 1 ≤ x', 'refused, as it must be: tiny::lowered'),
     ('tiny', 'lowered-to_a_third', 'x / 2', 'x / 3', 'NOT REFUSED'),
     ('tiny', 'lowered-nothing', 'x / 2', 'x / 2', 'it changes nothing'),
     ('tiny', 'lowered-not_there', 'x / 7', 'x / 2', 'an \'old:\' text is in src/lib.rt 0 times'),
@@ -151,9 +153,9 @@ EDITS_TRIED = [
 # What else must be told, and what the runs end with.
 TOLD = ['crates/tiny/edits/notes.txt: no edit',
         'open: the crate is not proved, so its 1 edits show nothing',
-        'tiny: 7 of 16 edits refused',
+        'tiny: 8 of 17 edits refused',
         'upper: 1 of 1 edits refused',
-        'edits: 8 passed, 10 failed']
+        'edits: 9 passed, 10 failed']
 
 
 def write(file, text):
