@@ -19,6 +19,7 @@ counts with the first.
 With --as-proved it reads names of crates, one a line, as another run proves them and leaves their libraries, and tries
 the edits of each once those below it are named; those of a crate that is not named in the end fail.
 """
+import contextlib
 import importlib.machinery
 import importlib.util
 import itertools
@@ -449,7 +450,6 @@ def rattle(crate, folder, flags):
     """What a check says, and the seconds that each function took, but for its offers of files to write a proof in: they take up to
     a half of it, and say nothing of what is refused."""
     stages = '%s/stages' % folder
-    # (what it keeps in the folder it lets go in memory)
     words = ['check', *crate.words(['--jobs', '1'], keeps=False), '--incremental', folder + '/kept', '--allow-holes', '--progress',
              '--stage-times', stages, *flags]
     with subprocess.Popen([*GUARD, rtlib.RATTLE, *words], cwd=folder, stdin=subprocess.DEVNULL, stdout=subprocess.PIPE,
@@ -490,23 +490,43 @@ def opens_no_more(process):
         pass
 
 
-def check(crate, edits, by_answers=False):
+def check(crate, edits, begun, by_answers=False):
     """What the check says of the crate with these edits, those that are not in it, and those that written answers alone can refuse
-    in it. It passes over what neither these edits turn nor that calls, as derived impls."""
+    in it. It passes over what neither these edits turn nor that calls, as derived impls. It begins with the work of the crate's check
+    that ended first, in a folder that is there since then, if one did."""
     await_room()
     with tempfile.TemporaryDirectory(prefix='sgb-edits-') as room:
         left, opened = lay(crate, edits, room, by_answers)
+        begin(begun, room + '/kept')
         changed = {path for it in edits for path in it.texts}
         paths = [it.path() for edit in edits for it in edit.functions] if all(edit.functions for edit in edits) else []
         said = Said(*rattle(crate, room, [word for it in paths for word in ('--only', it)]), changed)
         if paths and not said.told:
             # (a path fits several functions, say: then all are checked)
             said = Said(*rattle(crate, room, []), changed)
+        begin(room + '/kept', begun)
         return said, left, opened
 
 
-def try_alone(edit):
-    said, _, _ = check(edit.crate, [edit])
+def begin(work, to):
+    """Gives a folder the work of another one, in links that a check replaces, so that no edit meets what another one left; none where
+    there is none yet, or where it has some."""
+    with contextlib.suppress(OSError), tempfile.TemporaryDirectory(dir=os.path.dirname(to)) as room:
+        if os.path.isdir(work) and not os.path.isdir(to):
+            shutil.copytree(work, room + '/kept', copy_function=link)
+            os.rename(room + '/kept', to)
+
+
+def link(file, to):
+    """Lets another name stand for a file, or a copy of it where that is on another disk."""
+    try:
+        os.link(file, to)
+    except OSError:
+        shutil.copy2(file, to)
+
+
+def try_alone(edit, begun):
+    said, _, _ = check(edit.crate, [edit], begun)
     if said.unread:
         return False, 'it cannot be read, so no contract was tried: ' + said.unread[:200]
     well, why = said.judge(edit, True)
@@ -516,12 +536,12 @@ def try_alone(edit):
     return bool(well), why
 
 
-def try_group(edits, by_answers=False):
+def try_group(edits, begun, by_answers=False):
     """Tries the edits of a group, and returns what came of each: of one that written answers alone could refuse, and did not, None."""
     crate = edits[0].crate
     if len(edits) == 1 and not (by_answers and edits[0].functions):
-        return {edits[0]: try_alone(edits[0])}
-    said, left, opened = check(crate, edits, by_answers)
+        return {edits[0]: try_alone(edits[0], begun)}
+    said, left, opened = check(crate, edits, begun, by_answers)
     found = {}
     if said.unread:
         halves = [edits[:len(edits) // 2], edits[len(edits) // 2:]]
@@ -531,7 +551,7 @@ def try_group(edits, by_answers=False):
         found.update({it: (None, '') for it in opened if it not in found})
         halves = [[it] for it in edits if it not in found]
     for half in filter(None, halves):
-        found.update({half[0]: try_alone(half[0])} if len(edits) == 1 else try_group(half))
+        found.update({half[0]: try_alone(half[0], begun)} if len(edits) == 1 else try_group(half, begun))
     return found
 
 
@@ -619,13 +639,13 @@ class Tally:
         """Whether a crate that was made ready is proved, or will be by another run."""
         return not self.proved or self.proved.await_name(crate.name)
 
-    def try_groups(self, groups):
+    def try_groups(self, groups, begun):
         """Tries groups of edits, and returns what came of each."""
-        tried = [self.lanes.submit(rank_of(it), try_group, it, True) for it in groups]
+        tried = [self.lanes.submit(rank_of(it), try_group, it, begun, True) for it in groups]
         found = {edit: told for it in tried for edit, told in it.result().items()}
         # What no answer refused is tried again, now by all goals.
         left = groups_of([edit for edit, (well, _) in found.items() if well is None])
-        for it in [self.lanes.submit(rank_of(it), try_group, it) for it in left]:
+        for it in [self.lanes.submit(rank_of(it), try_group, it, begun) for it in left]:
             found.update({edit: (well, why + ', by no answer' * well) for edit, (well, why) in it.result().items()})
         return found
 
@@ -638,8 +658,9 @@ class Tally:
             self.tell(False, it.label, it.why)
         good = [it for it in edits if not it.why]
         is_ready = not good or self.make_ready(crate)
-        # (the first check proves what it needs of the crate itself, so it does not wait for another run's proof of that)
-        tried = self.try_groups(groups_of(good)) if is_ready else {}
+        # (a check needs no proof of the crate itself, so it does not wait for another run's)
+        with tempfile.TemporaryDirectory(prefix='sgb-edits-') as room:
+            tried = self.try_groups(groups_of(good), room + '/begun') if is_ready else {}
         if good and not (is_ready and self.is_proved(crate)):
             self.tell(False, crate.name, 'the crate is not proved, so its %d edits show nothing' % len(good))
             return
