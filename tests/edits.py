@@ -297,9 +297,9 @@ def groups_of(edits):
 
 
 def rank_of(edits):
-    """The rank of a group's check. Large ones begin first, so that at the end there is something small for each processor; an edit
-    of no body has all checked."""
-    return -len(edits) if edits[0].functions else -AT_ONCE
+    """The rank of a group's check. Long ones begin first, so that at the end there is something short for each processor: those of many
+    edits, and of crates that stand on many, whose contracts say more. An edit of no body has all checked."""
+    return -(len(edits) if edits[0].functions else AT_ONCE) * (10 + len(edits[0].crate.below()))
 
 
 def lay(crate, edits, room, by_answers):
