@@ -37,6 +37,12 @@ quick:
 edits:
 	@python3 tests/edits.py $(if $(CRATE),-v $(CRATE))
 
+.PHONY: twins
+
+# Tries the twins of those edits with their right bodies, which must be let pass. No part of the gate.
+twins:
+	@python3 tests/twins.py $(CRATE)
+
 # Compares the transcripts of each example and of each script of tests/corpus, and those of the descriptions; and the programs
 # that docs/library.md shows with those that are proved.
 examples: bin/sgb
