@@ -224,12 +224,12 @@ row_can n u first end z from high fits =
 along_can : (n u : ℕ) (ss : List Spoke) → u < n → All (λ s. s.to < n) ss → All (λ s. FitsSigned w64 s.len) ss → All (CanJoin n) (map (along u) ss)
 along_can n u ss from to fits = All-map (CanJoin n) (along u) ss (λ i d h. record { from = from; to = to i d h; fits = fits i d h })
 
-pub row_joined : (a b : Inside) (g : GraphOf) (u first end count : ℕ) (z y : ℤ) → Opened a g → u < n_of g → end ≤ n_of g → FitsSigned w64 z → y ≡ z → count ≡ 2 * (end - first) → length a.slots + count ≤ 1000000
+pub row_joined : (a b : Inside) (g : GraphOf) (u first end : ℕ) (z y : ℤ) → Opened a g → u < n_of g → end ≤ n_of g → FitsSigned w64 z → y ≡ z → length a.slots + 2 * (end - first) ≤ 1000000
     → both b.vertices b.slots ≡ all_joined false (both a.vertices a.slots) (row u first end y) → b.holes ≡ a.holes → SameOwn a b → AllDone false b g (row u first end z)
-row_joined a b g u first end count z y o from high fits same count_is few is holes own =
+row_joined a b g u first end z y o from high fits same few is holes own =
     let es = row u first end z in
     let long : length es ≡ end - first = length-row u first end z in
-    all_done false es a b g o (row_can (n_of g) u first end z from high fits) (omega (arith, few, o.shows.made, count_is, long))
+    all_done false es a b g o (row_can (n_of g) u first end z from high fits) (omega (arith, few, o.shows.made, long))
     (subst (λ x. both b.vertices b.slots ≡ all_joined false (both a.vertices a.slots) (row u first end x)) same is) holes own
 
 pub along_joined : (directed : Bool) (a b : Inside) (g : GraphOf) (u : ℕ) (ss : List Spoke) → Opened a g → u < n_of g → All (λ s. s.to < n_of g) ss → All (λ s. FitsSigned w64 s.len) ss

@@ -404,7 +404,7 @@ fn an_empty_stack_refuses(rt: HostRuntime) {
     assert!(rt; redoes_push(&mut journal, 1));
 }
 
-// Whether the push is undone, and its redo refused, as the machine is a growth.
+// Whether the push is undone, and its redo refused, since the machine is refused a growth.
 fn wants_memory(journal: &mut Journal<ByteStack>) -> bool {
     takes_back(journal, 1, &[], 0, 1)
         && redo(journal) == Err(JournalRefusal::Machine(StackRefusal::NoRoom))

@@ -1,5 +1,5 @@
 //! The arcs of a graph by number.
-ghost use Rattle.std.specs.Prelude.{◌≡◌, ◌<◌, ◌≤◌, ◌^◌, ◌-◌, ◌+◌, ◌*◌, ◌∷◌, ◌++◌, ◌&&◌, [], true, false, All, FitsSigned, max, length, map, vec_len, vec_capacity, take, is_some, IsSome, None, Some, IfOk, IfErr, OnOk, OnErr, slice_index_or, slice_set};
+ghost use Rattle.std.specs.Prelude.{◌≡◌, ◌<◌, ◌≤◌, ◌^◌, ◌-◌, ◌+◌, ◌*◌, ◌∷◌, ◌++◌, ◌&&◌, [], true, false, All, FitsSigned, length, map, vec_len, vec_capacity, take, is_some, IsSome, None, Some, IfOk, IfErr, OnOk, OnErr, slice_index_or, slice_set};
 ghost use Rattle.std.specs.List.{list_all, zip};
 ghost use Rattle.std.specs.Int.{w64};
 ghost use Rattle.sgb_graph.specs.declared.field.Util.TheVariants as utils;
@@ -8,7 +8,7 @@ ghost use Rattle.sgb_graph.specs.Honest.{are_allowed};
 ghost use Rattle.sgb_graph.specs.Read.{leads_on};
 ghost use Rattle.sgb_graph.specs.Private.Aim.{with_aim_in};
 ghost use Rattle.sgb_graph.specs.Private.Arena.{slot_at, entry_of, next_at, owner_in, tip_in, names_counted, view_in, len_in, with_len_in};
-ghost use Rattle.sgb_graph.specs.Private.Cells.{two_zeros, slot_with, kept_at, SameFields, PutsFields, new_cell, unnamed_slot, owned_allowed, is_aimed, is_zero};
+ghost use Rattle.sgb_graph.specs.Private.Cells.{two_zeros, slot_with, new_cell, unnamed_slot, owned_allowed, is_aimed};
 ghost use Rattle.sgb_graph.specs.Private.Exchange.{fields_in, with_field};
 ghost use Rattle.sgb_graph.specs.Private.Insert.{IsRefusedAt, row_cells, last_link};
 ghost use Rattle.sgb_graph.specs.Private.Join.{both, all_joined};
@@ -16,24 +16,19 @@ ghost use Rattle.sgb_graph.specs.Private.Link.{slots_relinked, slots_gaining, sl
 ghost use Rattle.sgb_graph.specs.Private.SameRows.{each_eq, slot_eq};
 ghost use Rattle.sgb_graph.specs.Private.Walk.{is_loop_in};
 
-use super::MOST_ARCS;
 use super::codes::{Link, OwnerCode, TipCode};
+use super::fields::{kept_at, put_fields, replace_kept, take_fields, two_zeros};
 use super::honest::are_allowed;
 use super::join::{push_arc, push_arcs_along, push_edge, push_edges, push_edges_along};
 use super::paired::is_vertex;
 use super::read::ArcView;
+use super::room::make_room;
 use super::same::{is_link_same, is_tip_same};
 use super::vertices::Vertices;
 use crate::{ArcNo, Refusal, Spoke, Tip, Util, VertexNo};
-use std::alloc::{AllocError, Global};
+use std::alloc::Global;
 use std::marker::Model;
 use std::mem;
-
-// A graph with room for so many arcs has room for the fields of all that it can have, and these take more than 32 MiB; one
-// that grows beyond them gets room for all its arcs, so that these are not moved again.
-const MANY: usize = 131_072;
-
-const MAPPED: usize = 1_048_600;
 
 /// A live arc as it is kept.
 #[derive(Drop)]
@@ -704,204 +699,6 @@ fn push_row(
     }
     *cells = all;
     link
-}
-
-// Takes room for so many slots more, and for the fields of all. There is never room for more than a graph gives out, so
-// where there is room nothing else is asked.
-#[inline]
-fn make_room(
-    cells: &mut Vec<Cell>,
-    fields: &mut Vec<[Util; 2]>,
-    room: &mut usize,
-    count: usize,
-) -> Result<(), Refusal>
-    requires few { vec_len fields.old ≤ vec_len cells.old }
-    requires len { vec_len cells.old ≤ room.old }
-    requires cells_room { room.old ≤ vec_capacity cells.old }
-    requires fields_room { room.old ≤ vec_capacity fields.old }
-    requires most { room.old ≤ 1000000 }
-    ensures cells { cells.new.items ≡ cells.old.items }
-    ensures cells_len { vec_len cells.new ≡ vec_len cells.old }
-    ensures fields { fields.new.items ≡ fields.old.items }
-    ensures fields_len { vec_len fields.new ≡ vec_len fields.old }
-    ensures room { OnOk result (vec_len cells.new + count ≤ room.new) }
-    ensures len { vec_len cells.new ≤ room.new }
-    ensures cells_room { room.new ≤ vec_capacity cells.new }
-    ensures fields_room { room.new ≤ vec_capacity fields.new }
-    ensures most { room.new ≤ 1000000 }
-    ensures err { IfErr result (IsRefusedAt (vec_len cells.old + count)) }
-{
-    if *room - cells.len() >= count {
-        return Ok(());
-    }
-    grow_slots(cells, fields, room, count)
-}
-
-// Takes more memory for so many slots more, as far as a graph gives out so many.
-#[cold]
-#[inline(never)]
-fn grow_slots(
-    cells: &mut Vec<Cell>,
-    fields: &mut Vec<[Util; 2]>,
-    room: &mut usize,
-    count: usize,
-) -> Result<(), Refusal>
-    requires few { vec_len fields.old ≤ vec_len cells.old }
-    requires len { vec_len cells.old ≤ room.old }
-    requires cells_room { room.old ≤ vec_capacity cells.old }
-    requires fields_room { room.old ≤ vec_capacity fields.old }
-    requires most { room.old ≤ 1000000 }
-    ensures cells { cells.new.items ≡ cells.old.items }
-    ensures cells_len { vec_len cells.new ≡ vec_len cells.old }
-    ensures fields { fields.new.items ≡ fields.old.items }
-    ensures fields_len { vec_len fields.new ≡ vec_len fields.old }
-    ensures room { OnOk result (vec_len cells.new + count ≤ room.new) }
-    ensures len { vec_len cells.new ≤ room.new }
-    ensures cells_room { room.new ≤ vec_capacity cells.new }
-    ensures fields_room { room.new ≤ vec_capacity fields.new }
-    ensures most { room.new ≤ 1000000 }
-    ensures err { IfErr result (IsRefusedAt (vec_len cells.old + count)) }
-{
-    let most = MOST_ARCS as usize;
-    let left = most - cells.len();
-    if count > left {
-        return Err(Refusal::TooLarge);
-    }
-    let more = if cells.len() < MANY { count } else { left };
-    let grown = grow_room(cells, fields, more)?;
-    *room = grown.min(most);
-    Ok(())
-}
-
-// Takes more memory for so many slots or vertices more, and for the fields of all. Answers for how many there is room.
-#[cold]
-#[inline(never)]
-pub(super) fn grow_room<T, F: Drop>(
-    cells: &mut Vec<T>,
-    fields: &mut Vec<F>,
-    count: usize,
-) -> Result<usize, AllocError>
-    requires { vec_len fields.old ≤ vec_len cells.old }
-    ensures cells { cells.new.items ≡ cells.old.items }
-    ensures cells_len { vec_len cells.new ≡ vec_len cells.old }
-    ensures fields { fields.new.items ≡ fields.old.items }
-    ensures fields_len { vec_len fields.new ≡ vec_len fields.old }
-    ensures room { IfOk result (λ room. vec_len cells.new + count ≤ room) }
-    ensures cells_room { IfOk result (λ room. room ≤ vec_capacity cells.new) }
-    ensures fields_room { IfOk result (λ room. room ≤ vec_capacity fields.new) }
-    ensures cells_capacity { vec_capacity cells.old ≤ vec_capacity cells.new }
-    ensures fields_capacity { vec_capacity fields.old ≤ vec_capacity fields.new }
-{
-    let doubled = cells.capacity().saturating_mul(2);
-    let room = room_for_fields(doubled.max(cells.len().saturating_add(count)));
-    if fields.is_empty() && fields.capacity() < room {
-        // Where no field was ever set there is nothing to move, and the room stays untouched. It is exchanged first, so
-        // that cells that stand before the old one grow into its place.
-        *fields = Vec::with_capacity(*fields.allocator(), room)?;
-    }
-    cells.reserve(count)?;
-    fields.reserve(cells.capacity() - fields.len())?;
-    Ok(cells.capacity())
-}
-
-// For how many slots or vertices there is to be room for fields where there is room for so many slots or vertices. A
-// graph with many arcs gets room for all that it can have: a block above 32 MiB is mapped by itself, so none of it is
-// touched where it is taken or given back, and the C library keeps what the arcs of one graph took for the next.
-fn room_for_fields(cells: usize) -> usize
-    ensures { cells ≤ result }
-{
-    if cells < MANY {
-        cells
-    } else {
-        cells.max(MAPPED)
-    }
-}
-
-fn two_zeros() -> [Util; 2]
-    ensures { result ≡ two_zeros }
-{
-    [Util::Zero, Util::Zero]
-}
-
-#[inline]
-pub(super) fn is_zero(value: &Util) -> bool
-    ensures { result ≡ is_zero value.now }
-{
-    matches!(value, Util::Zero)
-}
-
-// The fields of the arc of this number, where those beyond the end are the zeros.
-#[inline]
-fn kept_at<'a>(fields: &'a [[Util; 2]], zeros: &'a [Util; 2], index: usize) -> &'a [Util; 2]
-    requires { zeros.now ≡ two_zeros }
-    ensures { result.now ≡ kept_at fields.now index }
-{
-    match fields.get(index) {
-        Some(fields) => fields,
-        None => zeros,
-    }
-}
-
-// Fills up with Zeros to so many.
-fn fill_to(fields: &mut Vec<[Util; 2]>, count: usize)
-    requires fewer { vec_len fields.old ≤ count }
-    requires room { count ≤ vec_capacity fields.old }
-    ensures same { SameFields fields.old.items fields.new.items }
-    ensures len { vec_len fields.new ≡ count }
-    ensures capacity { vec_capacity fields.new ≡ vec_capacity fields.old }
-{
-    for _number in fields.len()..count {
-        fields.push_reserved(two_zeros());
-    }
-}
-
-// Gives the arc of this number these fields.
-#[inline(always)]
-fn put_fields(fields: &mut Vec<[Util; 2]>, index: usize, values: [Util; 2])
-    requires { index < vec_capacity fields.old }
-    ensures puts { PutsFields fields.old.items index values fields.new.items }
-    ensures len { vec_len fields.new ≤ max (vec_len fields.old) (index + 1) }
-    ensures capacity { vec_capacity fields.new ≡ vec_capacity fields.old }
-{
-    if index < fields.len() {
-        fields[index] = values;
-    } else if !is_zero(&values[0]) || !is_zero(&values[1]) {
-        fill_to(fields, index);
-        fields.push_reserved(values);
-    }
-}
-
-// Takes the fields of the arc of this number away: they are Zero then.
-fn take_fields(fields: &mut Vec<[Util; 2]>, index: usize) -> [Util; 2]
-    ensures value { result ≡ kept_at fields.old.items index }
-    ensures puts { PutsFields fields.old.items index two_zeros fields.new.items }
-    ensures len { vec_len fields.new ≡ vec_len fields.old }
-    ensures capacity { vec_capacity fields.new ≡ vec_capacity fields.old }
-{
-    if index < fields.len() {
-        mem::replace(&mut fields[index], two_zeros())
-    } else {
-        two_zeros()
-    }
-}
-
-// Puts a value into a field of the arc of this number, and gives the one that was there.
-fn replace_kept(fields: &mut Vec<[Util; 2]>, index: usize, place: usize, value: Util) -> Util
-    requires room { index < vec_capacity fields.old }
-    requires fields { length (kept_at fields.old.items index) ≡ 2 }
-    requires place { place < 2 }
-    ensures old { result ≡ slice_index_or (kept_at fields.old.items index) place utils.Zero }
-    ensures puts { PutsFields fields.old.items index (slice_set (kept_at fields.old.items index) place value) fields.new.items }
-    ensures len { vec_len fields.new ≤ max (vec_len fields.old) (index + 1) }
-    ensures capacity { vec_capacity fields.new ≡ vec_capacity fields.old }
-{
-    if index >= fields.len() {
-        if is_zero(&value) {
-            return value;
-        }
-        fill_to(fields, index + 1);
-    }
-    mem::replace(&mut fields[index][place], value)
 }
 
 // Each cell's arc, as far as there are fields.

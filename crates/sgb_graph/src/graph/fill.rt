@@ -7,8 +7,8 @@ ghost use Rattle.sgb_graph.specs.Private.Cells.{is_zero};
 ghost use Rattle.sgb_graph.specs.Private.Fill.{SameNames, can_name_each, can_name_part, can_name_vertices, can_name_arcs, can_name_all, with_filled_vertex, with_filled_arc, FillsVertices, FillsArcs};
 
 use super::Graph;
-use super::arena::is_zero;
 use super::codes::TipCode;
+use super::fields::is_zero;
 use crate::{
     ArcField, ArcNo, ArcPart, GraphField, Label, Place, Refusal, Tip, Util, VertexField, VertexNo,
     VertexPart,
@@ -137,8 +137,9 @@ impl Graph {
         let _ = self.swap_label(vertex, label);
     }
 
-    // Gives one field a value that it may hold. Most fields are Zero and stay so.
-    #[inline]
+    // Gives one field a value that it may hold. Most fields are Zero and stay so: inlined, so that no place is put together for
+    // these.
+    #[inline(always)]
     fn fill(&mut self, place: Place, value: Util)
         requires { refusal_of_util self.old place value ≡ None }
         ensures value { self.new ≡ with_util self.old place (stored value) }

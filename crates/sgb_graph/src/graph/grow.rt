@@ -7,7 +7,7 @@ ghost use Rattle.sgb_graph.specs.New.{six_zeros};
 ghost use Rattle.sgb_graph.specs.Set.{IsStorable};
 ghost use Rattle.sgb_graph.specs.Vertex.{NamesNothing, new_vertex, with_vertex_last};
 
-use super::arena::is_zero;
+use super::fields::is_zero;
 use super::set::stored;
 use super::{Graph, MOST_ARCS, MOST_VERTICES};
 use crate::{Label, Refusal, Util};

@@ -9,10 +9,11 @@ ghost use Rattle.sgb_graph.specs.Private.Link.{vertex_in};
 ghost use Rattle.sgb_graph.specs.Private.SameRows.{each_eq, row_eq};
 ghost use Rattle.sgb_graph.specs.Private.Vertices.{values_at, SameValues, PutsValues, row, unlinked, with_first, with_name, with_value};
 
-use super::arena::{grow_room, is_zero};
 use super::codes::Link;
+use super::fields::is_zero;
 use super::honest::are_allowed;
 use super::new::six_zeros;
+use super::room::grow_room;
 use super::same::is_link_same;
 use crate::{Label, Util, VertexNo};
 use std::alloc::{AllocError, Global};

@@ -1,7 +1,7 @@
 use Rattle.std.proofs.Common.{◌∙◌, ap, refl, arith, ◌++◌, ◌∷◌, []}
 use Rattle.sgb_graph.proofs.Cells.{kept-fill}
 use Rattle.sgb_graph.specs.Private.Cells.{kept_at}
-use Rattle.sgb_graph.proofs.graph.arena.fill_to.Goals as goal
+use Rattle.sgb_graph.proofs.graph.fields.fill_to.Goals as goal
 
 pub loop-number-init : goal.loop-number-init
 loop-number-init c = record { same = λ j. refl; len = omega arith; capacity = refl }

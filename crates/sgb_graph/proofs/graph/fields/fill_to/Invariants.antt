@@ -1,6 +1,6 @@
 use Rattle.std.proofs.Common.{◌≡◌, vec_len, vec_capacity}
 use Rattle.sgb_graph.specs.Private.Cells.{SameFields}
-use Rattle.sgb_graph.proofs.graph.arena.fill_to.Given as goal
+use Rattle.sgb_graph.proofs.graph.fields.fill_to.Given as goal
 
 abbrev pub invariant-loop-number : goal.invariant-loop-number
 invariant-loop-number l = record {
