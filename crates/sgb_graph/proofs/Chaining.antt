@@ -1,5 +1,5 @@
 -- Lemmas on chains of records, and on what is laid of them.
-use Rattle.std.proofs.Common.{◌≡◌, ◌≢◌, ◌<◌, ◌≤◌, ◌+◌, ◌-◌, ℕ, zero, suc, List, [], ◌∷◌, ◌++◌, length, get_or, Option, Some, None, is_some, All, true, false, refl, sym, ap, subst, ◌∙◌, arith, cond, inl, inr, ◌==◌, option_map, slice_get, min, Result, Ok, Err, OnOk, IfErr}
+use Rattle.std.proofs.Common.{◌≡◌, ◌≢◌, ◌<◌, ◌≤◌, ◌+◌, ℕ, zero, suc, List, [], ◌∷◌, ◌++◌, length, get_or, Option, Some, None, is_some, All, true, false, refl, sym, ap, subst, ◌∙◌, arith, cond, inl, inr, ◌==◌, option_map, slice_get, min}
 use Rattle.std.proofs.Common.{rules}
 use Rattle.std.proofs.lemmas.Bool.{cases_Bool, cases_order, cases_eq, cases_lt}
 use Rattle.std.proofs.Math.Nat.{min-eq_left, min-eq_right}
@@ -11,7 +11,7 @@ use Rattle.sgb_graph.specs.declared.field.Util.TheVariants as utils
 use Rattle.sgb_graph.specs.declared.parts.ArcPart.{ArcPart}
 use Rattle.sgb_graph.specs.declared.parts.VertexPart.{VertexPart}
 use Rattle.sgb_graph.specs.Chain.{Leads}
-use Rattle.sgb_graph.specs.Graph.{GraphOf, ArcOf, IsGraph, IsValue, n_of, made_of, m_of, no_vertex, arcs_of, arc_at, has_arc, occurrences, listings}
+use Rattle.sgb_graph.specs.Graph.{GraphOf, ArcOf, IsGraph, IsValue, n_of, made_of, no_vertex, arcs_of, arc_at, has_arc, occurrences, listings}
 use Rattle.sgb_graph.specs.Edit.{with_cut_arc}
 use Rattle.sgb_graph.specs.Private.Link.{CanPutBack, number_before}
 use Rattle.sgb_graph.specs.Parts.{vertex_part, next_part}
@@ -23,10 +23,9 @@ use Rattle.sgb_graph.specs.Private.Fill.{SameNames}
 use Rattle.sgb_graph.proofs.Chains.{chain_is, Leads-agree}
 use Rattle.sgb_graph.proofs.Counts.{occurs_yes, sum_some}
 use Rattle.sgb_graph.proofs.Graphs.{listed_live, one_owner, arcs_live}
-use Rattle.sgb_graph.proofs.PutBack.{put_n, put_made, put_m, put_vertex_same, put_vertex_other}
+use Rattle.sgb_graph.proofs.PutBack.{put_n, put_made, put_vertex_same, put_vertex_other}
 use Rattle.sgb_graph.proofs.ShowsPut.{get_within}
 use Rattle.std.proofs.lemmas.List.Edits.{insert_end}
-use Rattle.std.proofs.lemmas.List.Sums.{count_by-le-length}
 
 -- one number more
 pub Leads-push : (next : ℕ → Option ArcNo) (link : Option ArcNo) (ks : List ℕ) (k : ArcNo) → Leads next link ks (Some k) → Leads next link (ks ++ k.0 ∷ []) (next k.0)
@@ -127,7 +126,7 @@ module _ (most : ℕ) (next after : ℕ → Option ArcNo) (same : (j : ℕ) → 
   )
 
   -- so do they from a link that is not kept
-  first_kept : (link : Option ArcNo) (ks : List ℕ) → Leads next link ks None → All (λ k. k < most) ks → kept_link most link ≡ link
+  pub first_kept : (link : Option ArcNo) (ks : List ℕ) → Leads next link ks None → All (λ k. k < most) ks → kept_link most link ≡ link
   unfolding Leads
   first_kept link [] l low = ap (kept_link most) l ∙ sym l
   first_kept link (k ∷ ks) l low = kept_is link k l.0 (low 0 0 (omega arith)) ∙ sym l.0
@@ -151,7 +150,7 @@ kept_at most (r ∷ rs) (suc k) = kept_at most rs k
 kept_count : (most : ℕ) (rs : List ArcPart) → length (kept_links most rs) ≡ length (links_of rs)
 kept_count most rs = length-map rs (λ (r : ArcPart). kept_link most r.next) ∙ sym (links_count rs)
 
-listed_low : (most : ℕ) (g : GraphOf) (w : ℕ) → IsGraph g → made_of g ≤ most → All (λ k. k < most) (arcs_of g w)
+pub listed_low : (most : ℕ) (g : GraphOf) (w : ℕ) → IsGraph g → made_of g ≤ most → All (λ k. k < most) (arcs_of g w)
 listed_low most g w sound few = λ i d l. omega (arith, few, (arcs_live g w sound i d l).made)
 
 pub lays_kept : (most : ℕ) (vs : List VertexPart) (rs : List ArcPart) (g : GraphOf) → made_of g ≤ most → Lays vs (links_of rs) g → Lays vs (kept_links most rs) g
@@ -172,7 +171,7 @@ lays_from_kept most vs rs g few x =
       graph = x.graph;
     }
 
-lays_as_kept : (vs : List VertexPart) (rs : List ArcPart) (g : GraphOf) → Lays vs (kept_links 1000000 rs) g → Lays vs (links_of rs) g
+pub lays_as_kept : (vs : List VertexPart) (rs : List ArcPart) (g : GraphOf) → Lays vs (kept_links 1000000 rs) g → Lays vs (links_of rs) g
 lays_as_kept vs rs g x = lays_from_kept 1000000 vs rs g x.graph.few_arcs x
 
 pub laying_kept : (most : ℕ) (vs : List VertexPart) (rs : List ArcPart) (g : GraphOf) → Laying vs (links_of rs) 0 g → Laying vs (kept_links most rs) 0 g
@@ -185,18 +184,9 @@ laying_kept most vs rs g x =
       graph = x.graph;
     }
 
-refuses_kept : (vs : List VertexPart) (rs : List ArcPart) (e : Refusal) → RefusesToLay vs (kept_links 1000000 rs) e → RefusesToLay vs (links_of rs) e
+pub refuses_kept : (vs : List VertexPart) (rs : List ArcPart) (e : Refusal) → RefusesToLay vs (kept_links 1000000 rs) e → RefusesToLay vs (links_of rs) e
 refuses_kept vs rs e (inl room) = inl room
 refuses_kept vs rs e (inr bad) = inr (bad.0, λ h lays. bad.1 h (lays_kept 1000000 vs rs h lays.graph.few_arcs lays))
-
--- what laying along the links that are kept answers
-pub laid_as_kept : {X : Type 0} (vs : List VertexPart) (rs : List ArcPart) (ls : List (Option ArcNo)) (g : GraphOf) (r : Result X Refusal) → ls ≡ kept_links 1000000 rs → OnOk r (Lays vs ls g) → OnOk r (Lays vs (links_of rs) g)
-laid_as_kept vs rs ls g (Ok x) is laid = lays_as_kept vs rs g (subst (λ l. Lays vs l g) is laid)
-laid_as_kept vs rs ls g (Err e) is laid = tt
-
-pub refused_as_kept : {X : Type 0} (vs : List VertexPart) (rs : List ArcPart) (ls : List (Option ArcNo)) (r : Result X Refusal) → ls ≡ kept_links 1000000 rs → IfErr r (RefusesToLay vs ls) → IfErr r (RefusesToLay vs (links_of rs))
-refused_as_kept vs rs ls (Ok x) is refused = tt
-refused_as_kept vs rs ls (Err e) is refused = refuses_kept vs rs e (subst (λ l. RefusesToLay vs l e) is refused)
 
 -- the laying of one vertex begins and ends
 pub laying_begins : (vs : List VertexPart) (ls : List (Option ArcNo)) (v : ℕ) (g : GraphOf) (link : Option ArcNo) → Laying vs ls v g → link ≡ (vertex_part vs v).first → LayingAt vs ls v None link g
@@ -284,13 +274,6 @@ laid_more vs ls v end link next k g h x is can new sound follows =
           ap (λ y. y.arcs) (put_vertex_other g c w ne) ∙ x.empty w high;
       graph = sound';
     }) sound
-
--- a hole less is left then
-pub holes_fewer : (g h : GraphOf) (k : ArcNo) (v : VertexNo) → CanPutBack g (laid_arc g k v) → h ≡ with_cut_arc g (laid_arc g k v) → made_of h - m_of h < made_of g - m_of g
-holes_fewer g h k v can new =
-    let c = laid_arc g k v in
-    let few : m_of h ≤ made_of h = count_by-le-length is_some h.entries in
-    omega (arith, few, ap m_of new, ap made_of new, put_m g c can, put_made g c)
 
 -- an arc that lives is listed
 pub owner_listed : (g : GraphOf) (k : ℕ) → IsGraph g → has_arc g k ≡ true → (w : ℕ) × (w < n_of g) × (0 < occurrences k (arcs_of g w))

@@ -19,9 +19,9 @@ pub mod HonestLemmas
 pub mod InsertLemmas
 pub mod Joining
 pub mod Inserting
-pub mod Laid
 pub mod Laws
 pub mod NewLemmas
+pub mod Owning
 pub mod PairedLemmas
 pub mod Pushing
 pub mod PutBack

@@ -4,10 +4,12 @@ use Rattle.std.specs.List.{insert}
 use Rattle.std.proofs.lemmas.Bool.{eq-eqb, ne_eqb, cases_eq}
 use Rattle.std.proofs.lemmas.List.{get_or-set_same, get_or-set_other, length-set}
 use Rattle.std.proofs.lemmas.List.Sums.{sum_by-set, sum_by-insert}
+use Rattle.sgb_graph.specs.declared.field.VertexNo.{VertexNo}
 use Rattle.sgb_graph.specs.declared.delta.CutArc.{CutArc}
 use Rattle.sgb_graph.specs.Graph.{GraphOf, VertexOf, ArcOf, IsGraph, IsVertex, IsArc, n_of, made_of, m_of, vertex_at, no_vertex, arcs_of, arc_at, has_arc, occurrences, listings, names_in, names_in_entry, names_of}
 use Rattle.sgb_graph.specs.Edit.{with_listed, with_cut_arc, arc_of}
 use Rattle.sgb_graph.specs.Private.Link.{CanPutBack}
+use Rattle.sgb_graph.proofs.Graphs.{hole_unlisted}
 use Rattle.sgb_graph.proofs.Sound.{Keeps, IsValue-keeps, IsVertex-keeps, IsArc-keeps, IsEntry-keeps, All-set, entry_same, entry_other}
 
 -- the owner with the arc
@@ -115,3 +117,27 @@ put_m g c can =
     let e = sum_by-set one g.entries c.number.0 (Some (arc_of c)) None can.made in
     let hole : one (get_or g.entries c.number.0 None) ≡ 0 = ap one can.hole in
     omega (arith, e, hole)
+
+-- how often a number stands in the lists then
+put_occurs : (g : GraphOf) (c : CutArc) (k v : ℕ) → CanPutBack g c → k ≢ c.number.0 → occurrences k (arcs_of (with_cut_arc g c) v) ≡ occurrences k (arcs_of g v)
+put_occurs g c k v can ne =
+    elim (cases_eq v c.owner.0) [
+      | inl same ↦
+          ap (λ w. occurrences k (arcs_of (with_cut_arc g c) w)) same
+          ∙ (ap (λ z. occurrences k z.arcs) (put_vertex_same g c can)
+          ∙ (put_occurrences g c k
+          ∙ (ap (λ b. occurrences k (arcs_of g c.owner.0) + cond b 1 0) (ne_eqb c.number.0 k (λ e. ne (sym e)))
+          ∙ (omega arith ∙ ap (λ w. occurrences k (arcs_of g w)) (sym same)))))
+      | inr other ↦ ap (λ z. occurrences k z.arcs) (put_vertex_other g c v other)
+    ]
+
+pub put_occurs_new : (g : GraphOf) (c : CutArc) → IsGraph g → CanPutBack g c → occurrences c.number.0 (arcs_of (with_cut_arc g c) c.owner.0) ≡ 1
+put_occurs_new g c sound can =
+    ap (λ z. occurrences c.number.0 z.arcs) (put_vertex_same g c can)
+    ∙ (put_occurrences g c c.number.0
+    ∙ (ap (λ b. occurrences c.number.0 (arcs_of g c.owner.0) + cond b 1 0) (eq-eqb c.number.0 c.number.0 refl)
+    ∙ omega (arith, hole_unlisted g c.number.0 c.owner.0 sound (ap is_some can.hole))))
+
+pub put_owned : (g : GraphOf) (c : CutArc) (k : ℕ) (o : Option VertexNo) → CanPutBack g c → k ≢ c.number.0 → IfSome o (λ v. occurrences k (arcs_of g v.0) ≡ 1) → IfSome o (λ v. occurrences k (arcs_of (with_cut_arc g c) v.0) ≡ 1)
+put_owned g c k None can ne h = tt
+put_owned g c k (Some v) can ne h = put_occurs g c k v.0 can ne ∙ h

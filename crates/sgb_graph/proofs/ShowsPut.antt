@@ -1,7 +1,7 @@
 -- Lemmas on slots into which an arc is linked.
-use Rattle.std.proofs.Common.{◌≡◌, ◌≢◌, ◌<◌, ◌≤◌, ◌+◌, ◌-◌, ◌^◌, ℕ, zero, suc, List, [], ◌∷◌, length, get_or, set, Option, Some, None, is_some, IfSome, true, refl, sym, ap, subst, ◌∙◌, arith, cond, ◌⊎◌, inl, inr, option_map, slice_get, to_z, of_z}
+use Rattle.std.proofs.Common.{◌≡◌, ◌≢◌, ◌<◌, ◌≤◌, ◌+◌, ◌-◌, ◌^◌, ℕ, zero, suc, List, [], ◌∷◌, length, get_or, set, Option, Some, None, is_some, IfSome, true, refl, sym, ap, subst, ◌∙◌, arith, ◌⊎◌, inl, inr, option_map, slice_get, to_z, of_z}
 use Rattle.std.specs.List.{insert}
-use Rattle.std.proofs.lemmas.Bool.{cases_Bool, eq-eqb, ne_eqb, cases_eq, cases_lt}
+use Rattle.std.proofs.lemmas.Bool.{cases_Bool, cases_eq, cases_lt}
 use Rattle.std.proofs.lemmas.List.{get_or-set_same, get_or-set_other, length-set}
 use Rattle.sgb_graph.specs.declared.field.VertexNo.{VertexNo}
 use Rattle.sgb_graph.specs.declared.field.ArcNo.{ArcNo}
@@ -22,13 +22,11 @@ use Rattle.sgb_graph.proofs.Slots.{one_name, slot_same, slot_other, relinked_uns
 use Rattle.sgb_graph.proofs.Shows.{ShowsBut, but_of, numbers_are, linked_first}
 use Rattle.std.specs.Int.{w64}
 use Rattle.std.proofs.lemmas.Int.{to_z-of_z}
-use Rattle.sgb_graph.proofs.PutBack.{owner_with, put_n, put_made, put_vertex_same, put_vertex_other, put_entry_same, put_entry_other, put_occurrences, put_names}
+use Rattle.sgb_graph.proofs.PutBack.{owner_with, put_n, put_made, put_vertex_same, put_vertex_other, put_entry_same, put_entry_other, put_occurs_new, put_owned, put_names}
 use Rattle.sgb_graph.proofs.Sound.{names_in_two, hole_unnamed, names_none, few_names}
 use Rattle.sgb_graph.proofs.Graphs.{made_of_live}
 use Rattle.sgb_graph.specs.Private.Link.{IsCounted}
 use Rattle.sgb_graph.specs.Graph.{IsValue, IsTip, is_name}
-use Rattle.sgb_graph.specs.Private.Lay.{last_number, laid_arc}
-use Rattle.std.specs.Prelude.{pos}
 use Rattle.sgb_graph.specs.declared.field.Tip.{Tip}
 use Rattle.sgb_graph.specs.declared.field.Tip.TheVariants as tips
 use Rattle.sgb_graph.specs.declared.field.Util.TheVariants as utils
@@ -237,39 +235,15 @@ module _ (vs : List Vertex) (ts : Slots) (g : GraphOf) (c : CutArc) (x : ShowsBu
         | inr ne ↦ put_other entry_of next_blind_entry before link k ne ∙ (x.entries k ∙ sym (put_entry_other g c k ne))
       ]
 
-  -- how often a number stands in the lists then
-  put_occurs : (k v : ℕ) → k ≢ c.number.0 → occurrences k (arcs_of (with_cut_arc g c) v) ≡ occurrences k (arcs_of g v)
-  put_occurs k v ne =
-      elim (cases_eq v c.owner.0) [
-        | inl same ↦
-            ap (λ w. occurrences k (arcs_of (with_cut_arc g c) w)) same
-            ∙ (ap (λ z. occurrences k z.arcs) (put_vertex_same g c can)
-            ∙ (put_occurrences g c k
-            ∙ (ap (λ b. occurrences k (arcs_of g c.owner.0) + cond b 1 0) (ne_eqb c.number.0 k (λ e. ne (sym e)))
-            ∙ (omega arith ∙ ap (λ w. occurrences k (arcs_of g w)) (sym same)))))
-        | inr other ↦ ap (λ z. occurrences k z.arcs) (put_vertex_other g c v other)
-      ]
-
-  put_occurs_new : occurrences c.number.0 (arcs_of (with_cut_arc g c) c.owner.0) ≡ 1
-  put_occurs_new =
-      ap (λ z. occurrences c.number.0 z.arcs) (put_vertex_same g c can)
-      ∙ (put_occurrences g c c.number.0
-      ∙ (ap (λ b. occurrences c.number.0 (arcs_of g c.owner.0) + cond b 1 0) (eq-eqb c.number.0 c.number.0 refl)
-      ∙ omega (arith, fresh c.owner.0)))
-
-  owned : (k : ℕ) (o : Option VertexNo) → k ≢ c.number.0 → IfSome o (λ v. occurrences k (arcs_of g v.0) ≡ 1) → IfSome o (λ v. occurrences k (arcs_of (with_cut_arc g c) v.0) ≡ 1)
-  owned k None ne h = tt
-  owned k (Some v) ne h = put_occurs k v.0 ne ∙ h
-
   pub put_owners_shown : (before link : Option ArcNo) (k : ℕ) → IfSome (owner_in (slot_at (put_slots ts c before link) k)) (λ v. occurrences k (arcs_of (with_cut_arc g c) v.0) ≡ 1)
   put_owners_shown before link k =
       let P : ℕ → Option VertexNo → Type 0 = λ i o. IfSome o (λ v. occurrences i (arcs_of (with_cut_arc g c) v.0) ≡ 1) in
       elim (cases_eq k c.number.0) [
         | inl same ↦
             subst (λ i. P i (owner_in (slot_at (put_slots ts c before link) i))) (sym same)
-            (subst (λ o. P c.number.0 (owner_in o)) (sym (put_same before link)) put_occurs_new)
+            (subst (λ o. P c.number.0 (owner_in o)) (sym (put_same before link)) (put_occurs_new g c sound can))
         | inr ne ↦
-            subst (P k) (sym (put_other owner_in next_blind_owner before link k ne)) (owned k (owner_in (slot_at ts k)) ne (x.owners k))
+            subst (P k) (sym (put_other owner_in next_blind_owner before link k ne)) (put_owned g c k (owner_in (slot_at ts k)) can ne (x.owners k))
       ]
 
 -- counts of names after the arc's fields gained theirs
@@ -371,14 +345,6 @@ put_back_done vs ws ss ts rs g c d before link shows sound can ts_is before_is l
     let follows : link ≡ link_after vs us c.owner.0 before = link_is ∙ ap (λ t. link_after vs t c.owner.0 before) ts_is in
     let length_is : to_z w64 (of_z w64 c.len) ≡ c.len = to_z-of_z w64 c.len can.arc.len in
     rw (ws_is, made, follows, length_is) r
-
--- what the steps of laying an arc leave
-pub lay_done : (vs ws : List Vertex) (ss rs : Slots) (g : GraphOf) (v : VertexNo) (k : ArcNo) (end link : Option ArcNo) → Shows vs ss g → IsGraph g → CanPutBack g (laid_arc g k v)
-    → end ≡ last_number (arcs_of g v.0) → link ≡ link_after vs ss v.0 end → ws ≡ vertices_relinked vs v.0 end (Some k) → rs ≡ slots_relinked ss end (Some k)
-    → Shows ws (set rs k.0 (Some (record { owner = v; tip = tips.Zero; next = link; names = 0; len = pos 0; fields = utils.Zero ∷ utils.Zero ∷ [] }))) (with_cut_arc g (laid_arc g k v))
-lay_done vs ws ss rs g v k end link shows sound can last link_is ws_is rs_is =
-    let r = put_shows vs ss g (laid_arc g k v) end shows sound can last in
-    rw (ws_is, rs_is, link_is) r
 
 -- a tip to one of n vertices, of which there are not more
 pub low_tip : (n : ℕ) (t : Tip) → n ≤ 65535 → IsTip n t → IsTip 65535 t

@@ -1,5 +1,5 @@
 -- Laying chains of records into a graph.
-use Rattle.std.specs.Prelude.{◌≡◌, ◌<◌, ◌≤◌, ◌⊎◌, ℕ, pos, List, [], ◌∷◌, length, map, slice_index_or, min, None, Some, Option}
+use Rattle.std.specs.Prelude.{◌≡◌, ◌<◌, ◌≤◌, ◌⊎◌, ℕ, pos, ◌+◌, List, [], ◌∷◌, length, map, slice_index_or, min, None, Some, Option, IfSome}
 use Rattle.sgb_graph.specs.declared.field.ArcNo.{ArcNo}
 use Rattle.sgb_graph.specs.declared.field.VertexNo.{VertexNo}
 use Rattle.sgb_graph.specs.declared.field.Tip.TheVariants as tips
@@ -10,12 +10,16 @@ use Rattle.sgb_graph.specs.declared.parts.VertexPart.{VertexPart}
 use Rattle.sgb_graph.specs.declared.refusal.Refusal.{Refusal}
 use Rattle.sgb_graph.specs.declared.refusal.Refusal.TheVariants.{NoRoom, BadOperand}
 use Rattle.sgb_graph.specs.Chain.{Leads}
-use Rattle.sgb_graph.specs.Graph.{GraphOf, IsGraph, n_of, made_of, arcs_of}
+use Rattle.sgb_graph.specs.Graph.{GraphOf, ArcOf, IsGraph, n_of, made_of, m_of, vertex_at, label_of, arcs_of, arc_at, occurrences, names_of}
+use Rattle.sgb_graph.specs.New.{new_graph}
 use Rattle.sgb_graph.specs.Parts.{vertex_part}
 use Rattle.sgb_graph.specs.declared.graph.Vertex as vertex
-use Rattle.sgb_graph.specs.Edit.{with_cut_arc}
-use Rattle.sgb_graph.specs.Private.Arena.{Slots, Shows}
-use Rattle.sgb_graph.specs.Private.Link.{number_before, CanPutBack}
+use Rattle.sgb_graph.specs.declared.graph.arena.Cell.{Cell}
+use Rattle.sgb_graph.specs.declared.graph.arena.Slot.{Slot}
+use Rattle.sgb_graph.specs.declared.graph.lay.Chained.{Chained}
+use Rattle.sgb_graph.specs.Private.Cells.{two_zeros, slot_with}
+use Rattle.sgb_graph.specs.Private.Link.{number_before, vertex_in}
+use Rattle.sgb_graph.specs.Private.Vertices.{with_first}
 
 -- the links of the records, and the number that follows by them
 abbrev pub links_of : List ArcPart → List (Option ArcNo)
@@ -70,17 +74,75 @@ abbrev pub laid_arc : GraphOf → ArcNo → VertexNo → CutArc
 laid_arc g number owner =
     record { number = number; owner = owner; place = length (arcs_of g owner.0); tip = tips.Zero; len = pos 0; fields = Zero ∷ Zero ∷ [] }
 
--- of every sound graph that the fields show, where the number is a hole and the list ends there, they then show the
--- graph with the arc
-abbrev pub LaysBehind : List vertex.Vertex → Slots → VertexNo → Option ArcNo → ArcNo → List vertex.Vertex → Slots → Type 0
-LaysBehind vs ss owner end number ws ts =
-    (g : GraphOf) → Shows vs ss g → IsGraph g → CanPutBack g (laid_arc g number owner) → end ≡ last_number (arcs_of g owner.0)
-    → Shows ws ts (with_cut_arc g (laid_arc g number owner))
+-- what is kept of the record of a number while chains are followed, and what stands beyond all records
+abbrev pub any_row : Chained
+any_row = record { owner = None; next = None }
 
--- there is such a graph
-pub record CanLayBehind (vs : List vertex.Vertex) (ss : Slots) (owner : VertexNo) (end : Option ArcNo) (number : ArcNo) : Type 0 where
+abbrev pub row_at : List Chained → ℕ → Chained
+row_at rows k = slice_index_or rows k any_row
+
+abbrev pub nexts : List Chained → List (Option ArcNo)
+nexts rows = map (λ (r : Chained). r.next) rows
+
+-- of a record that stands in no chain, and of one that this vertex owns
+abbrev pub unowned : ArcPart → Chained
+unowned r = record { owner = None; next = kept_link 1000000 r.next }
+
+abbrev pub owned_row : VertexNo → Chained → Chained
+owned_row v r = record { owner = Some v; next = r.next }
+
+-- its arc, its cell and its slot: one that leads nowhere yet, or a hole
+abbrev pub laid_entry : Option VertexNo → Option ArcOf
+laid_entry None = None
+laid_entry (Some v) = Some (record { tip = tips.Zero; len = pos 0; fields = Zero ∷ Zero ∷ [] })
+
+abbrev pub laid_cell : Chained → Cell
+laid_cell r = record { owner = r.owner; tip = tips.Zero; next = r.next; names = 0; len = pos 0 }
+
+abbrev pub laid_slot : Chained → Option Slot
+laid_slot r = slot_with two_zeros (laid_cell r)
+
+-- all but the arcs of g is as in h
+pub record LikeBut (h g : GraphOf) : Type 0 where
+  pub id : g.id ≡ h.id
+  pub types : g.types ≡ h.types
+  pub fields : g.fields ≡ h.fields
+  pub n : n_of g ≡ n_of h
+  pub labels : (w : ℕ) → label_of g w ≡ label_of h w
+  pub values : (w : ℕ) → (vertex_at g w).fields ≡ (vertex_at h w).fields
+
+-- the rows tell the arcs of a graph of n vertices and their owners, and so many are holes
+pub record Tells (rows : List Chained) (holes n : ℕ) (g : GraphOf) : Type 0 where
+  pub entries : (k : ℕ) → arc_at g k ≡ laid_entry (row_at rows k).owner
+  pub owners : (k : ℕ) → IfSome (row_at rows k).owner (λ v. occurrences k (arcs_of g v.0) ≡ 1)
+  pub names : (k : ℕ) → names_of g k ≡ 0
+  pub left : holes + m_of g ≡ made_of g
+  pub new : LikeBut (new_graph n) g
+
+-- the rows tell a graph whose lists are the chains
+pub record Owns (vs : List VertexPart) (rows : List Chained) (holes : ℕ) : Type 0 where
   pub graph : GraphOf
-  pub sound : IsGraph graph
-  pub shows : Shows vs ss graph
-  pub can : CanPutBack graph (laid_arc graph number owner)
-  pub last : end ≡ last_number (arcs_of graph owner.0)
+  pub lays : Lays vs (nexts rows) graph
+  pub tells : Tells rows holes (length vs) graph
+
+-- the same for the vertices below v
+pub record OwnsBelow (vs : List VertexPart) (v : ℕ) (rows : List Chained) (holes : ℕ) : Type 0 where
+  pub graph : GraphOf
+  pub laying : Laying vs (nexts rows) v graph
+  pub tells : Tells rows holes (length vs) graph
+
+-- and for the front of v's chain, where the rest begins at this link
+pub record OwnsUpTo (vs : List VertexPart) (v : ℕ) (link : Option ArcNo) (rows : List Chained) (holes : ℕ) : Type 0 where
+  pub graph : GraphOf
+  pub end : Option ArcNo
+  pub laying : LayingAt vs (nexts rows) v end link graph
+  pub tells : Tells rows holes (length vs) graph
+
+-- each vertex below v is linked to the front of its chain, and all else is as before
+pub record FirstsBelow (us : List vertex.Vertex) (parts : List VertexPart) (v : ℕ) (ws : List vertex.Vertex) : Type 0 where
+  pub len : length ws ≡ length us
+  pub linked : (w : ℕ) → w < v → vertex_in ws w ≡ with_first (kept_link 1000000 (vertex_part parts w).first) (vertex_in us w)
+  pub rest : (w : ℕ) → v ≤ w → vertex_in ws w ≡ vertex_in us w
+
+abbrev pub FirstsOf : List vertex.Vertex → List VertexPart → List vertex.Vertex → Type 0
+FirstsOf us parts ws = FirstsBelow us parts (length parts) ws

@@ -12,6 +12,7 @@ ghost use Rattle.sgb_graph.specs.Private.Cells.{two_zeros, slot_with, new_cell, 
 ghost use Rattle.sgb_graph.specs.Private.Exchange.{fields_in, with_field};
 ghost use Rattle.sgb_graph.specs.Private.Insert.{IsRefusedAt, row_cells, last_link};
 ghost use Rattle.sgb_graph.specs.Private.Join.{both, all_joined};
+ghost use Rattle.sgb_graph.specs.Private.Lay.{laid_cell, laid_slot};
 ghost use Rattle.sgb_graph.specs.Private.Link.{slots_relinked, slots_gaining, slots_losing, IsCounted};
 ghost use Rattle.sgb_graph.specs.Private.SameRows.{each_eq, slot_eq};
 ghost use Rattle.sgb_graph.specs.Private.Walk.{is_loop_in};
@@ -20,6 +21,7 @@ use super::codes::{Link, OwnerCode, TipCode};
 use super::fields::{kept_at, put_fields, replace_kept, take_fields, two_zeros};
 use super::honest::are_allowed;
 use super::join::{push_arc, push_arcs_along, push_edge, push_edges, push_edges_along};
+use super::lay::Chained;
 use super::paired::is_vertex;
 use super::read::ArcView;
 use super::room::make_room;
@@ -97,6 +99,26 @@ impl Arena {
         }
     }
 
+    /// The slots of these records: those that have an owner are arcs, which lead nowhere yet.
+    pub fn laid(alloc: Global, rows: &[Chained]) -> Result<Arena, Refusal>
+        requires { length rows.now ≤ 1000000 }
+        ensures ok { IfOk result (λ slots. slots ≡ map laid_slot rows.now) }
+        ensures err { IfErr result (λ e. e ≡ Refusal.NoRoom) }
+    {
+        let mut cells = Vec::new(alloc);
+        let mut fields = Vec::new(alloc);
+        let mut room = 0;
+        make_room(&mut cells, &mut fields, &mut room, rows.len())?;
+        push_laid(&mut cells, rows);
+        Ok(Arena {
+            cells,
+            fields,
+            room,
+            aimed: false,
+            zeros: two_zeros(),
+        })
+    }
+
     #[inline]
     pub fn len(&self) -> usize
         ensures { result ≡ length self.now }
@@ -110,17 +132,6 @@ impl Arena {
         ensures err { IfErr result (IsRefusedAt (length self.old + count)) }
     {
         make_room(&mut self.cells, &mut self.fields, &mut self.room, count)
-    }
-
-    /// Adds a hole, last.
-    pub fn push_hole(&mut self) -> Result<(), Refusal>
-        ensures ok { OnOk result (self.new ≡ self.old ++ None ∷ []) }
-        ensures err { IfErr result (IsRefusedAt (length self.old + 1)) }
-        ensures unchanged { OnErr result (self.new ≡ self.old) }
-    {
-        make_room(&mut self.cells, &mut self.fields, &mut self.room, 1)?;
-        self.cells.push_reserved(hole());
-        Ok(())
     }
 
     /// Adds a new arc, last, first in the list of its owner.
@@ -699,6 +710,31 @@ fn push_row(
     }
     *cells = all;
     link
+}
+
+// Adds the cells of these records, last.
+fn push_laid(cells: &mut Vec<Cell>, rows: &[Chained])
+    requires { vec_len cells.old + length rows.now ≤ vec_capacity cells.old }
+    ensures cells { cells.new.items ≡ cells.old.items ++ map laid_cell rows.now }
+    ensures len { vec_len cells.new ≡ vec_len cells.old + length rows.now }
+    ensures capacity { vec_capacity cells.new ≡ vec_capacity cells.old }
+{
+    for row in rows {
+        cells.push_reserved(laid_cell(row));
+    }
+}
+
+#[inline]
+fn laid_cell(row: &Chained) -> Cell
+    ensures { result ≡ laid_cell row.now }
+{
+    Cell {
+        owner: row.owner,
+        tip: TipCode::new(Tip::Zero),
+        next: row.next,
+        names: 0,
+        len: 0,
+    }
 }
 
 // Each cell's arc, as far as there are fields.

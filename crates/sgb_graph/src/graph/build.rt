@@ -1,8 +1,7 @@
 //! Graphs from their saved parts.
-ghost use Rattle.std.specs.Prelude.{◌≡◌, ◌<◌, ◌⊎◌, IfOk, IfErr};
-ghost use Rattle.sgb_graph.specs.Graph.{GraphOf, IsGraph};
+ghost use Rattle.std.specs.Prelude.{◌≡◌, ◌⊎◌, IfOk, IfErr};
+ghost use Rattle.sgb_graph.specs.Graph.{GraphOf};
 ghost use Rattle.sgb_graph.specs.Parts.{Builds};
-ghost use Rattle.sgb_graph.specs.Private.Holes.{blank_graph};
 
 use super::{Graph, MOST_ARCS, MOST_VERTICES};
 use crate::{Parts, Refusal};
@@ -15,7 +14,8 @@ impl Graph {
     ///
     /// Refused `BadOperand` where no graph has these parts: where chains meet, return or leave the records; where a
     /// tip or a value names no vertex, no record or a hole; above 65,535 vertices, 1,000,000 records or 160 bytes of
-    /// id. Takes memory for the graph and for the links of the records, and time of the parts.
+    /// id. Takes memory for the graph and eight bytes for each record, and time of the parts.
+    #[inline(never)]
     pub fn build(alloc: Global, parts: Parts) -> Result<Graph, Refusal>
         ensures ok { IfOk result (λ g. Builds parts g) }
         ensures err { IfErr result (λ e. (e ≡ Refusal.NoRoom) ⊎
@@ -30,8 +30,10 @@ impl Graph {
         } = parts;
         let vertices = vertices.into_vec();
         let arcs = arcs.into_vec();
-        let mut graph = begin(alloc, vertices.len(), arcs.len())?;
-        graph.lay_all(alloc, &vertices, &arcs)?;
+        if vertices.len() > MOST_VERTICES as usize || arcs.len() > MOST_ARCS as usize {
+            return Err(Refusal::BadOperand);
+        }
+        let mut graph = Graph::laid(alloc, &vertices, &arcs)?;
         if !graph.can_name_all(&fields, &vertices) {
             return Err(Refusal::BadOperand);
         }
@@ -52,24 +54,4 @@ impl Graph {
     {
         self.slots.look_at_tips();
     }
-}
-
-// A graph of so many blank vertices and holes.
-fn begin(alloc: Global, n: usize, made: usize) -> Result<Graph, Refusal>
-    ensures ok { IfOk result (λ g. (g ≡ blank_graph n made) × IsGraph g) }
-    ensures err { IfErr result (λ e. (e ≡ Refusal.NoRoom) ⊎
-        ((e ≡ Refusal.BadOperand) × ((65535 < n) ⊎ (1000000 < made)))) }
-{
-    if n > MOST_VERTICES as usize {
-        return Err(Refusal::BadOperand);
-    }
-    if made > MOST_ARCS as usize {
-        return Err(Refusal::BadOperand);
-    }
-    let mut graph = Graph::new(alloc, n as u32)?;
-    graph.reserve_arcs(made)?;
-    for _number in 0..made {
-        graph.push_hole()?;
-    }
-    Ok(graph)
 }

@@ -1,123 +1,76 @@
-//! Laying the chains of saved records into the lists of a graph. What a record tells beside its link is put in later,
-//! in the order of the records.
-ghost use Rattle.std.specs.Prelude.{◌≡◌, ◌<◌, ◌+◌, length, true, IfOk, IfErr, OnOk};
-ghost use Rattle.sgb_graph.specs.Graph.{IsGraph, n_of, made_of, arcs_of, has_arc};
-ghost use Rattle.sgb_graph.specs.Edit.{with_cut_arc};
-ghost use Rattle.sgb_graph.specs.Private.Holes.{with_hole};
-ghost use Rattle.sgb_graph.specs.Private.Link.{CanPutBack};
-ghost use Rattle.sgb_graph.specs.Private.Lay.{Lays, Laying, RefusesToLay, links_of, kept_link, kept_links, last_number, laid_arc};
+//! Laying the chains of saved records into the lists of a graph. A chain is followed over owners and links alone, which take
+//! eight bytes a record, and the arcs are then laid in the order of their numbers. What a record tells beside its link is put in
+//! later.
+ghost use Rattle.std.specs.Prelude.{◌≡◌, ◌<◌, ◌≤◌, ◌+◌, length, map, IsSome, None, Some, IfOk, IfErr, OnOk, slice_set};
+ghost use Rattle.sgb_graph.specs.New.{new_graph};
+ghost use Rattle.sgb_graph.specs.Private.Lay.{Lays, RefusesToLay, FirstsOf, OwnsBelow, Owns, links_of, nexts, kept_link, row_at, owned_row, unowned};
 
-use super::codes::Link;
-use super::link::lay_behind;
+use super::arena::Arena;
+use super::codes::{Link, OwnerCode};
+use super::vertices::Vertices;
 use super::{Graph, MOST_ARCS};
 use crate::{ArcNo, ArcPart, Refusal, VertexNo, VertexPart};
 use std::alloc::{AllocError, Global};
 
+/// A record's link, and the vertex whose chain it stands in, as far as the chains were followed.
+#[derive(Clone, Copy)]
+pub(super) struct Chained {
+    pub owner: OwnerCode,
+    pub next: Link,
+}
+
 impl Graph {
-    // Lays the chain of each vertex. Refused where no graph has these chains.
-    pub(super) fn lay_all(
-        &mut self,
+    // The graph whose lists are the chains of these records, and whose arcs lead nowhere yet. Refused where there is none.
+    pub(super) fn laid(
         alloc: Global,
         vertices: &[VertexPart],
         arcs: &[ArcPart],
-    ) -> Result<(), Refusal>
-        requires { Laying vertices.now (links_of arcs.now) 0 self.old }
-        ensures ok { OnOk result (Lays vertices.now (links_of arcs.now) self.new) }
+    ) -> Result<Graph, Refusal>
+        requires vertices { length vertices.now ≤ 65535 }
+        requires arcs { length arcs.now ≤ 1000000 }
+        ensures ok { IfOk result (Lays vertices.now (links_of arcs.now)) }
         ensures err { IfErr result (RefusesToLay vertices.now (links_of arcs.now)) }
     {
-        let links = links_of(alloc, arcs)?;
-        self.lay_chains(vertices, &links)
+        let mut rows = unowned(alloc, arcs)?;
+        let holes = own_all(vertices, &mut rows)?;
+        let mut graph = Graph::new(alloc, vertices.len() as u32)?;
+        graph.list(alloc, vertices, &rows, holes)?;
+        Ok(graph)
     }
 
-    // Lays the chain of each vertex along these links.
-    fn lay_chains(&mut self, vertices: &[VertexPart], links: &[Link]) -> Result<(), Refusal>
-        requires { Laying vertices.now links.now 0 self.old }
-        ensures ok { OnOk result (Lays vertices.now links.now self.new) }
-        ensures err { IfErr result (RefusesToLay vertices.now links.now) }
-    {
-        for vertex in 0..self.n() {
-            self.lay_vertex(VertexNo(vertex), vertices, links)?;
-        }
-        Ok(())
-    }
-
-    // Lays the chain of one vertex, from its front. Each step takes a hole away.
-    fn lay_vertex(
+    // Lists the arcs of these records, so many of which stand in no chain.
+    fn list(
         &mut self,
-        vertex: VertexNo,
+        alloc: Global,
         vertices: &[VertexPart],
-        links: &[Link],
+        rows: &[Chained],
+        holes: u32,
     ) -> Result<(), Refusal>
-        requires vertex { vertex.0 < length vertices.now }
-        requires laying { Laying vertices.now links.now vertex.0 self.old }
-        ensures ok { OnOk result (Laying vertices.now links.now (vertex.0 + 1) self.new) }
-        ensures err { IfErr result (RefusesToLay vertices.now links.now) }
-    {
-        let mut link = vertices[vertex.0 as usize].first;
-        let mut last = None;
-        while let Some(number) = link {
-            self.lay(vertex, last, number)?;
-            link = links[number.0 as usize].get();
-            last = Some(number);
-        }
-        Ok(())
-    }
-
-    // Lays an arc behind the last one of the vertex's list. It leads nowhere yet, and its fields are Zero. Refused
-    // where the number is no hole.
-    #[inline]
-    fn lay(&mut self, vertex: VertexNo, last: Option<ArcNo>, number: ArcNo) -> Result<(), Refusal>
-        requires vertex { vertex.0 < n_of self.old }
-        requires last { last ≡ last_number (arcs_of self.old vertex.0) }
-        ensures can { OnOk result (CanPutBack self.old (laid_arc self.old number vertex)) }
-        ensures laid { OnOk result (self.new ≡ with_cut_arc self.old (laid_arc self.old number vertex)) }
-        ensures sound { OnOk result (IsGraph self.new) }
-        ensures err { IfErr result (λ e. (e ≡ Refusal.BadOperand) × (number.0 < made_of self.old → has_arc self.old number.0 ≡ true)) }
-    {
-        if number.0 >= self.made() {
-            return Err(Refusal::BadOperand);
-        }
-        if self.has_arc(number) {
-            return Err(Refusal::BadOperand);
-        }
-        self.put_behind(vertex, last, number);
-        Ok(())
-    }
-
-    // Links an arc whose number is a hole behind the last one.
-    #[inline]
-    fn put_behind(&mut self, vertex: VertexNo, last: Option<ArcNo>, number: ArcNo)
-        requires can { CanPutBack self.old (laid_arc self.old number vertex) }
-        requires last { last ≡ last_number (arcs_of self.old vertex.0) }
-        ensures value { self.new ≡ with_cut_arc self.old (laid_arc self.old number vertex) }
-        ensures sound { IsGraph self.new }
-    {
-        lay_behind(&mut self.vertices, &mut self.slots, vertex, last, number);
-        self.holes -= 1;
-    }
-
-    // Gives out a number as a hole.
-    pub(super) fn push_hole(&mut self) -> Result<(), Refusal>
-        requires { made_of self.old < 1000000 }
-        ensures ok { OnOk result (self.new ≡ with_hole self.old) }
-        ensures sound { OnOk result (IsGraph self.new) }
+        requires new { self.old ≡ new_graph (length vertices.now) }
+        requires owns { Owns vertices.now rows.now holes }
+        ensures ok { OnOk result (Lays vertices.now (nexts rows.now) self.new) }
         ensures err { IfErr result (λ e. e ≡ Refusal.NoRoom) }
     {
-        self.slots.push_hole()?;
-        self.holes += 1;
+        let slots = Arena::laid(alloc, rows)?;
+        link_firsts(&mut self.vertices, vertices);
+        self.slots = slots;
+        self.holes = holes;
         Ok(())
     }
 }
 
-// The links of the records alone: a chain that is followed over these touches less memory.
-fn links_of(alloc: Global, arcs: &[ArcPart]) -> Result<Vec<Link>, AllocError>
-    ensures { IfOk result (λ links. links.items ≡ kept_links 1000000 arcs.now) }
+// The links of the records, none of which stands in a chain so far.
+fn unowned(alloc: Global, arcs: &[ArcPart]) -> Result<Vec<Chained>, AllocError>
+    ensures { IfOk result (λ rows. rows.items ≡ map unowned arcs.now) }
 {
-    let mut links = Vec::with_capacity(alloc, arcs.len())?;
+    let mut rows = Vec::with_capacity(alloc, arcs.len())?;
     for part in arcs {
-        links.push(kept_link(part.next))?;
+        rows.push(Chained {
+            owner: OwnerCode::none(),
+            next: kept_link(part.next),
+        })?;
     }
-    Ok(links)
+    Ok(rows)
 }
 
 // A link in four bytes. One beyond all records stays beyond them.
@@ -128,5 +81,82 @@ fn kept_link(next: Option<ArcNo>) -> Link
     match next {
         Some(number) => Link::to(ArcNo(number.0.min(MOST_ARCS))),
         None => Link::none(),
+    }
+}
+
+// Follows the chain of each vertex, and answers how many records stand in none. Refused where no graph has these chains.
+fn own_all(vertices: &[VertexPart], rows: &mut [Chained]) -> Result<u32, Refusal>
+    requires owns { OwnsBelow vertices.now 0 rows.old (length rows.old) }
+    requires vertices { length vertices.now ≤ 65535 }
+    requires rows { length rows.old ≤ 1000000 }
+    ensures ok { IfOk result (Owns vertices.now rows.new) }
+    ensures links { nexts rows.new ≡ nexts rows.old }
+    ensures err { IfErr result (RefusesToLay vertices.now (nexts rows.old)) }
+{
+    let mut holes = rows.len() as u32;
+    for vertex in 0..vertices.len() as u32 {
+        own_chain(VertexNo(vertex), vertices, rows, &mut holes)?;
+    }
+    Ok(holes)
+}
+
+// Follows the chain of one vertex, whose records it then owns. Each step takes a hole away.
+fn own_chain(
+    vertex: VertexNo,
+    vertices: &[VertexPart],
+    rows: &mut [Chained],
+    holes: &mut u32,
+) -> Result<(), Refusal>
+    requires vertex { vertex.0 < length vertices.now }
+    requires vertices { length vertices.now ≤ 65535 }
+    requires owns { OwnsBelow vertices.now vertex.0 rows.old holes.old }
+    ensures ok { OnOk result (OwnsBelow vertices.now (vertex.0 + 1) rows.new holes.new) }
+    ensures links { nexts rows.new ≡ nexts rows.old }
+    ensures err { IfErr result (RefusesToLay vertices.now (nexts rows.old)) }
+{
+    let mut link = vertices[vertex.0 as usize].first;
+    while let Some(number) = link {
+        link = own(vertex, rows, number)?;
+        *holes -= 1;
+    }
+    Ok(())
+}
+
+// Gives a record to the vertex, and answers which one follows. Refused where there is none of this number, or where it stands
+// in a chain before.
+#[inline]
+fn own(vertex: VertexNo, rows: &mut [Chained], number: ArcNo) -> Result<Option<ArcNo>, Refusal>
+    requires { vertex.0 < 65535 }
+    ensures low { OnOk result (number.0 < length rows.old) }
+    ensures free { OnOk result ((row_at rows.old number.0).owner ≡ None) }
+    ensures next { IfOk result (λ next. next ≡ (row_at rows.old number.0).next) }
+    ensures owned { OnOk result (rows.new ≡ slice_set rows.old number.0 (owned_row vertex (row_at rows.old number.0))) }
+    ensures err { IfErr result (λ e. (e ≡ Refusal.BadOperand) × (number.0 < length rows.old → IsSome (row_at rows.old number.0).owner)) }
+    ensures links { nexts rows.new ≡ nexts rows.old }
+{
+    let index = number.0 as usize;
+    if index >= rows.len() {
+        return Err(Refusal::BadOperand);
+    }
+    let row = rows[index];
+    if row.owner.get().is_some() {
+        return Err(Refusal::BadOperand);
+    }
+    rows[index] = Chained {
+        owner: OwnerCode::new(vertex),
+        next: row.next,
+    };
+    Ok(row.next.get())
+}
+
+// Links each vertex to the front of its chain.
+fn link_firsts(vertices: &mut Vertices, parts: &[VertexPart])
+    requires same { length vertices.old ≡ length parts.now }
+    requires few { length parts.now ≤ 65535 }
+    ensures { FirstsOf vertices.old parts.now vertices.new }
+{
+    for vertex in 0..parts.len() as u32 {
+        let first = kept_link(parts[vertex as usize].first);
+        let _ = vertices.replace_first(VertexNo(vertex), first);
     }
 }

@@ -1,15 +1,14 @@
 //! Linking arcs into the lists of their owners, and out of them.
-ghost use Rattle.std.specs.Prelude.{◌≡◌, ◌<◌, ◌≤◌, ◌^◌, ◌-◌, ◌==◌, length, IfSome, IsSome, None, Some, slice_set};
+ghost use Rattle.std.specs.Prelude.{◌≡◌, ◌<◌, ◌≤◌, ◌^◌, ◌-◌, ◌==◌, length, None, Some};
 ghost use Rattle.std.specs.List.{position_or_len};
 ghost use Rattle.std.specs.Option.{ForSome};
-ghost use Rattle.sgb_graph.specs.Private.Arena.{IsLinked, numbers, next_at, slot_at, owner_in};
-ghost use Rattle.sgb_graph.specs.Private.Lay.{CanLayBehind, LaysBehind};
+ghost use Rattle.sgb_graph.specs.Private.Arena.{IsLinked, numbers};
 ghost use Rattle.sgb_graph.specs.Private.Link.{number_before, link_after, vertices_relinked, slots_relinked, slots_gaining, slots_losing, slots_gaining_both, slots_losing_both, value_at, IsCounted, PutsBack, CanBePutBack, TakesOut, CanBeTakenOut};
 
 use super::arena::{Arena, Slot};
 use super::codes::{Link, TipCode};
 use super::{Arcs, Vertices};
-use crate::{ArcNo, CutArc, Tip, Util, VertexNo};
+use crate::{ArcNo, CutArc, Util, VertexNo};
 
 // The arc that stands before this place of a list.
 fn number_before(slots: &Arena, first: Link, place: u32) -> Option<ArcNo>
@@ -96,30 +95,6 @@ pub(super) fn put_back(vertices: &mut Vertices, slots: &mut Arena, cut: CutArc)
     let before = number_before(slots, vertices.first(owner), place);
     let next = replace_link(vertices, slots, owner, before, Link::to(number));
     slots.put(number, owner, TipCode::new(tip), next, len, fields);
-}
-
-// Links an arc that leads nowhere, and whose fields are Zero, behind the last arc of its owner's list, or first where
-// there is none. Its number is a hole.
-#[inline]
-pub(super) fn lay_behind(
-    vertices: &mut Vertices,
-    slots: &mut Arena,
-    owner: VertexNo,
-    last: Option<ArcNo>,
-    number: ArcNo,
-)
-    requires { CanLayBehind vertices.old slots.old owner last number }
-    ensures { LaysBehind vertices.old slots.old owner last number vertices.new slots.new }
-{
-    let next = replace_link(vertices, slots, owner, last, Link::to(number));
-    slots.put(
-        number,
-        owner,
-        TipCode::new(Tip::Zero),
-        next,
-        0,
-        [Util::Zero, Util::Zero],
-    );
 }
 
 // Takes the arc out of its owner's list, and makes its number a hole.

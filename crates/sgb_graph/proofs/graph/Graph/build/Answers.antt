@@ -1,45 +1,36 @@
-use Rattle.std.proofs.Common.{refl, sym, ap, subst, length, ◌∙◌, inr}
+use Rattle.std.proofs.Common.{refl, sym, ap, subst, ◌∙◌, inr}
 use Rattle.sgb_graph.specs.Parts.{Builds}
 use Rattle.sgb_graph.specs.Private.Fill.{can_name_vertices, FillsVertices, FillsArcs}
 use Rattle.std.proofs.lemmas.Result.{err_from_is_err_and}
 use Rattle.sgb_graph.proofs.Filling.{names_then, each-same}
-use Rattle.sgb_graph.proofs.Building.{blank_lays, lays_moved, unnamed_refused, named_parts, arc_refused, filled_names, arcs_filled_names, builds, too_many, not_laid, long_id}
+use Rattle.sgb_graph.proofs.Building.{lays_moved, unnamed_refused, named_parts, arc_refused, filled_names, arcs_filled_names, builds, not_laid, long_id}
 use Rattle.sgb_graph.proofs.graph.Graph.build.Goals as goal
 
 pub returns-in_err-graph-clause-err : goal.returns-in_err-graph-clause-err
 returns-in_err-graph-clause-err c =
     let p = err_from_is_err_and c.from_residual.result c.from_residual.ensures.1 in
-    rw (p.1, p.2) (too_many c.args.parts c.len.result c.len-2.result c.in_err-graph.field-0.0 (c.len.ensures ∙ (c.into_vec-vertices.result.ok.0 ∙ ap length c.into_vec-vertices.ensures)) (c.len-2.ensures ∙ (c.into_vec-arcs.result.ok.0 ∙ ap length c.into_vec-arcs.ensures)) c.in_err-graph.ensures.err)
-
-pub lay_all-requires : goal.lay_all-requires
-lay_all-requires c =
-    blank_lays c.deref.result.now c.deref-2.result.now c.in_ok-graph.graph c.len.result c.len-2.result c.in_ok-graph.ensures.ok.0 (c.len.ensures ∙ sym c.deref.ensures.len) (c.len-2.ensures ∙ sym c.deref-2.ensures.len) c.in_ok-graph.ensures.ok.1
-
-pub returns-in_err-lay_all-clause-err : goal.returns-in_err-lay_all-clause-err
-returns-in_err-lay_all-clause-err c =
-    let p = err_from_is_err_and c.from_residual-in_err-lay_all.result c.from_residual-in_err-lay_all.ensures.1 in
-    rw (p.1, p.2) (not_laid c.args.parts c.in_err-lay_all.field-0.0 (rw (← (c.deref.ensures.value ∙ c.into_vec-vertices.ensures), ← (c.deref-2.ensures.value ∙ c.into_vec-arcs.ensures)) c.in_err-lay_all.ensures.err))
+    rw (p.1, p.2) (not_laid c.args.parts c.in_err-graph.field-0.0 (rw (← (c.deref.ensures.value ∙ c.into_vec-vertices.ensures), ← (c.deref-2.ensures.value ∙ c.into_vec-arcs.ensures)) c.in_err-graph.ensures.err))
 
 pub returns-then-not-can_name_all-clause-err : goal.returns-then-not-can_name_all-clause-err
 returns-then-not-can_name_all-clause-err c =
-    let x = lays_moved _ _ _ _ c.lay_all.new.self (c.deref.ensures.value ∙ c.into_vec-vertices.ensures) (c.deref-2.ensures.value ∙ c.into_vec-arcs.ensures) c.in_ok-lay_all.ensures.ok in
-    inr (refl, unnamed_refused c.args.parts c.lay_all.new.self _ c.can_name_all.result x (c.deref-3.ensures.value ∙ c.into_vec-vertices.ensures) c.can_name_all.ensures c.if-not-can_name_all.true)
+    let x = lays_moved _ _ _ _ c.in_ok-graph.graph (c.deref.ensures.value ∙ c.into_vec-vertices.ensures) (c.deref-2.ensures.value ∙ c.into_vec-arcs.ensures) c.in_ok-graph.ensures.ok in
+    inr (refl, unnamed_refused c.args.parts c.in_ok-graph.graph _ c.can_name_all.result x (c.deref-3.ensures.value ∙ c.into_vec-vertices.ensures) c.can_name_all.ensures c.if-not-can_name_all.true)
 
 pub fill_vertices-requires-clause-names : goal.fill_vertices-requires-clause-names
 fill_vertices-requires-clause-names c =
-    ap (can_name_vertices c.lay_all.new.self) c.into_vec-vertices.ensures
-    ∙ (named_parts c.args.parts c.lay_all.new.self _ c.can_name_all.result (c.deref-3.ensures.value ∙ c.into_vec-vertices.ensures) c.can_name_all.ensures c.if-not-can_name_all.false).vertices
+    ap (can_name_vertices c.in_ok-graph.graph) c.into_vec-vertices.ensures
+    ∙ (named_parts c.args.parts c.in_ok-graph.graph _ c.can_name_all.result (c.deref-3.ensures.value ∙ c.into_vec-vertices.ensures) c.can_name_all.ensures c.if-not-can_name_all.false).vertices
 
 pub returns-in_err-fill_arcs-clause-err : goal.returns-in_err-fill_arcs-clause-err
 returns-in_err-fill_arcs-clause-err c =
     let p = err_from_is_err_and c.from_residual-in_err-fill_arcs.result c.from_residual-in_err-fill_arcs.ensures.1 in
-    let x = lays_moved _ _ _ _ c.lay_all.new.self (c.deref.ensures.value ∙ c.into_vec-vertices.ensures) (c.deref-2.ensures.value ∙ c.into_vec-arcs.ensures) c.in_ok-lay_all.ensures.ok in
-    rw (p.1, p.2) (arc_refused c.args.parts c.lay_all.new.self c.fill_vertices.new.self _ c.in_err-fill_arcs.field-0.0 x (filled_names _ _ _ c.fill_vertices.ensures) c.into_vec-arcs.ensures c.in_err-fill_arcs.ensures.err)
+    let x = lays_moved _ _ _ _ c.in_ok-graph.graph (c.deref.ensures.value ∙ c.into_vec-vertices.ensures) (c.deref-2.ensures.value ∙ c.into_vec-arcs.ensures) c.in_ok-graph.ensures.ok in
+    rw (p.1, p.2) (arc_refused c.args.parts c.in_ok-graph.graph c.fill_vertices.new.self _ c.in_err-fill_arcs.field-0.0 x (filled_names _ _ _ c.fill_vertices.ensures) c.into_vec-arcs.ensures c.in_err-fill_arcs.ensures.err)
 
 pub fill_own-requires : goal.fill_own-requires
 fill_own-requires c =
-    each-same c.lay_all.new.self c.fill_arcs.new.self c.args.parts.fields (names_then _ _ _ (filled_names _ _ _ c.fill_vertices.ensures) (arcs_filled_names _ _ _ c.in_ok-fill_arcs.ensures.ok))
-    ∙ (named_parts c.args.parts c.lay_all.new.self _ c.can_name_all.result (c.deref-3.ensures.value ∙ c.into_vec-vertices.ensures) c.can_name_all.ensures c.if-not-can_name_all.false).own
+    each-same c.in_ok-graph.graph c.fill_arcs.new.self c.args.parts.fields (names_then _ _ _ (filled_names _ _ _ c.fill_vertices.ensures) (arcs_filled_names _ _ _ c.in_ok-fill_arcs.ensures.ok))
+    ∙ (named_parts c.args.parts c.in_ok-graph.graph _ c.can_name_all.result (c.deref-3.ensures.value ∙ c.into_vec-vertices.ensures) c.can_name_all.ensures c.if-not-can_name_all.false).own
 
 pub returns-in_err-set_id-clause-err : goal.returns-in_err-set_id-clause-err
 returns-in_err-set_id-clause-err c =
@@ -48,9 +39,9 @@ returns-in_err-set_id-clause-err c =
 
 pub returns-clause-ok : goal.returns-clause-ok
 returns-clause-ok c =
-    let x = lays_moved _ _ _ _ c.lay_all.new.self (c.deref.ensures.value ∙ c.into_vec-vertices.ensures) (c.deref-2.ensures.value ∙ c.into_vec-arcs.ensures) c.in_ok-lay_all.ensures.ok in
+    let x = lays_moved _ _ _ _ c.in_ok-graph.graph (c.deref.ensures.value ∙ c.into_vec-vertices.ensures) (c.deref-2.ensures.value ∙ c.into_vec-arcs.ensures) c.in_ok-graph.ensures.ok in
     subst (Builds c.args.parts) (sym c.look_at_tips.ensures)
-    (builds c.args.parts c.lay_all.new.self c.fill_vertices.new.self c.fill_arcs.new.self c.fill_own.new.self c.set_types.new.self c.set_id.new.self x
-    (subst (λ vs. FillsVertices vs c.lay_all.new.self c.fill_vertices.new.self) c.into_vec-vertices.ensures c.fill_vertices.ensures)
+    (builds c.args.parts c.in_ok-graph.graph c.fill_vertices.new.self c.fill_arcs.new.self c.fill_own.new.self c.set_types.new.self c.set_id.new.self x
+    (subst (λ vs. FillsVertices vs c.in_ok-graph.graph c.fill_vertices.new.self) c.into_vec-vertices.ensures c.fill_vertices.ensures)
     (subst (λ rs. FillsArcs rs c.fill_vertices.new.self c.fill_arcs.new.self) c.into_vec-arcs.ensures c.in_ok-fill_arcs.ensures.ok)
     c.fill_own.ensures c.set_types.ensures.graph c.in_ok-set_id.ensures.graph c.in_ok-set_id.ensures.sound)
