@@ -1,7 +1,7 @@
 -- Lemmas on graphs that are built from their parts.
-use Rattle.std.proofs.Common.{◌≡◌, ◌<◌, ◌≤◌, ◌+◌, ℕ, zero, suc, List, [], ◌∷◌, length, get_or, map, replicate, Option, Some, None, is_some, IfSome, All, Bool, true, false, ◌&&◌, refl, sym, ap, subst, ◌∙◌, arith, cond, ◌⊎◌, inl, inr, nat_le}
+use Rattle.std.proofs.Common.{◌≡◌, ◌<◌, ◌+◌, ℕ, zero, suc, List, [], ◌∷◌, length, get_or, map, replicate, Option, Some, None, is_some, IfSome, All, Bool, true, false, ◌&&◌, refl, sym, ap, subst, ◌∙◌, arith, cond, ◌⊎◌, inl, inr, nat_le}
 use Rattle.std.specs.List.{list_all, range_with_len}
-use Rattle.std.proofs.lemmas.Bool.{cases_Bool, cases_lt, lt-ltb, and_from, and_parts, le-leb, leb-false}
+use Rattle.std.proofs.lemmas.Bool.{cases_Bool, cases_lt, lt-ltb, and_from, and_parts, leb-false}
 use Rattle.std.proofs.lemmas.List.{length-replicate, get_or-replicate, get_or_past, replicate_more}
 use Rattle.sgb_graph.specs.declared.field.Util.{Util}
 use Rattle.sgb_graph.specs.declared.field.Util.TheVariants as utils
@@ -9,9 +9,9 @@ use Rattle.sgb_graph.specs.declared.parts.ArcPart.{ArcPart}
 use Rattle.sgb_graph.specs.declared.parts.VertexPart.{VertexPart}
 use Rattle.sgb_graph.specs.declared.parts.Parts.{Parts}
 use Rattle.sgb_graph.specs.declared.refusal.Refusal.{Refusal}
-use Rattle.sgb_graph.specs.declared.refusal.Refusal.TheVariants.{NoRoom, TooLarge, BadOperand}
+use Rattle.sgb_graph.specs.declared.refusal.Refusal.TheVariants.{NoRoom, BadOperand}
 use Rattle.sgb_graph.specs.Graph.{GraphOf, VertexOf, ArcOf, IsGraph, IsArc, IsTip, IsValue, n_of, made_of, vertex_at, no_vertex, arcs_of, arc_at, has_arc}
-use Rattle.sgb_graph.specs.Edit.{stored, can_name, arc_or, no_arc, refusal_of_new, refusal_unless, refusal_of_id}
+use Rattle.sgb_graph.specs.Edit.{stored, can_name, arc_or, no_arc, refusal_unless, refusal_of_id}
 use Rattle.sgb_graph.specs.New.{new_graph, blank_vertex}
 use Rattle.sgb_graph.specs.Private.Holes.{with_hole, blank_graph}
 use Rattle.sgb_graph.specs.Parts.{vertex_part, arc_part, IsVertexOf, IsArcOf, Builds}
@@ -161,19 +161,7 @@ builds p g1 g2 g3 g4 g5 g6 x y z e4 e5 e6 sound =
       graph = subst IsGraph all sound;
     })
 
--- too many vertices or records, or too long an id
-pub too_many : (p : Parts) (n m : ℕ) (e : Refusal) → n ≡ length p.vertices → m ≡ length p.arcs → (e ≡ NoRoom) ⊎ ((e ≡ BadOperand) × ((65535 < n) ⊎ (1000000 < m)))
-    → (e ≡ NoRoom) ⊎ ((e ≡ BadOperand) × ((g : GraphOf) → Builds p g → ⊥))
-too_many p n m e ns ms (inl room) = inl room
-too_many p n m e ns ms (inr bad) =
-    inr (
-      bad.0,
-      λ g b. elim (bad.1) [
-        | inl vertices ↦ omega (arith, b.graph.few_vertices, b.n)
-        | inr arcs ↦ omega (arith, b.graph.few_arcs, b.made)
-      ],
-    )
-
+-- chains that no graph has, or too long an id
 pub not_laid : (p : Parts) (e : Refusal) → RefusesToLay p.vertices (links_of p.arcs) e → (e ≡ NoRoom) ⊎ ((e ≡ BadOperand) × ((g : GraphOf) → Builds p g → ⊥))
 not_laid p e (inl room) = inl room
 not_laid p e (inr bad) = inr (bad.0, λ g b. bad.1 g (lays_of p g b))
@@ -186,11 +174,6 @@ long_id p e refused =
           let is : Some BadOperand ≡ Some e = sym (ap (λ b. refusal_unless b BadOperand None) long) ∙ refused in
           inr (cc, λ g b. omega (arith, leb-false (length p.id) 160 long, ap length b.id, b.graph.id.short))
     ]
-
-pub new_refused : (n : ℕ) (e : Refusal) → n ≤ 65535 → (e ≡ NoRoom) ⊎ (refusal_of_new n ≡ Some e) → e ≡ NoRoom
-new_refused n e few (inl room) = room
-new_refused n e few (inr refused) =
-    absurd (let none = sym (ap (λ b. refusal_unless b TooLarge None) (le-leb n 65535 few)) ∙ refused in cc)
 
 -- the same parts under other names
 pub lays_moved : (vs ws : List VertexPart) (rs ts : List ArcPart) (g : GraphOf) → vs ≡ ws → rs ≡ ts → Lays vs (links_of rs) g → Lays ws (links_of ts) g

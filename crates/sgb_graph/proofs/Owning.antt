@@ -25,7 +25,7 @@ use Rattle.sgb_graph.specs.Private.Link.{any_vertex, vertex_in, CanPutBack}
 use Rattle.sgb_graph.specs.Private.Vertices.{with_first}
 use Rattle.sgb_graph.specs.Private.Lay.{laid_cell, RefusesToLay, Lays, Laying, LayingAt, laid_arc, link_at, links_of, kept_link, kept_links, row_at, any_row, nexts, unowned, owned_row, laid_entry, laid_slot, LikeBut, Tells, Owns, OwnsBelow, OwnsUpTo, FirstsOf}
 use Rattle.sgb_graph.proofs.Building.{blank_begins, blank_more, blank_made, blank_lays}
-use Rattle.sgb_graph.proofs.Chaining.{laying_begins, laying_ends, laying_kept, lays_all, laid_can, laid_more, record_refused, first_kept, listed_low, lays_as_kept, refuses_kept}
+use Rattle.sgb_graph.proofs.Chaining.{laying_begins, laying_kept, laid_can, laid_more, record_refused, first_kept, listed_low, lays_as_kept, refuses_kept}
 use Rattle.sgb_graph.proofs.Chains.{Leads-agree}
 use Rattle.sgb_graph.proofs.Counts.{sum_zero}
 use Rattle.sgb_graph.proofs.Graphs.{listed_live}
@@ -171,18 +171,10 @@ module _ (vs : List VertexPart) (v : VertexNo) (link : Option ArcNo) (rows : Lis
         λ low. ap is_some (x.tells.entries k.0) ∙ owned_lives (row_at rows k.0).owner (bad.1 (omega (arith, low, x.laying.made, nexts_count rows))),
       )
 
--- the chain of one vertex begins and ends
+-- the chain of one vertex begins
 pub owning_begins : (vs : List VertexPart) (v : ℕ) (rows : List Chained) (holes : ℕ) (link : Option ArcNo) → OwnsBelow vs v rows holes → link ≡ (vertex_part vs v).first → OwnsUpTo vs v link rows holes
 owning_begins vs v rows holes link x is =
     record { graph = x.graph; end = None; laying = laying_begins vs (nexts rows) v x.graph link x.laying is; tells = x.tells }
-
-pub owning_ends : (vs : List VertexPart) (v : ℕ) (rows : List Chained) (holes : ℕ) (link : Option ArcNo) → link ≡ None → OwnsUpTo vs v link rows holes → OwnsBelow vs (v + 1) rows holes
-owning_ends vs v rows holes link none x =
-    record { graph = x.graph; laying = laying_ends vs (nexts rows) v x.graph x.end link none x.laying; tells = x.tells }
-
-pub owns_all : (vs : List VertexPart) (n : ℕ) (rows : List Chained) (holes : ℕ) → n ≡ length vs → OwnsBelow vs n rows holes → Owns vs rows holes
-owns_all vs n rows holes all x =
-    record { graph = x.graph; lays = lays_all vs (nexts rows) n x.graph all x.laying; tells = x.tells }
 
 -- before that no record is owned
 new_sound : (n : ℕ) → n ≤ 65535 → IsGraph (new_graph n)
