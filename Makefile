@@ -97,15 +97,15 @@ bench: bench_combine bench_text
 
 bench_combine: $(BENCH)/plain_combine
 	sh bench/build.sh combine "sgb_flip sgb_graph sgb_plan sgb_operand sgb_induced sgb_lengths sgb_combine" $(BENCH)
-	python3 bench/compare.py --same $(BENCH)/combine/crates/combine_bench/out/combine_bench $(BENCH)/plain_combine
+	python3 bench/compare.py --same --turns 10 $(BENCH)/combine/crates/combine_bench/out/combine_bench $(BENCH)/plain_combine
 
 bench_text: $(BENCH)/plain_text
 	sh bench/build.sh text "sgb_graph sgb_parts sgb_grammar sgb_text" $(BENCH)
-	python3 bench/compare.py --same $(BENCH)/text/crates/text_bench/out/text_bench $(BENCH)/plain_text
+	python3 bench/compare.py --same --turns 20 $(BENCH)/text/crates/text_bench/out/text_bench $(BENCH)/plain_text
 
 bench_flip: $(BENCH)/plain_flip
 	sh bench/build.sh flip sgb_flip $(BENCH)
-	python3 bench/compare.py $(BENCH)/flip/crates/flip_bench/out/flip_bench $(BENCH)/plain_flip
+	python3 bench/compare.py --turns 6 $(BENCH)/flip/crates/flip_bench/out/flip_bench $(BENCH)/plain_flip
 
 bench_graph: $(BENCH)/plain_graph
 	sh bench/build.sh graph sgb_graph $(BENCH)
@@ -113,7 +113,7 @@ bench_graph: $(BENCH)/plain_graph
 
 bench_make: $(BENCH)/plain_make
 	sh bench/build.sh make "sgb_flip sgb_graph sgb_plan sgb_simplex sgb_perms sgb_binary sgb_random sgb_make" $(BENCH)
-	python3 bench/compare.py --same $(BENCH)/make/crates/make_bench/out/make_bench $(BENCH)/plain_make
+	python3 bench/compare.py --same --turns 20 $(BENCH)/make/crates/make_bench/out/make_bench $(BENCH)/plain_make
 
 $(BENCH)/plain_flip: bench/plain_flip.c
 	mkdir -p $(BENCH)

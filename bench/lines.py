@@ -18,7 +18,7 @@ import subprocess
 import sys
 import tempfile
 
-ROUNDS = 7
+ROUNDS = 15
 EDITS = 60_000
 # No more commands than this stand at once in the rows with undos.
 BLOCK = 1000

@@ -1,5 +1,5 @@
 //! The session: what the commands change.
-ghost use Rattle.std.specs.Prelude.{◌≡◌, ◌<◌, ◌≤◌, ◌⊎◌, length, true, Err, IfOk, IfErr, OnOk, OnErr};
+ghost use Rattle.std.specs.Prelude.{◌≡◌, ◌<◌, ◌≤◌, ◌⊎◌, ◌-◌, length, take, true, Err, IfOk, IfErr, OnOk, OnErr};
 ghost use Rattle.sgb_undo.specs.Outcome.{Accepted, Refused};
 ghost use Rattle.sgb_script.specs.declared.command.Command.TheVariants as commands;
 ghost use Rattle.sgb_lengths.specs.declared.spec.LengthsSpec.{LengthsSpec};
@@ -8,12 +8,13 @@ ghost use Rattle.sgb_session.specs.Edits.{refusal_from};
 ghost use Rattle.sgb_session.specs.Private.Making.{Judges};
 ghost use Rattle.sgb_session.specs.State.{is_large, is_spent, Performs, told};
 
+use crate::boxed::Boxed;
 use crate::brief::BriefReply;
 use crate::making::{find_operands, goes_on, make_boxed};
 use crate::mark::Mark;
 use crate::past::{Past, keep, take_back};
 use crate::reply::{Delta, Reply};
-use crate::table::{MOST_GRAPHS, Table};
+use crate::table::{Entry, MOST_GRAPHS, Table};
 use sgb_combine::LengthsSpec;
 use sgb_graph::{ArcNo, Graph, GraphDelta, Refusal};
 use sgb_make::Seed;
@@ -36,6 +37,9 @@ pub struct Session {
     // Generators that seedings replaced, as far as there was room for them. They make the undoing of a seeding quick.
     marks: Vec<Mark>,
     pub(crate) table: Table,
+    // The graph whose making was undone last, until another one is made: one without arcs, of the same name, takes over
+    // its room.
+    spare: Option<Entry>,
 }
 
 impl Model for Session {
@@ -60,6 +64,7 @@ impl Session {
             generator: Mark::new(0),
             marks: Vec::new(alloc),
             table: Table::new(),
+            spare: None,
         }
     }
 
@@ -200,6 +205,7 @@ impl Session {
         ensures performs { Performs self.old self.new (commands.Make name maker.now) (told delta.new reply.new result) }
     {
         let operands = self.judge(&name, maker)?;
+        let spare = self.take_spare(&name, maker);
         match make_boxed(
             self.alloc,
             &mut self.generator,
@@ -207,7 +213,8 @@ impl Session {
             operands,
             maker,
         ) {
-            Ok((boxed, kept)) => {
+            Ok((mut boxed, kept)) => {
+                take_room(&mut boxed, spare);
                 let graph = boxed.get();
                 *reply = Reply::Made(name, graph.n(), graph.m());
                 self.table.push(name, boxed);
@@ -216,6 +223,27 @@ impl Session {
             }
             Err(refusal) => Err(refusal_of(refusal)),
         }
+    }
+
+    // The graph whose making was undone last, where one without arcs is to have its name. Before any other is made it is let
+    // go, so that its memory can be had.
+    fn take_spare(&mut self, name: &Name, maker: &Maker) -> Option<Entry>
+        ensures { self.new ≡ self.old }
+    {
+        let spare = self.spare.take()?;
+        match maker {
+            Maker::Empty(_) if spare.name == *name => Some(spare),
+            _ => None,
+        }
+    }
+
+    // Takes the last graph out of the table, and keeps it for its room.
+    #[inline(never)]
+    fn take_back_graph(&mut self)
+        requires { 0 < length self.old.table }
+        ensures { self.new ≡ record { generator = self.old.generator; table = take (length self.old.table - 1) self.old.table } }
+    {
+        self.spare = self.table.pop();
     }
 
     /// How a command that makes more than vertices, or draws lengths, is refused where memory is wanting before it is
@@ -343,6 +371,15 @@ impl Session {
     }
 }
 
+// Gives a new graph the room of another one, if there is one.
+fn take_room(graph: &mut Boxed<Graph>, spare: Option<Entry>)
+    ensures { graph.new ≡ graph.old }
+{
+    if let Some(entry) = spare {
+        graph.inner.take_room(Box::into_inner(entry.graph.inner));
+    }
+}
+
 // Whether random work with this seed finds its generator spent. That of a number is new.
 fn is_spent(generator: &Mark, seed: Seed) -> bool
     ensures { result ≡ is_spent (drawn_from seed generator.now) }
@@ -418,10 +455,10 @@ impl Reversible for Session {
         match delta {
             Delta::Seed(past) => take_back(&mut self.generator, &mut self.marks, past),
             Delta::Draws(draws) => self.generator.back_by(draws),
-            Delta::Made => self.table.pop(),
+            Delta::Made => self.take_back_graph(),
             Delta::MadeBy(source) => {
                 self.generator.turn_back(source);
-                self.table.pop();
+                self.take_back_graph();
             }
             Delta::Edit(place, delta) => self.table.revert(place as usize, delta),
             Delta::Lengths(place, delta, source) => {

@@ -119,13 +119,12 @@ impl Table {
         self.entries.push(Some(Entry { name, graph }));
     }
 
-    /// Takes the last graph away.
-    #[inline(never)]
-    pub(crate) fn pop(&mut self)
+    /// Takes the last graph away, and answers it.
+    pub(crate) fn pop(&mut self) -> Option<Entry>
         requires { 0 < length self.old }
         ensures { self.new ≡ take (length self.old - 1) self.old }
     {
-        let _ = self.entries.pop();
+        self.entries.pop().flatten()
     }
 
     /// Puts a graph at a place, before those that stand from there on.

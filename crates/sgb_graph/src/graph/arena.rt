@@ -306,6 +306,16 @@ impl Arena {
         self.fields.truncate(len);
     }
 
+    /// No slots, with the room that these have. Takes no memory.
+    pub fn emptied(mut self) -> Arena
+        ensures { result ≡ [] }
+    {
+        self.cells.truncate(0);
+        self.fields.truncate(0);
+        self.aimed = true;
+        self
+    }
+
     /// Puts an arc that no field names in place of a hole.
     #[inline(always)]
     pub fn put(

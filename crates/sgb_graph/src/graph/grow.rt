@@ -1,7 +1,7 @@
 //! New vertices, and room for vertices and arcs.
 ghost use Rattle.std.specs.Prelude.{◌≡◌, true, ◌≤◌, ◌<◌, ◌⊎◌, length, map, All, IfErr, OnOk, OnErr};
 ghost use Rattle.std.specs.Result.{IsErrOf};
-ghost use Rattle.sgb_graph.specs.Graph.{n_of};
+ghost use Rattle.sgb_graph.specs.Graph.{IsGraph, n_of};
 ghost use Rattle.sgb_graph.specs.Edit.{stored};
 ghost use Rattle.sgb_graph.specs.New.{six_zeros};
 ghost use Rattle.sgb_graph.specs.Set.{IsStorable};
@@ -64,6 +64,18 @@ impl Graph {
         let left = (MOST_ARCS - self.made()) as usize;
         self.slots.reserve(count.min(left))?;
         Ok(())
+    }
+
+    /// Takes over the room for arcs that another graph had, where this one has given out no number yet: its first arcs
+    /// then take no memory. Contracts see no room, so the graph stays as it is.
+    pub fn take_room(&mut self, other: Graph)
+        ensures same { self.new ≡ self.old }
+        ensures sound { IsGraph self.new }
+    {
+        let Graph { slots, .. } = other;
+        if self.slots.len() == 0 {
+            self.slots = slots.emptied();
+        }
     }
 }
 

@@ -19,12 +19,15 @@ returns-in-Ok c =
     let g = c.in-Ok.boxed in
     let command = commands.Make name m in
     let u : List Entry = t ++ record { name = name; graph = g } ∷ [] in
-    let free : refusal_of_making (state d t) name m ≡ None = ap (λ s. refusal_of_making s name m) c.self.view_is ∙ c.in_ok-operands.ensures.0 in
+    let same : state d t ≡ c.args.self.now = c.self.view_is ∙ c.take_spare-spare.ensures in
+    let shown = c.get-graph.ensures ∙ c.take_room.ensures in
+    let pushed : c.push.new.self ≡ u = c.push.ensures ∙ ap (λ k. t ++ record { name = name; graph = k } ∷ []) c.take_room.ensures in
+    let free : refusal_of_making (state d t) name m ≡ None = ap (λ s. refusal_of_making s name m) same ∙ c.in_ok-operands.ensures.0 in
     let done = make_done d e t name m (g, c.in-Ok.kept) free (subst (MakesGraph d e t m) c.in-Ok.is c.make_boxed.ensures) in
     record {
       performs =
-          subst (λ s. Performs s (state e c.push.new.self) command (Ok (c.in-Ok.kept, Made name c.n.result c.m.result))) c.self.view_is
-          (subst (λ v. Performs (state d t) (state e v) command (Ok (c.in-Ok.kept, Made name c.n.result c.m.result))) (sym c.push.ensures)
-          (subst (λ k. Performs (state d t) (state e u) command (Ok (c.in-Ok.kept, Made name k c.m.result))) (sym (c.n.ensures.value ∙ ap n_of c.get-graph.ensures))
-          (subst (λ k. Performs (state d t) (state e u) command (Ok (c.in-Ok.kept, Made name (n_of g) k))) (sym (c.m.ensures.value ∙ ap m_of c.get-graph.ensures)) done)));
+          subst (λ s. Performs s (state e c.push.new.self) command (Ok (c.in-Ok.kept, Made name c.n.result c.m.result))) same
+          (subst (λ v. Performs (state d t) (state e v) command (Ok (c.in-Ok.kept, Made name c.n.result c.m.result))) (sym pushed)
+          (subst (λ k. Performs (state d t) (state e u) command (Ok (c.in-Ok.kept, Made name k c.m.result))) (sym (c.n.ensures.value ∙ ap n_of shown))
+          (subst (λ k. Performs (state d t) (state e u) command (Ok (c.in-Ok.kept, Made name (n_of g) k))) (sym (c.m.ensures.value ∙ ap m_of shown)) done)));
     }
