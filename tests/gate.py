@@ -45,6 +45,13 @@ def seconds(used):
     return used.ru_utime + used.ru_stime
 
 
+def kept_back():
+    """The seconds of processor that the host of this machine gave to others since it began, as far as it tells."""
+    with open('/proc/stat', encoding='ascii') as told:
+        words = told.readline().split()
+    return int(words[8]) / os.sysconf('SC_CLK_TCK') if len(words) > 8 else 0
+
+
 class Log:
     """What all commands of a run say, in a file."""
 
@@ -52,7 +59,7 @@ class Log:
         os.makedirs('bin', exist_ok=True)
         self.path = 'bin/%s.log' % name
         self.file = open(self.path, 'w', encoding='utf-8')
-        self.start, self.writing = time.time(), threading.Lock()
+        self.start, self.kept_back, self.writing = time.time(), kept_back(), threading.Lock()
         print('what the prover says goes to %s' % self.path, flush=True)
 
     def call(self, words, folder='.', tell=None, given=subprocess.DEVNULL):
@@ -244,8 +251,9 @@ class Gate:
             self.run_program()
             for it in beside:
                 it.result()
-        used, start = seconds(resource.getrusage(resource.RUSAGE_CHILDREN)), self.log.start
-        print('%.1f minutes of processor time, %.1f minutes by the clock' % (used / 60, (time.time() - start) / 60))
+        used, log = seconds(resource.getrusage(resource.RUSAGE_CHILDREN)), self.log
+        print('%.1f minutes of processor time, %.1f minutes by the clock, and %.1f of processor that the host gave to others'
+              % (used / 60, (time.time() - log.start) / 60, (kept_back() - log.kept_back) / 60))
         print('%d passed, %d failed' % (self.passed, self.failed))
         return 1 if self.failed else 0
 
