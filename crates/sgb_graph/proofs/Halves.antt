@@ -28,7 +28,7 @@ and_true : (b : Bool) → (b && true) ≡ b
 and_true true = refl
 and_true false = refl
 
-and_false : (b : Bool) → (b && false) ≡ false
+pub and_false : (b : Bool) → (b && false) ≡ false
 and_false true = refl
 and_false false = refl
 
@@ -45,13 +45,13 @@ half_over g v ks i half =
     half_next g v ks i ∙ (ap (λ h. pair && not h) half ∙ and_false pair)
 
 -- the rest of a list stands in it from place i on
-abbrev StandsAt : List ℕ → ℕ → List ℕ → Type 0
+abbrev pub StandsAt : List ℕ → ℕ → List ℕ → Type 0
 StandsAt all i rest = (m : ℕ) → m < length rest → get_or all (i + m) 0 ≡ get_or rest m 0
 
-stands_first : (all : List ℕ) (i j : ℕ) (ks : List ℕ) → StandsAt all i (j ∷ ks) → get_or all i 0 ≡ j
+pub stands_first : (all : List ℕ) (i j : ℕ) (ks : List ℕ) → StandsAt all i (j ∷ ks) → get_or all i 0 ≡ j
 stands_first all i j ks at = let here : i + 0 ≡ i = omega arith in subst (λ n. get_or all n 0 ≡ j) here (at 0 (omega arith))
 
-stands_rest : (all : List ℕ) (i j : ℕ) (ks : List ℕ) → StandsAt all i (j ∷ ks) → StandsAt all (i + 1) ks
+pub stands_rest : (all : List ℕ) (i j : ℕ) (ks : List ℕ) → StandsAt all i (j ∷ ks) → StandsAt all (i + 1) ks
 stands_rest all i j ks at m h =
     let there : i + suc m ≡ i + 1 + m = omega arith in
     subst (λ n. get_or all n 0 ≡ get_or ks m 0) there (at (suc m) (omega arith))
@@ -164,7 +164,7 @@ goes_then g k u v (Some e) is h =
       tip = ap (λ x. (arc_or no_arc x).tip) is ∙ vertex_tip v e.tip p.1;
     }
 
-leads_goes : (g : GraphOf) (k u v : ℕ) → leads_from g k u v ≡ true → GoesTo g k u v
+pub leads_goes : (g : GraphOf) (k u v : ℕ) → leads_from g k u v ≡ true → GoesTo g k u v
 unfolding leads_from
 leads_goes g k u v h = goes_then g k u v (arc_at g k) refl h
 

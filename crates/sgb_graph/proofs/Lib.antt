@@ -36,6 +36,7 @@ pub mod ShowsTake
 pub mod Slots
 pub mod Sound
 pub mod TakeOut
+pub mod Together
 pub mod UtilLemmas
 pub mod Vertices
 pub mod Walking

@@ -16,5 +16,6 @@ pub mod Link
 pub mod Revert
 pub mod SameLaws
 pub mod SameRows
+pub mod Together
 pub mod Vertices
 pub mod Walk
