@@ -1,9 +1,10 @@
 #!/usr/bin/env python3
-"""Tries the edits of crates/NAME/edits/: each turns what a function does, and the prover has to refuse it there.
+"""Tries edits of the crates: each turns what a function does, and the prover has to refuse it there.
 
     edits.py [-v] [NAME | FILE ..]
     edits.py --as-proved
 
+In crates/NAME/edits/ stand those of public functions, and the wrong bodies that were asked for by name; in private_edits/ all others.
 An edit is written as those in must-fail/ are. Many are tried at a time: they are laid on one copy of the crate, and each
 must be refused at a function whose body it edits. Where it can, an edit of a function is laid on a twin, which stands beside it
 with its contract and its written proofs, so that a check takes many edits of one function; else on the function itself, one at a
@@ -17,7 +18,8 @@ must-fail/, and with -v it tells what refused each, and how long that function t
 counts with the first.
 
 With --as-proved it reads names of crates, one a line, as another run proves them and leaves their libraries, and tries
-the edits of each once those below it are named; those of a crate that is not named in the end fail.
+the edits of each once those below it are named; those of a crate that is not named in the end fail. Of those in private_edits/
+it sees then no more than that they can be laid.
 """
 import contextlib
 import importlib.machinery
@@ -35,6 +37,8 @@ import threading
 import time
 from concurrent.futures import Future, ThreadPoolExecutor, wait
 
+# Where the edits of a crate stand.
+EDITS, PRIVATE_EDITS = 'edits', 'private_edits'
 # What one check takes, at most: of memory, and of the disk on which its copy lies.
 MEMORY = 3_000_000_000
 DISK = 1_000_000_000
@@ -209,6 +213,7 @@ class Edit:
     def __init__(self, crate, file, functions, codes):
         self.crate, self.file = crate, file
         self.label = os.path.relpath(file)
+        self.is_private = os.path.basename(os.path.dirname(file)) == PRIVATE_EDITS
         self.texts, self.why = rt.read_edit(file, crate.folder)
         self.functions = [] if self.why else self.edited(functions)
         constant = None if self.why or self.functions else self.constant()
@@ -262,8 +267,8 @@ class Edit:
 
 def edits_of(crate, files):
     """The edits of a crate, all or those in these files, and what lies beside them."""
-    folder = '%s/edits' % crate.folder
-    found = ['%s/%s' % (folder, it) for it in sorted(os.listdir(folder))] if os.path.isdir(folder) and not files else files
+    folders = [it for it in ('%s/%s' % (crate.folder, it) for it in (EDITS, PRIVATE_EDITS)) if os.path.isdir(it)]
+    found = files or ['%s/%s' % (folder, it) for folder in folders for it in sorted(os.listdir(folder))]
     unread = [it for it in found if not NAME.fullmatch(os.path.basename(it)) or not os.path.isfile(it)]
     if not found:
         return [], []
@@ -656,7 +661,7 @@ class Tally:
             self.tell(False, it, 'no edit: those are named FUNCTION-what_is_wrong.edit')
         for it in [it for it in edits if it.why]:
             self.tell(False, it.label, it.why)
-        good = [it for it in edits if not it.why]
+        good = [it for it in edits if not it.why and not (self.proved and it.is_private)]
         is_ready = not good or self.make_ready(crate)
         # (a check needs no proof of the crate itself, so it does not wait for another run's)
         with tempfile.TemporaryDirectory(prefix='sgb-edits-') as room:
@@ -669,9 +674,11 @@ class Tally:
             self.tell(well, edit.label, why)
             refused += well
         if edits or unread:
+            laid = sum(not it.why for it in edits) - len(good)
             with self.telling:
-                print('%s: %d of %d edits refused, by %d checks of %.0f s of processor, the longest of %.0f s'
-                      % (crate.name, refused, len(edits) + len(unread), len(took), sum(took), max(took, default=0)), flush=True)
+                print('%s: %d of %d edits refused, by %d checks of %.0f s of processor, the longest of %.0f s%s'
+                      % (crate.name, refused, len(edits) + len(unread) - laid, len(took), sum(took), max(took, default=0),
+                         '; %d more can be laid' % laid if laid else ''), flush=True)
 
     def try_all(self, crates, files):
         """Tries the edits of the crates, lowest first, or as those below them are proved."""

@@ -244,9 +244,10 @@ class Gate:
             with os.fdopen(told, 'w', buffering=1) as self.names:
                 beside = [pool.submit(self.beside, 'edits', ['tests/edits.py', '-v', '--as-proved'], proved, self.tell_edits),
                           pool.submit(self.beside, 'the tests of tests/edits.py', ['tests/test_edits.py'])]
-                # One job a check: several on one check take half as much processor again, and the edits use what is idle.
-                lanes = max(1, min(rt.processors(), rt.free() // MEMORY))
-                os.environ.setdefault('RT_JOBS', str(lanes))
+                # Several jobs on one check take up to half as much processor again. Of two processors none is idle, so there a check has
+                # one job; of more it has those that no other check waits for, so that the last crates do not go one after another alone.
+                if rt.processors() <= 2:
+                    os.environ.setdefault('RT_JOBS', str(max(1, min(rt.processors(), rt.free() // MEMORY))))
                 self.part('rt ci', ['rt', 'ci'], self.tell)
             self.run_program()
             for it in beside:

@@ -4,7 +4,7 @@
     test_edits.py
 
 It runs edits.py twice, the second time on crates that another run is said to have proved: over what the first run left, it
-has to say the same.
+has to say the same, but of the edits in private_edits/, which it only lays.
 """
 import os
 import re
@@ -161,12 +161,21 @@ EDITS_TRIED = [
     ('open', 'next-after_all', '    x\n', '    x / 2\n', None),
 ]
 
-# What else must be told, and what the runs end with.
+# Those of private_edits/. The first is tried by the first run alone, and the second can be laid in neither.
+PRIVATE_TRIED = [
+    ('tiny', 'doubled-four_times', 'x + x', '4 * x', 'refused, as it must be: tiny::doubled'),
+    ('tiny', 'doubled-of_another_text', 'y + y', 'x + x', 'an \'old:\' text is in src/lib.rt 0 times'),
+]
+
+# What else must be told, and what each run ends with.
 TOLD = ['crates/tiny/edits/notes.txt: no edit',
         'open: the crate is not proved, so its 1 edits show nothing',
-        'tiny: 9 of 19 edits refused',
         'upper: 1 of 1 edits refused',
-        'edits: 10 passed, 11 failed']
+        *('crates/%s/edits/%s.edit: %s' % (crate, name, told) for crate, name, _, _, told in EDITS_TRIED if told)]
+TOLD_OF_PRIVATE = ['crates/%s/private_edits/%s.edit: %s' % (crate, name, told) for crate, name, _, _, told in PRIVATE_TRIED]
+ENDS = (['tiny: 10 of 21 edits refused, by _ checks of _ s of processor, the longest of _ s', 'edits: 11 passed, 12 failed'],
+        ['tiny: 9 of 20 edits refused, by _ checks of _ s of processor, the longest of _ s; 1 more can be laid',
+         'edits: 10 passed, 12 failed'])
 
 
 def write(file, text):
@@ -186,10 +195,11 @@ def make(room):
     write(room + '/crates/tiny/proofs/apart/Digit/shown/Answers.antt', SHOWN_PROOF)
     write(room + '/crates/open/src/lib.rt', OPEN)
     write(room + '/crates/upper/src/lib.rt', UPPER)
-    for crate, name, old, new, _ in EDITS_TRIED:
-        file = 'apart' if name.startswith(('held-', 'shown-')) else 'lib'
-        write('%s/crates/%s/edits/%s.edit' % (room, crate, name),
-              'file: src/%s.rt\nold: %s\nnew: %s\n' % (file, old.rstrip('\n'), new.rstrip('\n')))
+    for folder, tried in ('edits', EDITS_TRIED), ('private_edits', PRIVATE_TRIED):
+        for crate, name, old, new, _ in tried:
+            file = 'apart' if name.startswith(('held-', 'shown-')) else 'lib'
+            write('%s/crates/%s/%s/%s.edit' % (room, crate, folder, name),
+                  'file: src/%s.rt\nold: %s\nnew: %s\n' % (file, old.rstrip('\n'), new.rstrip('\n')))
     write(room + '/crates/tiny/edits/notes.txt', 'This is no edit.\n')
 
 
@@ -206,17 +216,19 @@ def main():
     with tempfile.TemporaryDirectory(prefix='sgb-test-edits-') as room:
         make(room)
         (first, is_well), (second, _) = run(room), run(room, '--as-proved')
-    wanted = TOLD + ['crates/%s/edits/%s.edit: %s' % (crate, name, told) for crate, name, _, _, told in EDITS_TRIED if told]
-    lacking = [(it, lines) for lines in (first, second) for it in wanted if not any(line.startswith(it) for line in lines)]
+    wanted = [(TOLD + TOLD_OF_PRIVATE + ENDS[0], first), (TOLD + TOLD_OF_PRIVATE[1:] + ENDS[1], second)]
+    lacking = [(it, lines) for told, lines in wanted for it in told if not any(line.startswith(it) for line in lines)]
     lacking += [('a status of failure', first)] * is_well
     # (the lines of one crate may come before those of another)
-    lacking += [('the second run as the first', second)] * (sorted(first) != sorted(second))
+    same = [sorted(line for line in lines if not line.startswith((TOLD_OF_PRIVATE[0], *ends))) for lines, ends in zip((first, second), ENDS)]
+    lacking += [('the second run as the first', second)] * (same[0] != same[1])
     # A check that a full disk leaves without a word tells nothing of a contract.
     silent = Said('', {}, set()).unread
     lacking += [('that a check said nothing', [silent])] * (silent != 'the check said nothing')
     for it, lines in lacking:
         print('test_edits: not told: %s' % it, *lines, sep='\n')
-    print('test_edits: %d passed, %d failed' % (2 * len(wanted) + 3 - len(lacking), len(lacking)))
+    count = sum(len(told) for told, _ in wanted) + 3
+    print('test_edits: %d passed, %d failed' % (count - len(lacking), len(lacking)))
     return 1 if lacking else 0
 
 
