@@ -21,7 +21,7 @@ from edits import MEMORY, rt, rtlib
 PROGRAM = 'bin/sgb'
 REFUSING, FAILING = 'tests/out/refuse_growth.so', 'tests/out/fail_io.so'
 # What stands before a command that takes only the processors that others leave.
-GENTLY = ['nice', '-n', '10']
+GENTLY = ['nice', '-n', '19']
 # How many lines of a part, and of those that explain a failure, are printed.
 SHOWN = 30
 # How many of the last lines of a part that failed are printed beside those.
@@ -271,8 +271,9 @@ class Gate:
         else:
             self.failed += 1
             self.say('no proved program, so none of its examples and tests is run')
-        for name, words in self.parts_of_program() if is_new else []:
-            self.part(name, words)
+        with ThreadPoolExecutor(max(1, rt.processors())) as pool:
+            for it in [pool.submit(self.part, *it) for it in self.parts_of_program()] if is_new else []:
+                it.result()
 
     def parts_of_program(self):
         self.log.call(['make', REFUSING, FAILING])
