@@ -42,9 +42,11 @@ EDITS, PRIVATE_EDITS = 'edits', 'private_edits'
 # What one check takes, at most: of memory, and of the disk on which its copy lies.
 MEMORY = 3_000_000_000
 DISK = 1_000_000_000
-# How many edits a check takes, at most; and of a crate of so many functions, whose twins take more memory.
+# How many edits a check takes, at most; of a crate of so many functions, whose twins take more memory; and of one that stands on so
+# many others, whose edits the gate tries last, so that there is a check for each processor at its end.
 AT_ONCE = 70
 LARGE, AT_ONCE_IN_LARGE = 100, 40
+LATE, AT_ONCE_IN_LATE = 19, 13
 # One check is started at a time.
 STARTING = threading.Lock()
 # By crate, the seconds of processor that each of its checks took.
@@ -283,16 +285,25 @@ def code_of(crate):
     return {path: text for path, text in texts.items() if path.endswith('.rt')}
 
 
+def most_at_once(crate):
+    """How many edits of a crate a check takes, at most."""
+    if len(crate.below()) >= LATE:
+        return AT_ONCE_IN_LATE
+    count = sum(map(len, functions_of_all(code_of(crate)).values()))
+    return AT_ONCE_IN_LARGE if count >= LARGE else AT_ONCE
+
+
 def groups_of(edits):
-    """The edits of a crate in groups with at most one edit a function or twin and so many in all as a check takes, and each that is tried
-    apart in one of its own. These come last, and small groups before large ones."""
+    """The edits of a crate in groups with at most one edit a function or twin, each dealt to the smallest that takes it, and so many in
+    all as a check takes; and each that is tried apart in one of its own. These come last, and small groups before large ones."""
     groups = []
-    count = sum(map(len, functions_of_all(code_of(edits[0].crate)).values())) if edits else 0
-    most = AT_ONCE_IN_LARGE if count >= LARGE else AT_ONCE
+    most = most_at_once(edits[0].crate) if edits else 0
+    fewest = -(-sum(not it.is_apart for it in edits) // most) if edits else 0
     for edit in edits:
         keys = set() if edit.is_apart else {it.key for it in edit.functions}
-        fit = next((it for it in groups if keys and it[0] and not keys & it[0] and len(it[1]) < most), None)
-        if fit is None:
+        fitting = [it for it in groups if keys and it[0] and not keys & it[0] and len(it[1]) < most]
+        fit = min(fitting, key=lambda it: len(it[1]), default=None)
+        if fit is None or keys and sum(bool(it[0]) for it in groups) < fewest:
             groups.append((keys, [edit]))
         else:
             fit[0].update(keys)

@@ -1,7 +1,14 @@
-//! Tests of single calls of a session.
+//! Tests of single calls of a session, of groups in its journal, and of readers and writers that give little, stop early or
+//! fail. Whole scripts are kept in tests/corpus/ with their transcripts, and long ones are made by tests/large.py.
 #![tactic(auto)]
 
 #[cfg(test)]
 mod calls;
 #[cfg(test)]
+mod fake;
+#[cfg(test)]
+mod groups;
+#[cfg(test)]
 mod session;
+#[cfg(test)]
+mod whole;

@@ -1,5 +1,0 @@
-//! Tests of what is printed.
-#![tactic(auto)]
-
-#[cfg(test)]
-mod tests;
