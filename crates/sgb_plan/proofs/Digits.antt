@@ -11,12 +11,30 @@ two_digits n high low =
     let is : n / 10 % 10 ≡ n / 10 = omega arith in
     ap (λ d. (48 + d) ∷ (48 + n % 10) ∷ []) is ∙ sym (decimal_two n high low)
 
-pub three_digits : (n : ℕ) → 100 ≤ n → n < 1000 → (48 + n / 100) ∷ (48 + n / 10 % 10) ∷ (48 + n % 10) ∷ [] ≡ decimal n
-three_digits n high low =
+-- the last two digits stand behind the others
+behind_pair : (n : ℕ) → 100 ≤ n → n < 100000 → (front : List ℕ) → front ≡ decimal (n / 100) → front ++ (48 + n / 10 % 10) ∷ (48 + n % 10) ∷ [] ≡ decimal n
+behind_pair n high low front is =
     let tens : n / 10 % 10 ≡ n % 100 / 10 = omega arith in
     let ones : n % 10 ≡ n % 100 % 10 = omega arith in
-    ap₂ (λ t o. (48 + n / 100) ∷ (48 + t) ∷ (48 + o) ∷ []) tens ones
-    ∙ sym (decimal_pair n high (omega arith) ∙ ap (λ ds. ds ++ (48 + n % 100 / 10) ∷ (48 + n % 100 % 10) ∷ []) (decimal_digit (n / 100) (omega arith)))
+    ap₂ (λ t o. front ++ (48 + t) ∷ (48 + o) ∷ []) tens ones
+    ∙ ap (λ ds. ds ++ (48 + n % 100 / 10) ∷ (48 + n % 100 % 10) ∷ []) is
+    ∙ sym (decimal_pair n high (omega arith))
+
+pub three_digits : (n : ℕ) → 100 ≤ n → n < 1000 → (48 + n / 100 % 10) ∷ (48 + n / 10 % 10) ∷ (48 + n % 10) ∷ [] ≡ decimal n
+three_digits n high low = behind_pair n high (omega arith) ((48 + n / 100 % 10) ∷ []) (one_digit (n / 100) (omega arith))
+
+pub four_digits : (n : ℕ) → 1000 ≤ n → n < 10000 → (48 + n / 1000 % 10) ∷ (48 + n / 100 % 10) ∷ (48 + n / 10 % 10) ∷ (48 + n % 10) ∷ [] ≡ decimal n
+four_digits n high low =
+    let thousands : n / 1000 % 10 ≡ n / 100 / 10 % 10 = omega arith in
+    behind_pair n (omega arith) (omega arith) ((48 + n / 1000 % 10) ∷ (48 + n / 100 % 10) ∷ [])
+    (ap (λ t. (48 + t) ∷ (48 + n / 100 % 10) ∷ []) thousands ∙ two_digits (n / 100) (omega arith) (omega arith))
+
+pub five_digits : (n : ℕ) → 10000 ≤ n → n < 100000 → (48 + n / 10000) ∷ (48 + n / 1000 % 10) ∷ (48 + n / 100 % 10) ∷ (48 + n / 10 % 10) ∷ (48 + n % 10) ∷ [] ≡ decimal n
+five_digits n high low =
+    let front : n / 10000 ≡ n / 100 / 100 % 10 = omega arith in
+    let thousands : n / 1000 % 10 ≡ n / 100 / 10 % 10 = omega arith in
+    behind_pair n (omega arith) (omega arith) ((48 + n / 10000) ∷ (48 + n / 1000 % 10) ∷ (48 + n / 100 % 10) ∷ [])
+    (ap₂ (λ f t. (48 + f) ∷ (48 + t) ∷ (48 + n / 100 % 10) ∷ []) front thousands ∙ three_digits (n / 100) (omega arith) (omega arith))
 
 -- what is written where there is room
 pub wrote : {T E : Type 0} (r : Result T E) (new old ds es : List ℕ) → new ≡ (if is_ok r then old ++ ds else old) → ds ≡ es → OnOk r (new ≡ old ++ es)

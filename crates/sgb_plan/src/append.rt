@@ -33,13 +33,13 @@ fn append_number(bytes: &mut Vec<u8>, number: i64) -> Result<(), AllocError>
     bytes.extend_from_slice(digits.format(number).as_bytes())
 }
 
-// Writes the count in decimal.
+// Writes the count in decimal. Those of vertices have at most five digits, which are told apart without a loop.
 pub(crate) fn append_count(bytes: &mut Vec<u8>, count: u32) -> Result<(), AllocError>
     ensures ok { OnOk result (bytes.new.items ≡ bytes.old.items ++ decimal count) }
     ensures err { OnErr result (bytes.new.items ≡ bytes.old.items) }
     ensures short { IsShort 10 (decimal count) }
 {
-    if count >= 1000 {
+    if count >= 100_000 {
         return append_large(bytes, count);
     }
     let ones = b'0' + (count % 10) as u8;
@@ -50,8 +50,16 @@ pub(crate) fn append_count(bytes: &mut Vec<u8>, count: u32) -> Result<(), AllocE
     if count < 100 {
         return bytes.extend_from_slice(&[tens, ones]);
     }
-    let hundreds = b'0' + (count / 100) as u8;
-    bytes.extend_from_slice(&[hundreds, tens, ones])
+    let hundreds = b'0' + (count / 100 % 10) as u8;
+    if count < 1000 {
+        return bytes.extend_from_slice(&[hundreds, tens, ones]);
+    }
+    let thousands = b'0' + (count / 1000 % 10) as u8;
+    if count < 10_000 {
+        return bytes.extend_from_slice(&[thousands, hundreds, tens, ones]);
+    }
+    let front = b'0' + (count / 10_000) as u8;
+    bytes.extend_from_slice(&[front, thousands, hundreds, tens, ones])
 }
 
 // The same of a count of any length.

@@ -19,6 +19,7 @@ fn single(rt: HostRuntime) -> Result<(), Fail> {
     assert!(rt; is_dotted(alloc, &[3, 0, 4294967295], b"3.0.4294967295")?);
     assert!(rt; is_dotted(alloc, &[12], b"12")?);
     assert!(rt; is_dotted(alloc, &[9, 10, 99, 100, 999, 1000], b"9.10.99.100.999.1000")?);
+    assert!(rt; is_dotted(alloc, &[9999, 10203, 100000], b"9999.10203.100000")?);
     assert!(rt; is_dotted(alloc, &[], b"")?);
     Ok(())
 }
