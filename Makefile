@@ -97,7 +97,7 @@ bench: bench_combine bench_text
 
 bench_combine: $(BENCH)/plain_combine
 	sh bench/build.sh combine "sgb_flip sgb_graph sgb_plan sgb_operand sgb_induced sgb_lengths sgb_combine" $(BENCH)
-	python3 bench/compare.py --same --turns 10 $(BENCH)/combine/crates/combine_bench/out/combine_bench $(BENCH)/plain_combine
+	python3 bench/compare.py --same --turns 20 $(BENCH)/combine/crates/combine_bench/out/combine_bench $(BENCH)/plain_combine
 
 bench_text: $(BENCH)/plain_text
 	sh bench/build.sh text "sgb_graph sgb_parts sgb_grammar sgb_text" $(BENCH)

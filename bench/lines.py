@@ -18,7 +18,7 @@ import subprocess
 import sys
 import tempfile
 
-ROUNDS = 15
+ROUNDS = 40
 EDITS = 60_000
 # No more commands than this stand at once in the rows with undos.
 BLOCK = 1000
@@ -116,25 +116,21 @@ def counter(programs):
 
 
 class Scripts:
-    """What scripts cost each program; each script is run once for all rows."""
+    """The scripts of all rows, each once, and what they cost each program."""
 
-    def __init__(self, programs, place, cost, rounds):
-        self.programs = programs
-        self.place = place
-        self.cost = cost
-        self.rounds = rounds
+    def __init__(self, programs, place, cost):
+        self.programs, self.place, self.cost = programs, place, cost
         self.known = {}
 
-    def costs(self, lines):
+    def add(self, lines):
+        """The file of these lines, whose transcripts by the programs are the same."""
         text = ''.join(line + '\n' for line in lines)
         if text not in self.known:
-            name = os.path.join(self.place, 'script.sgb')
+            name = os.path.join(self.place, '%d.sgb' % len(self.known))
             with open(name, 'w') as script:
                 script.write(text)
             self.compare(name)
-            # In turn, so that what else the machine does is the same for both.
-            runs = [[self.cost(program, name) for program in self.programs] for _ in range(self.rounds)]
-            self.known[text] = [min(of_one) for of_one in zip(*runs)]
+            self.known[text] = name
         return self.known[text]
 
     def compare(self, name):
@@ -142,6 +138,13 @@ class Scripts:
                        for program in self.programs]
         if transcripts[0] != transcripts[1]:
             sys.exit('different transcripts of the same script')
+
+    def costs(self, rounds):
+        """By file, the least cost for each program. All are run in turn, again and again, so that what else the machine does
+        for some seconds is the same for all."""
+        runs = [{name: [self.cost(program, name) for program in self.programs] for name in self.known.values()}
+                for _ in range(rounds)]
+        return {name: [min(of_one) for of_one in zip(*(run[name] for run in runs))] for name in self.known.values()}
 
 
 def main():
@@ -152,10 +155,11 @@ def main():
         cost, rounds, million, shows, unit = counter(programs), 1, 50_000, 1, 'instr.'
     print('%-32s %14s %14s %7s' % ('a line', 'ours, ' + unit, 'plain, ' + unit, 'ratio'))
     with tempfile.TemporaryDirectory() as place:
-        scripts = Scripts(programs, place, cost, rounds)
-        for name, front, lines, count in rows(million, shows):
-            less = scripts.costs(front)
-            ours, plain = [(all_of - front_of) / count for all_of, front_of in zip(scripts.costs(front + lines), less)]
+        scripts = Scripts(programs, place, cost)
+        told = [(name, scripts.add(front), scripts.add(front + lines), count) for name, front, lines, count in rows(million, shows)]
+        costs = scripts.costs(rounds)
+        for name, less, more, count in told:
+            ours, plain = [(all_of - front_of) / count for all_of, front_of in zip(costs[more], costs[less])]
             # A difference of two times may come out below 0 on a loaded machine.
             ratio = ours / plain if plain > 0 else float('nan')
             print('%-32s %14.1f %14.1f %7.2f' % (name, ours, plain, ratio), flush=True)
