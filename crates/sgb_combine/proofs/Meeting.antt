@@ -39,6 +39,10 @@ passing_walk halves g v p ks is = ap (passing g p) is
 pub holds_walk : (halves : Bool) (g : GraphOf) (v : ℕ) (p : Spoke → Bool) (start : List Spoke) (rest : List ℕ) → rest ≡ walk halves g v → Holds g p (start ++ filter p (spokes halves g v)) start rest
 holds_walk halves g v p start rest is = record { same = ap (λ ts. start ++ ts) (passing_walk halves g v p rest is) }
 
+pub holds_from : (halves : Bool) (g : GraphOf) (v : ℕ) (p : Spoke → Bool) (start : List Spoke) (rest : List ℕ) → start ≡ [] → rest ≡ walk halves g v → Holds g p (filter p (spokes halves g v)) start rest
+holds_from halves g v p start rest none is =
+    record { same = ap₂ (λ (fs ss : List Spoke). fs ++ ss) none (passing_walk halves g v p rest is) }
+
 pub holds_start : (g : GraphOf) (p : Spoke → Bool) (start : List Spoke) (ks rest : List ℕ) → rest ≡ ks → Holds g p (start ++ passing g p ks) start rest
 holds_start g p start ks rest is = record { same = ap (λ js. start ++ passing g p js) is }
 
@@ -59,6 +63,10 @@ holds_next same holds = record { same = same ∙ holds.same }
 pub holds_end : {g : GraphOf} {p : Spoke → Bool} {all now : List Spoke} {rest : List ℕ} → rest ≡ [] → Holds g p all now rest → now ≡ all
 holds_end {g} {p} {all} {now} {rest} none holds =
     sym (append-nil now) ∙ (ap (λ ks. now ++ passing g p ks) (sym none) ∙ holds.same)
+
+-- what is left, behind what was held
+pub holds_rest : {g : GraphOf} {p : Spoke → Bool} {all now new : List Spoke} {rest : List ℕ} → new ≡ now ++ passing g p rest → Holds g p all now rest → new ≡ all
+holds_rest more holds = more ∙ holds.same
 
 pub from_nothing : {xs ys ts us : List Spoke} → xs ≡ ys ++ ts → ys ≡ [] → ts ≡ us → xs ≡ us
 from_nothing is none same = is ∙ ap₂ (λ (fs ss : List Spoke). fs ++ ss) none same

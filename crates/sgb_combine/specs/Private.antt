@@ -1,3 +1,4 @@
+pub mod Ahead
 pub mod Begin
 pub mod Both
 pub mod Missing

@@ -36,6 +36,16 @@ impl Both {
         }
     }
 
+    // Forgets what was read.
+    #[inline]
+    pub(crate) fn clear(&mut self)
+        ensures mine { self.new.mine.items ≡ [] }
+        ensures theirs { self.new.theirs.items ≡ [] }
+    {
+        self.mine.clear();
+        self.theirs.clear();
+    }
+
     // Reads what is sought in two graphs, of which the second may lack the vertex, in place of what was read before.
     #[inline(always)]
     pub(crate) fn read(
@@ -51,8 +61,7 @@ impl Both {
         ensures theirs { OnOk result (self.new.theirs.items ≡
             filter (is_candidate other.directed other.n other.vertex.0) (spokes other.halves second.now other.vertex.0)) }
     {
-        self.mine.clear();
-        self.theirs.clear();
+        self.clear();
         if other.vertex.0 >= second.n() {
             let numbers = first.walk(sought.vertex, sought.halves);
             hold_rest(&mut self.mine, first, numbers, sought)?;
@@ -135,7 +144,7 @@ pub(crate) fn hold_next(
 
 // Adds the spoke of an arc, if it is sought.
 #[inline(always)]
-fn hold(
+pub(crate) fn hold(
     into: &mut Vec<Spoke>,
     graph: &Graph,
     number: ArcNo,

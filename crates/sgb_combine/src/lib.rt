@@ -2,6 +2,7 @@
 //! and random lengths are handed on.
 #![tactic(auto)]
 
+mod ahead;
 mod begin;
 mod both;
 mod facts;

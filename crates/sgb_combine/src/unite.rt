@@ -7,8 +7,10 @@ ghost use Rattle.sgb_operand.specs.Operand.{spokes};
 ghost use Rattle.sgb_plan.specs.Plan.{IsMade};
 ghost use Rattle.sgb_combine.specs.Gunion.{candidates, is_candidate, union_at, plan_of_gunion};
 ghost use Rattle.sgb_combine.specs.Lowest.{add_or_lower, lowest};
+ghost use Rattle.sgb_combine.specs.Private.Ahead.{IsAhead};
 
 use crate::GunionSpec;
+use crate::ahead::Ahead;
 use crate::begin::{begin_as, room_of};
 use crate::both::{Both, Sought, hold_next, hold_rest};
 use crate::lowest::Lowest;
@@ -67,11 +69,13 @@ fn insert_unions(
 {
     let mut met = Lowest::new(alloc, first.n())?;
     let mut both = Both::new(alloc);
+    let mut ahead = Ahead::new(alloc);
     for v in 0..first.n() {
         insert_union(
             builder,
             &mut met,
             &mut both,
+            &mut ahead,
             first,
             second,
             VertexNo(v),
@@ -86,6 +90,7 @@ fn insert_union(
     builder: &mut Builder,
     met: &mut Lowest,
     both: &mut Both,
+    ahead: &mut Ahead,
     first: &Graph,
     second: &Graph,
     vertex: VertexNo,
@@ -94,19 +99,21 @@ fn insert_union(
     requires n { n_of builder.old.graph ≡ n_of first.now }
     requires vertex { vertex.0 < n_of first.now }
     requires width { length met.old.places.items ≡ n_of first.now }
+    requires ahead { IsAhead spec.directed first.now second.now ahead.old }
     ensures inserts { Inserts builder.old builder.new (union_at spec first.now second.now vertex.0) result }
     ensures width { length met.new.places.items ≡ length met.old.places.items }
+    ensures ahead { OnOk result (IsAhead spec.directed first.now second.now ahead.new) }
 {
     if spec.multi {
-        read_candidates(both, first, second, vertex, spec.directed)?;
+        read_candidates(both, ahead, first, second, vertex, spec.directed)?;
         return builder.insert_along(vertex, &both.mine);
     }
-    read_lowest(met, both, first, second, vertex, spec.directed)?;
+    read_lowest(met, both, ahead, first, second, vertex, spec.directed)?;
     builder.insert_along(vertex, met.spokes())
 }
 
 // What is sought of the lists of a vertex.
-fn sought_of(first: &Graph, vertex: VertexNo, directed: bool) -> Sought
+pub(crate) fn sought_of(first: &Graph, vertex: VertexNo, directed: bool) -> Sought
     ensures { result ≡ record { vertex = vertex; halves = directed; directed = directed; n = n_of first.now } }
 {
     Sought {
@@ -120,16 +127,18 @@ fn sought_of(first: &Graph, vertex: VertexNo, directed: bool) -> Sought
 // Reads the candidates of a vertex: those of the first graph, and behind them those of the second.
 fn read_candidates(
     both: &mut Both,
+    ahead: &mut Ahead,
     first: &Graph,
     second: &Graph,
     vertex: VertexNo,
     directed: bool,
 ) -> Result<(), AllocError>
-    requires { vertex.0 < n_of first.now }
-    ensures { OnOk result (both.new.mine.items ≡ candidates directed first.now second.now vertex.0) }
+    requires vertex { vertex.0 < n_of first.now }
+    requires ahead { IsAhead directed first.now second.now ahead.old }
+    ensures candidates { OnOk result (both.new.mine.items ≡ candidates directed first.now second.now vertex.0) }
+    ensures ahead { OnOk result (IsAhead directed first.now second.now ahead.new) }
 {
-    let sought = sought_of(first, vertex, directed);
-    both.read(first, second, sought, sought)?;
+    ahead.read(both, first, second, vertex, directed)?;
     both.mine.extend_from_slice(&both.theirs)?;
     Ok(())
 }
@@ -139,6 +148,7 @@ fn read_candidates(
 fn read_lowest(
     met: &mut Lowest,
     both: &mut Both,
+    ahead: &mut Ahead,
     first: &Graph,
     second: &Graph,
     vertex: VertexNo,
@@ -146,9 +156,17 @@ fn read_lowest(
 ) -> Result<(), AllocError>
     requires vertex { vertex.0 < n_of first.now }
     requires width { length met.old.places.items ≡ n_of first.now }
+    requires ahead { IsAhead directed first.now second.now ahead.old }
     ensures lowest { OnOk result (met.new.spokes.items ≡ lowest (candidates directed first.now second.now vertex.0)) }
     ensures width { length met.new.places.items ≡ length met.old.places.items }
+    ensures ahead { OnOk result (IsAhead directed first.now second.now ahead.new) }
 {
+    if ahead.serves(first, vertex) {
+        ahead.read(both, first, second, vertex, directed)?;
+        met.keep(&both.mine);
+        met.add_all(&both.theirs);
+        return Ok(());
+    }
     let sought = sought_of(first, vertex, directed);
     met.clear();
     both.theirs.clear();

@@ -22,6 +22,7 @@ use super::fields::{kept_at, put_fields, replace_kept, take_fields, two_zeros};
 use super::honest::are_allowed;
 use super::join::{push_arc, push_arcs_along, push_edge, push_edges, push_edges_along};
 use super::lay::Chained;
+use super::packed::Packed;
 use super::paired::is_vertex;
 use super::read::ArcView;
 use super::room::make_room;
@@ -49,17 +50,17 @@ pub(crate) struct Slot {
 #[derive(Clone, Copy)]
 pub(crate) struct Cell {
     // None: a hole.
-    owner: OwnerCode,
-    tip: TipCode,
-    next: Link,
-    names: u32,
-    len: i64,
+    pub owner: OwnerCode,
+    pub tip: TipCode,
+    pub next: Link,
+    pub names: u32,
+    pub len: i64,
 }
 
 /// The slots by number, each an arc or a hole.
 #[derive(Drop)]
 pub(crate) struct Arena {
-    cells: Vec<Cell>,
+    cells: Vec<Packed>,
     // The fields of the first arcs: those of all others are Zero. There is room for those of all arcs, so that a
     // field can be set without memory.
     fields: Vec<[Util; 2]>,
@@ -340,7 +341,7 @@ impl Arena {
             len,
         };
         self.aimed = stays_aimed(self.aimed, &cell);
-        self.cells[number.0 as usize] = cell;
+        self.cells[number.0 as usize] = Packed::new(cell);
     }
 
     /// Makes the number of a live arc a hole, and answers the arc.
@@ -370,7 +371,7 @@ impl Arena {
         ensures fields { result ≡ fields_in (slot_at self.old index) }
         ensures slots { self.new ≡ slice_set self.old index None }
     {
-        self.cells[index] = hole();
+        self.cells[index] = Packed::new(hole());
         take_fields(&mut self.fields, index)
     }
 
@@ -388,7 +389,7 @@ impl Arena {
         requires { index < length self.now }
         ensures { slot_at self.now index ≡ slot_with (fields_in (slot_at self.now index)) result }
     {
-        self.cells[index]
+        self.cells[index].get()
     }
 
     // Keeps this of the slot, beside its fields: it leads to a vertex where the slot's arc did.
@@ -398,7 +399,7 @@ impl Arena {
         requires aims { is_aimed cell ≡ leads_on (entry_of (slot_at self.old index)) }
         ensures { self.new ≡ slice_set self.old index (slot_with (fields_in (slot_at self.old index)) cell) }
     {
-        self.cells[index] = cell;
+        self.cells[index] = Packed::new(cell);
     }
 
     // The same, wherever it leads.
@@ -408,7 +409,7 @@ impl Arena {
         ensures { self.new ≡ slice_set self.old index (slot_with (fields_in (slot_at self.old index)) cell) }
     {
         self.aimed = stays_aimed(self.aimed, &cell);
-        self.cells[index] = cell;
+        self.cells[index] = Packed::new(cell);
     }
 
     /// The arc of this number: its owner, tip and length.
@@ -694,7 +695,7 @@ pub(super) fn new_cell(owner: VertexNo, to: VertexNo, next: Link, len: i64) -> C
 // to the last of them.
 #[inline]
 fn push_row(
-    cells: &mut Vec<Cell>,
+    cells: &mut Vec<Packed>,
     owner: VertexNo,
     first: u32,
     end: u32,
@@ -715,7 +716,7 @@ fn push_row(
     let mut all = mem::replace(cells, none);
     let mut link = next;
     for to in first..end {
-        all.push_reserved(new_cell(owner, VertexNo(to), link, len));
+        all.push_reserved(Packed::new(new_cell(owner, VertexNo(to), link, len)));
         link = Link::to(ArcNo(all.len() as u32 - 1));
     }
     *cells = all;
@@ -723,14 +724,14 @@ fn push_row(
 }
 
 // Adds the cells of these records, last.
-fn push_laid(cells: &mut Vec<Cell>, rows: &[Chained])
+fn push_laid(cells: &mut Vec<Packed>, rows: &[Chained])
     requires { vec_len cells.old + length rows.now ≤ vec_capacity cells.old }
     ensures cells { cells.new.items ≡ cells.old.items ++ map laid_cell rows.now }
     ensures len { vec_len cells.new ≡ vec_len cells.old + length rows.now }
     ensures capacity { vec_capacity cells.new ≡ vec_capacity cells.old }
 {
     for row in rows {
-        cells.push_reserved(laid_cell(row));
+        cells.push_reserved(Packed::new(laid_cell(row)));
     }
 }
 
@@ -748,17 +749,14 @@ fn laid_cell(row: &Chained) -> Cell
 }
 
 // Each cell's arc, as far as there are fields.
-fn are_cells_honest(letters: &[u8], cells: &[Cell], fields: &[[Util; 2]]) -> bool
+fn are_cells_honest(letters: &[u8], cells: &[Packed], fields: &[[Util; 2]]) -> bool
     ensures { result ≡ list_all (λ p. owned_allowed letters.now p.0.owner p.1) (zip cells.now fields.now) }
 {
-    cells
-        .iter()
-        .zip(fields)
-        .all(|(cell, fields)| is_cell_honest(letters, cell, fields))
+    cells.iter().zip(fields).all(|(packed, fields)| is_cell_honest(letters, packed.get(), fields))
 }
 
-fn is_cell_honest(letters: &[u8], cell: &Cell, fields: &[Util; 2]) -> bool
-    ensures { result ≡ owned_allowed letters.now cell.now.owner fields.now }
+fn is_cell_honest(letters: &[u8], cell: Cell, fields: &[Util; 2]) -> bool
+    ensures { result ≡ owned_allowed letters.now cell.owner fields.now }
 {
     match cell.owner.get() {
         Some(_) => are_allowed(letters, fields),
@@ -785,8 +783,8 @@ fn stays_aimed(aimed: bool, cell: &Cell) -> bool
     aimed && is_aimed(cell)
 }
 
-fn are_cells_aimed(cells: &[Cell]) -> bool
+fn are_cells_aimed(cells: &[Packed]) -> bool
     ensures { result ≡ list_all is_aimed cells.now }
 {
-    cells.iter().all(|cell| is_aimed(cell))
+    cells.iter().all(|packed| is_aimed(&packed.get()))
 }

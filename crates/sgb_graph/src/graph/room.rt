@@ -2,7 +2,7 @@
 ghost use Rattle.std.specs.Prelude.{◌≡◌, ◌≤◌, ◌+◌, vec_len, vec_capacity, IfOk, IfErr, OnOk};
 ghost use Rattle.sgb_graph.specs.Private.Insert.{IsRefusedAt};
 
-use super::{Cell, MOST_ARCS};
+use super::{MOST_ARCS, Packed};
 use crate::{Refusal, Util};
 use std::alloc::AllocError;
 
@@ -16,7 +16,7 @@ const MAPPED: usize = 1_048_600;
 // where there is room nothing else is asked.
 #[inline]
 pub(super) fn make_room(
-    cells: &mut Vec<Cell>,
+    cells: &mut Vec<Packed>,
     fields: &mut Vec<[Util; 2]>,
     room: &mut usize,
     count: usize,
@@ -47,7 +47,7 @@ pub(super) fn make_room(
 #[cold]
 #[inline(never)]
 fn grow_slots(
-    cells: &mut Vec<Cell>,
+    cells: &mut Vec<Packed>,
     fields: &mut Vec<[Util; 2]>,
     room: &mut usize,
     count: usize,

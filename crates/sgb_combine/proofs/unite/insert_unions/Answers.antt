@@ -15,6 +15,7 @@ pub loop-v-preserved : goal.loop-v-preserved
 loop-v-preserved c = record {
   left = from_some (omega arith) c.loop-v.invariant.left c.in_ok-insert_union.ensures.inserts;
   width = c.in_ok-insert_union.ensures.width ∙ c.loop-v.invariant.width;
+  ahead = c.in_ok-insert_union.ensures.ahead;
 }
 
 pub returns : goal.returns

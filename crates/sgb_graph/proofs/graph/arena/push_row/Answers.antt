@@ -14,7 +14,7 @@ loop-to-preserved c =
     record {
       cells =
           cells_more cs.items ds.items c.args.owner z cs.len ds.len c.loop-to.to c.args.end c.loop-to.link c.to-link.result (omega arith) (omega (arith, c.push_reserved.ensures.len)) number
-          (c.push_reserved.ensures.items ∙ ap (λ d. cs.items ++ d ∷ []) c.new_cell.ensures)
+          (c.push_reserved.ensures.items ∙ ap (λ d. cs.items ++ d ∷ []) (c.new.ensures ∙ c.new_cell.ensures))
           ∙ c.loop-to.invariant.cells;
       link =
           link_more cs.len ds.len c.loop-to.to c.args.end c.loop-to.link c.to-link.result (omega arith) (omega (arith, c.push_reserved.ensures.len)) number

@@ -1,6 +1,7 @@
 use Rattle.sgb_graph.proofs.Aimed.{aimed-set, aimed-hole}
-use Rattle.std.proofs.Common.{◌∙◌, arith, None}
+use Rattle.std.proofs.Common.{◌∙◌, ap, arith, None}
 use Rattle.sgb_graph.proofs.Cells.{cells_low, live_low, fields_are, owned_none, slot_put}
+use Rattle.sgb_graph.specs.declared.graph.arena.Cell.{Cell}
 use Rattle.sgb_graph.specs.Private.Cells.{two_zeros}
 use Rattle.sgb_graph.proofs.graph.arena.Arena.clear.Goals as goal
 
@@ -17,7 +18,7 @@ returns-clause-fields c =
 pub returns-clause-slots : goal.returns-clause-slots
 returns-clause-slots c =
     let a = c.self.inside in
-    slot_put a.cells.items a.fields.items _ c.args.self.now c.args.index two_zeros c.hole.result None c.self.view_is c.take_fields.ensures.puts (owned_none two_zeros c.hole.result c.hole.ensures)
+    slot_put a.cells.items a.fields.items _ c.args.self.now c.args.index two_zeros c.new.result None c.self.view_is c.take_fields.ensures.puts (owned_none two_zeros c.new.result (ap (λ (d : Cell). d.owner) c.new.ensures ∙ c.hole.ensures))
 
 pub invariant_of-self : goal.invariant_of-self
 invariant_of-self c =
@@ -28,5 +29,5 @@ invariant_of-self c =
       omega (arith, c.self.invariant.3, c.take_fields.ensures.capacity),
       c.self.invariant.4,
       c.self.invariant.5,
-      λ aimed. aimed-set a.cells.items c.args.index c.hole.result (c.self.invariant.6 aimed) (aimed-hole c.hole.result c.hole.ensures),
+      λ aimed. aimed-set a.cells.items c.args.index c.new.result (c.self.invariant.6 aimed) (aimed-hole c.new.result (ap (λ (d : Cell). d.owner) c.new.ensures ∙ c.hole.ensures)),
     )

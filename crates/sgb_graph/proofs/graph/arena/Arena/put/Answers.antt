@@ -1,10 +1,10 @@
-use Rattle.std.proofs.Common.{◌∙◌, ℤ, ap, arith, Some, to_z, of_z}
+use Rattle.std.proofs.Common.{◌∙◌, ◌&&◌, ℤ, ap, arith, sym, Some, to_z, of_z}
 use Rattle.std.specs.Int.{w64}
 use Rattle.std.proofs.lemmas.Int.{to_z-of_z}
 use Rattle.sgb_graph.proofs.Aimed.{aimed-put}
 use Rattle.sgb_graph.proofs.Cells.{cells_low, owned_some, slot_put}
 use Rattle.sgb_graph.specs.declared.graph.arena.Cell.{Cell}
-use Rattle.sgb_graph.specs.Private.Cells.{unnamed_slot}
+use Rattle.sgb_graph.specs.Private.Cells.{slot_with, unnamed_slot, is_aimed}
 use Rattle.sgb_graph.proofs.graph.arena.Arena.put.Goals as goal
 
 pub put_fields-requires : goal.put_fields-requires
@@ -27,7 +27,7 @@ invariant_of-self c =
       omega (arith, c.self.invariant.3, c.put_fields.ensures.capacity),
       c.self.invariant.4,
       c.self.invariant.5,
-      aimed-put a.aimed c.stays_aimed-self-inside.result a.cells.items c.args.number.0 _ c.self.invariant.6 c.stays_aimed-self-inside.ensures,
+      aimed-put a.aimed c.stays_aimed-self-inside.result a.cells.items c.args.number.0 c.new-2.result c.self.invariant.6 (c.stays_aimed-self-inside.ensures ∙ ap (λ d. a.aimed && is_aimed d) (sym c.new-2.ensures)),
     )
 
 pub returns : goal.returns
@@ -36,5 +36,5 @@ returns c =
     let us = c.args.fields in
     let cell : ℤ → Cell = λ z. record { owner = c.new.result; tip = c.args.tip; next = c.args.next; names = 0; len = z } in
     let z = to_z w64 (of_z w64 c.args.len) in
-    slot_put a.cells.items a.fields.items _ c.args.self.now c.args.number.0 us (cell z) (Some (unnamed_slot c.args.owner c.args.tip c.args.next c.args.len us)) c.self.view_is c.put_fields.ensures.puts
-    (owned_some us (cell z) c.args.owner c.new.ensures ∙ ap (λ y. Some (unnamed_slot c.args.owner c.args.tip c.args.next y us)) (to_z-of_z w64 c.args.len c.ranges.len))
+    slot_put a.cells.items a.fields.items _ c.args.self.now c.args.number.0 us c.new-2.result (Some (unnamed_slot c.args.owner c.args.tip c.args.next c.args.len us)) c.self.view_is c.put_fields.ensures.puts
+    (ap (slot_with us) c.new-2.ensures ∙ owned_some us (cell z) c.args.owner c.new.ensures ∙ ap (λ y. Some (unnamed_slot c.args.owner c.args.tip c.args.next y us)) (to_z-of_z w64 c.args.len c.ranges.len))

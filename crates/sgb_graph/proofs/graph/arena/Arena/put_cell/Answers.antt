@@ -1,5 +1,8 @@
 use Rattle.sgb_graph.proofs.Aimed.{aimed-put}
-use Rattle.std.proofs.Common.{arith}
+use Rattle.std.proofs.Common.{◌∙◌, ◌&&◌, ap, arith, set, sym}
+use Rattle.sgb_graph.specs.Private.Arena.{slot_at}
+use Rattle.sgb_graph.specs.Private.Cells.{slot_with, is_aimed}
+use Rattle.sgb_graph.specs.Private.Exchange.{fields_in}
 use Rattle.sgb_graph.proofs.Cells.{cells_low, live_low, cell_set}
 use Rattle.sgb_graph.proofs.graph.arena.Arena.put_cell.Goals as goal
 
@@ -11,7 +14,9 @@ index_mut-requires c =
 pub returns : goal.returns
 returns c =
     let a = c.self.inside in
-    cell_set a.cells.items a.fields.items c.args.self.now c.args.index c.args.cell c.self.view_is c.requires
+    let ss = c.args.self.now in
+    cell_set a.cells.items a.fields.items ss c.args.index c.new.result c.self.view_is c.requires
+    ∙ ap (λ d. set ss c.args.index (slot_with (fields_in (slot_at ss c.args.index)) d)) c.new.ensures
 
 pub invariant_of-self : goal.invariant_of-self
 invariant_of-self c =
@@ -22,5 +27,5 @@ invariant_of-self c =
       c.self.invariant.3,
       c.self.invariant.4,
       c.self.invariant.5,
-      aimed-put a.aimed c.stays_aimed-self-inside.result a.cells.items c.args.index c.args.cell c.self.invariant.6 c.stays_aimed-self-inside.ensures,
+      aimed-put a.aimed c.stays_aimed-self-inside.result a.cells.items c.args.index c.new.result c.self.invariant.6 (c.stays_aimed-self-inside.ensures ∙ ap (λ d. a.aimed && is_aimed d) (sym c.new.ensures)),
     )

@@ -1,5 +1,8 @@
 use Rattle.sgb_graph.proofs.Aimed.{aimed-set, aimed-at}
-use Rattle.std.proofs.Common.{◌∙◌, arith}
+use Rattle.std.proofs.Common.{◌∙◌, ap, arith, set}
+use Rattle.sgb_graph.specs.Private.Arena.{slot_at}
+use Rattle.sgb_graph.specs.Private.Cells.{slot_with, is_aimed}
+use Rattle.sgb_graph.specs.Private.Exchange.{fields_in}
 use Rattle.sgb_graph.proofs.Cells.{cells_low, live_low, cell_set}
 use Rattle.sgb_graph.proofs.graph.arena.Arena.set_cell.Goals as goal
 
@@ -11,7 +14,9 @@ index_mut-requires c =
 pub returns : goal.returns
 returns c =
     let a = c.self.inside in
-    cell_set a.cells.items a.fields.items c.args.self.now c.args.index c.args.cell c.self.view_is c.requires.live
+    let ss = c.args.self.now in
+    cell_set a.cells.items a.fields.items ss c.args.index c.new.result c.self.view_is c.requires.live
+    ∙ ap (λ d. set ss c.args.index (slot_with (fields_in (slot_at ss c.args.index)) d)) c.new.ensures
 
 pub invariant_of-self : goal.invariant_of-self
 invariant_of-self c =
@@ -22,5 +27,5 @@ invariant_of-self c =
       c.self.invariant.3,
       c.self.invariant.4,
       c.self.invariant.5,
-      λ aimed. aimed-set a.cells.items c.args.index c.args.cell (c.self.invariant.6 aimed) (c.requires.aims ∙ aimed-at a.cells.items a.fields.items c.args.self.now c.args.index c.self.view_is (c.self.invariant.6 aimed)),
+      λ aimed. aimed-set a.cells.items c.args.index c.new.result (c.self.invariant.6 aimed) (ap is_aimed c.new.ensures ∙ c.requires.aims ∙ aimed-at a.cells.items a.fields.items c.args.self.now c.args.index c.self.view_is (c.self.invariant.6 aimed)),
     )
