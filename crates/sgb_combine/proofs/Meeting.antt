@@ -64,10 +64,6 @@ pub holds_end : {g : GraphOf} {p : Spoke → Bool} {all now : List Spoke} {rest 
 holds_end {g} {p} {all} {now} {rest} none holds =
     sym (append-nil now) ∙ (ap (λ ks. now ++ passing g p ks) (sym none) ∙ holds.same)
 
--- what is left, behind what was held
-pub holds_rest : {g : GraphOf} {p : Spoke → Bool} {all now new : List Spoke} {rest : List ℕ} → new ≡ now ++ passing g p rest → Holds g p all now rest → new ≡ all
-holds_rest more holds = more ∙ holds.same
-
 pub from_nothing : {xs ys ts us : List Spoke} → xs ≡ ys ++ ts → ys ≡ [] → ts ≡ us → xs ≡ us
 from_nothing is none same = is ∙ ap₂ (λ (fs ss : List Spoke). fs ++ ss) none same
 

@@ -6,8 +6,7 @@ ghost use Rattle.sgb_operand.specs.Operand.{spokes};
 ghost use Rattle.sgb_combine.specs.Gunion.{is_candidate};
 ghost use Rattle.sgb_combine.specs.Private.Ahead.{AreSought, IsAhead};
 
-use crate::both::{Both, Sought, hold, hold_next, hold_rest};
-use crate::unite::sought_of;
+use crate::both::{Both, Sought, hold, hold_next, hold_rest, sought_of};
 use sgb_graph::{Graph, VertexNo};
 use std::alloc::{AllocError, Global};
 use std::mem;

@@ -21,6 +21,18 @@ pub(crate) struct Sought {
     pub n: u32,
 }
 
+// What is sought of the lists of a vertex.
+pub(crate) fn sought_of(first: &Graph, vertex: VertexNo, directed: bool) -> Sought
+    ensures { result ≡ record { vertex = vertex; halves = directed; directed = directed; n = n_of first.now } }
+{
+    Sought {
+        vertex,
+        halves: directed,
+        directed,
+        n: first.n(),
+    }
+}
+
 // Spokes of two graphs, those of each in the order of its list.
 #[derive(Drop)]
 pub(crate) struct Both {

@@ -12,7 +12,7 @@ ghost use Rattle.sgb_combine.specs.Private.Ahead.{IsAhead};
 use crate::GunionSpec;
 use crate::ahead::Ahead;
 use crate::begin::{begin_as, room_of};
-use crate::both::{Both, Sought, hold_next, hold_rest};
+use crate::both::{Both, Sought, hold_next, hold_rest, sought_of};
 use crate::lowest::Lowest;
 use crate::met::{meet, meet_rest};
 use sgb_graph::{Builder, Graph, Refusal, VertexNo};
@@ -110,18 +110,6 @@ fn insert_union(
     }
     read_lowest(met, both, ahead, first, second, vertex, spec.directed)?;
     builder.insert_along(vertex, met.spokes())
-}
-
-// What is sought of the lists of a vertex.
-pub(crate) fn sought_of(first: &Graph, vertex: VertexNo, directed: bool) -> Sought
-    ensures { result ≡ record { vertex = vertex; halves = directed; directed = directed; n = n_of first.now } }
-{
-    Sought {
-        vertex,
-        halves: directed,
-        directed,
-        n: first.n(),
-    }
 }
 
 // Reads the candidates of a vertex: those of the first graph, and behind them those of the second.
