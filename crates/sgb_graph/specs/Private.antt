@@ -1,6 +1,8 @@
 pub mod Aim
 pub mod Apart
 pub mod Arena
+pub mod Beside
+pub mod BesideLaws
 pub mod Blank
 pub mod Cells
 pub mod CodeLaws
