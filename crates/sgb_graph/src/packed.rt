@@ -37,7 +37,6 @@ impl Model for PackedPart {
 
     ghost Value = { ArcPart };
 
-    ghost use Rattle.std.specs.Prelude.{◌≡◌};
     ghost use Rattle.sgb_graph.specs.Private.Beside.{unpacked, tip_part, link_part, IsTight};
 
     ghost view = { λ p. unpacked p.a p.b p.len };
