@@ -305,16 +305,6 @@ impl Graph {
         }
     }
 
-    // Counts the arcs that the fields of an arc name, or no longer counts them.
-    fn count_names(&mut self, number: u32, are_counted: bool) {
-        let Some(fields) = self.arena.fields_of(number) else { return };
-        let named = [0, 1].map(|i| if let Util::Arc(k) = fields[i] { Some(k) } else { None });
-        for k in named.into_iter().flatten() {
-            let names = &mut self.arena.arcs[k as usize].names;
-            *names = if are_counted { *names + 1 } else { *names - 1 };
-        }
-    }
-
     fn tell_counts(&self, out: &mut Output) {
         out.put(&self.name);
         out.put_with(b": ", self.vertices.len() as u64);
@@ -443,7 +433,6 @@ impl Session {
             Step::Cut { at, number, cut } => {
                 let graph = &mut self.table[*at as usize];
                 *cut = Some(graph.arena.cut(*number));
-                graph.count_names(*number, false);
             }
             Step::Drop { at, graph } => *graph = Some(self.table.remove(*at as usize)),
             exchange => self.swap(exchange),
@@ -467,7 +456,6 @@ impl Session {
             }
             Step::Cut { at, number, cut } => {
                 let graph = &mut self.table[*at as usize];
-                graph.count_names(*number, true);
                 cut.take().into_iter().for_each(|cut| graph.arena.revert(*number, &cut));
             }
             Step::Drop { at, graph } => {

@@ -196,6 +196,16 @@ impl Arena {
         if before == NONE { &mut self.firsts[owner as usize] } else { &mut self.arcs[before as usize].next }
     }
 
+    // Counts the arcs that the fields of an arc name, or no longer counts them.
+    fn count_names(&mut self, number: u32, are_counted: bool) {
+        let Some(fields) = self.fields_of(number) else { return };
+        let named = [0, 1].map(|i| if let Util::Arc(k) = fields[i] { Some(k) } else { None });
+        for k in named.into_iter().flatten() {
+            let names = &mut self.arcs[k as usize].names;
+            *names = if are_counted { *names + 1 } else { *names - 1 };
+        }
+    }
+
     // Of a live arc.
     pub fn cut(&mut self, number: u32) -> Cut {
         let Arc { owner, next, .. } = self.arcs[number as usize];
@@ -207,11 +217,13 @@ impl Arena {
         }
         *self.link_behind(owner, before) = next;
         self.arcs[number as usize].owner = NONE;
+        self.count_names(number, false);
         self.holes += 1;
         Cut { owner, place }
     }
 
     pub fn revert(&mut self, number: u32, cut: &Cut) {
+        self.count_names(number, true);
         let mut before = NONE;
         for _ in 0..cut.place {
             before = *self.link_behind(cut.owner, before);
