@@ -11,8 +11,8 @@ use crate::{ArcNo, GraphDelta, Refusal};
 impl Graph {
     /// Cuts an arc: no list has it any more, and its number is a hole.
     ///
-    /// Answers what `revert` needs: the arc with its place. Takes no memory, and time of the owner's list. Refused
-    /// `BadOperand` where no arc has this number or a utility field names the arc.
+    /// Answers what `revert` needs: the arc with its place and the arc before it. Takes no memory, and time of the owner's
+    /// list. Refused `BadOperand` where no arc has this number or a utility field names the arc.
     pub fn cut(&mut self, number: ArcNo) -> Result<GraphDelta, Refusal>
         ensures accepted { OnOk result (refusal_of_cut self.old number.0 ≡ None) }
         ensures delta { IfOk result (λ d. d ≡ GraphDelta.Cut (cut_arc self.old number.0)) }
