@@ -33,7 +33,7 @@ test:
 quick:
 	@python3 tests/gate.py quick
 
-# Tries all edits of the crates, those of crates/*/private_edits too, or of the one crate CRATE, telling what refused each.
+# Tries all edits of the crates, those of crates/*/more_edits too, or of the one crate CRATE, telling what refused each.
 edits:
 	@python3 tests/edits.py $(if $(CRATE),-v $(CRATE))
 

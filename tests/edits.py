@@ -4,7 +4,8 @@
     edits.py [-v] [NAME | FILE ..]
     edits.py --as-proved
 
-In crates/NAME/edits/ stand those of public functions, and the wrong bodies that were asked for by name; in private_edits/ all others.
+In crates/NAME/edits/ stand those that the gate tries, of each public function one or more, and the wrong bodies that were asked for by name;
+in more_edits/ all others.
 An edit is written as those in must-fail/ are. Many are tried at a time: they are laid on one copy of the crate, and each
 must be refused at a function whose body it edits. Where it can, an edit of a function is laid on a twin, which stands beside it
 with its contract and its written proofs, so that a check takes many edits of one function; else on the function itself, one at a
@@ -18,7 +19,7 @@ must-fail/, and with -v it tells what refused each, and how long that function t
 counts with the first.
 
 With --as-proved it reads names of crates, one a line, as another run proves them and leaves their libraries, and tries
-the edits of each once those below it are named; those of a crate that is not named in the end fail. Of those in private_edits/
+the edits of each once those below it are named; those of a crate that is not named in the end fail. Of those in more_edits/
 it sees then no more than that they can be laid.
 """
 import contextlib
@@ -38,7 +39,7 @@ import time
 from concurrent.futures import Future, ThreadPoolExecutor, wait
 
 # Where the edits of a crate stand.
-EDITS, PRIVATE_EDITS = 'edits', 'private_edits'
+EDITS, MORE_EDITS = 'edits', 'more_edits'
 # What one check takes, at most: of memory, and of the disk on which its copy lies.
 MEMORY = 3_000_000_000
 DISK = 1_000_000_000
@@ -46,7 +47,7 @@ DISK = 1_000_000_000
 # many others, whose edits the gate tries last, so that there is a check for each processor at its end.
 AT_ONCE = 70
 LARGE, AT_ONCE_IN_LARGE = 100, 40
-LATE, AT_ONCE_IN_LATE = 19, 13
+LATE, AT_ONCE_IN_LATE = 19, 22
 # One check is started at a time.
 STARTING = threading.Lock()
 # By crate, the seconds of processor that each of its checks took.
@@ -215,7 +216,7 @@ class Edit:
     def __init__(self, crate, file, functions, codes):
         self.crate, self.file = crate, file
         self.label = os.path.relpath(file)
-        self.is_private = os.path.basename(os.path.dirname(file)) == PRIVATE_EDITS
+        self.is_more = os.path.basename(os.path.dirname(file)) == MORE_EDITS
         self.texts, self.why = rt.read_edit(file, crate.folder)
         self.functions = [] if self.why else self.edited(functions)
         constant = None if self.why or self.functions else self.constant()
@@ -269,7 +270,7 @@ class Edit:
 
 def edits_of(crate, files):
     """The edits of a crate, all or those in these files, and what lies beside them."""
-    folders = [it for it in ('%s/%s' % (crate.folder, it) for it in (EDITS, PRIVATE_EDITS)) if os.path.isdir(it)]
+    folders = [it for it in ('%s/%s' % (crate.folder, it) for it in (EDITS, MORE_EDITS)) if os.path.isdir(it)]
     found = files or ['%s/%s' % (folder, it) for folder in folders for it in sorted(os.listdir(folder))]
     unread = [it for it in found if not NAME.fullmatch(os.path.basename(it)) or not os.path.isfile(it)]
     if not found:
@@ -672,7 +673,7 @@ class Tally:
             self.tell(False, it, 'no edit: those are named FUNCTION-what_is_wrong.edit')
         for it in [it for it in edits if it.why]:
             self.tell(False, it.label, it.why)
-        good = [it for it in edits if not it.why and not (self.proved and it.is_private)]
+        good = [it for it in edits if not it.why and not (self.proved and it.is_more)]
         is_ready = not good or self.make_ready(crate)
         # (a check needs no proof of the crate itself, so it does not wait for another run's)
         with tempfile.TemporaryDirectory(prefix='sgb-edits-') as room:

@@ -4,7 +4,7 @@
     test_edits.py
 
 It runs edits.py twice, the second time on crates that another run is said to have proved, and with some of the edits: over what the
-first run left, it has to say the same of these, but of those in private_edits/, which it only lays.
+first run left, it has to say the same of these, but of those in more_edits/, which it only lays.
 """
 import os
 import re
@@ -162,8 +162,8 @@ EDITS_TRIED = [
     ('open', 'next-after_all', '    x\n', '    x / 2\n', None),
 ]
 
-# Those of private_edits/. The first is tried by the first run alone, and the second can be laid in neither.
-PRIVATE_TRIED = [
+# Those of more_edits/. The first is tried by the first run alone, and the second can be laid in neither.
+MORE_TRIED = [
     ('tiny', 'doubled-four_times', 'x + x', '4 * x', 'refused, as it must be: tiny::doubled'),
     ('tiny', 'doubled-of_another_text', 'y + y', 'x + x', 'an \'old:\' text is in src/lib.rt 0 times'),
 ]
@@ -175,7 +175,7 @@ TRIED_AGAIN = ('raised-by_one', 'lowered-to_a_third', 'lowered-nothing', 'held-a
 TOLD = ['crates/tiny/edits/notes.txt: no edit',
         'open: the crate is not proved, so its 1 edits show nothing']
 TOLD_OF_EDITS = [(name, 'crates/%s/edits/%s.edit: %s' % (crate, name, told)) for crate, name, _, _, told in EDITS_TRIED if told]
-TOLD_OF_PRIVATE = ['crates/%s/private_edits/%s.edit: %s' % (crate, name, told) for crate, name, _, _, told in PRIVATE_TRIED]
+TOLD_OF_MORE = ['crates/%s/more_edits/%s.edit: %s' % (crate, name, told) for crate, name, _, _, told in MORE_TRIED]
 ENDS = (['tiny: 10 of 20 edits refused, by _ checks of _ s of processor, the longest of _ s', 'upper: 1 of 2 edits refused',
          'edits: 11 passed, 12 failed'],
         ['tiny: 2 of 6 edits refused, by _ checks of _ s of processor, the longest of _ s; 1 more can be laid',
@@ -199,7 +199,7 @@ def make(room):
     write(room + '/crates/tiny/proofs/apart/Digit/shown/Answers.antt', SHOWN_PROOF)
     write(room + '/crates/open/src/lib.rt', OPEN)
     write(room + '/crates/upper/src/lib.rt', UPPER)
-    for folder, tried in ('edits', EDITS_TRIED), ('private_edits', PRIVATE_TRIED):
+    for folder, tried in ('edits', EDITS_TRIED), ('more_edits', MORE_TRIED):
         for crate, name, old, new, _ in tried:
             file = 'apart' if name.startswith(('held-', 'shown-')) else 'lib'
             write('%s/crates/%s/%s/%s.edit' % (room, crate, folder, name),
@@ -230,13 +230,13 @@ def main():
         leave_out(room)
         second, _ = run(room, '--as-proved')
     again = [told for name, told in TOLD_OF_EDITS if name in TRIED_AGAIN]
-    wanted = [(TOLD + [told for _, told in TOLD_OF_EDITS] + TOLD_OF_PRIVATE + ENDS[0], first),
-              (TOLD + again + TOLD_OF_PRIVATE[1:] + ENDS[1], second)]
+    wanted = [(TOLD + [told for _, told in TOLD_OF_EDITS] + TOLD_OF_MORE + ENDS[0], first),
+              (TOLD + again + TOLD_OF_MORE[1:] + ENDS[1], second)]
     lacking = [(it, lines) for told, lines in wanted for it in told if not any(line.startswith(it) for line in lines)]
     lacking += [('a status of failure', first)] * is_well
     # (the lines of one crate may come before those of another)
     left_out = [told.partition(': ')[0] + ':' for name, told in TOLD_OF_EDITS if name not in TRIED_AGAIN]
-    same = [sorted(line for line in lines if not line.startswith((TOLD_OF_PRIVATE[0], *left_out, *ends)))
+    same = [sorted(line for line in lines if not line.startswith((TOLD_OF_MORE[0], *left_out, *ends)))
             for lines, ends in zip((first, second), ENDS)]
     lacking += [('the second run as the first', second)] * (same[0] != same[1])
     # A check that a full disk leaves without a word tells nothing of a contract.
