@@ -4,8 +4,8 @@
     edits.py [-v] [NAME | FILE ..]
     edits.py --as-proved
 
-In crates/NAME/edits/ stand those that the gate tries, of each public function one or more, and the wrong bodies that were asked for by name;
-in more_edits/ all others.
+In crates/NAME/edits/ stand those that the gate tries: of nearly each public function one or more, and the wrong bodies that were asked
+for by name; in more_edits/ all others.
 An edit is written as those in must-fail/ are. Many are tried at a time: they are laid on one copy of the crate, and each
 must be refused at a function whose body it edits. Where it can, an edit of a function is laid on a twin, which stands beside it
 with its contract and its written proofs, so that a check takes many edits of one function; else on the function itself, one at a
