@@ -12,8 +12,8 @@ use Rattle.sgb_graph.specs.declared.parts.ArcPart.{ArcPart}
 use Rattle.sgb_graph.specs.declared.parts.VertexPart.{VertexPart}
 use Rattle.sgb_graph.specs.Chain.{Leads}
 use Rattle.sgb_graph.specs.Graph.{GraphOf, ArcOf, IsGraph, IsValue, n_of, made_of, no_vertex, arcs_of, arc_at, has_arc, occurrences, listings}
-use Rattle.sgb_graph.specs.Edit.{number_before, with_cut_arc}
-use Rattle.sgb_graph.specs.Private.Link.{CanPutBack}
+use Rattle.sgb_graph.specs.Edit.{with_cut_arc}
+use Rattle.sgb_graph.specs.Private.Link.{CanPutBack, number_before}
 use Rattle.sgb_graph.specs.Parts.{vertex_part, next_part}
 use Rattle.sgb_graph.specs.declared.refusal.Refusal.{Refusal}
 use Rattle.sgb_graph.specs.declared.refusal.Refusal.TheVariants.{BadOperand}
@@ -239,7 +239,6 @@ laid_can g k v hole made owner =
       made = made;
       owner = owner;
       place = omega arith;
-      before = refl;
       arc = record { tip = tt; len = search rules; two = refl; values = zero_values (n_of g) g.entries };
     }
 

@@ -107,7 +107,6 @@ new_can g u v len sound from to fits =
       made = omega (arith, hole_made g);
       owner = from;
       place = omega arith;
-      before = refl;
       arc = zeros_arc (n_of g) (with_hole g).entries v len to fits;
     }
 
@@ -142,7 +141,6 @@ second_can g low high len sound from to fits =
       made = omega (arith, hole_made g, hole_made (with_hole g));
       owner = to;
       place = omega arith;
-      before = refl;
       arc = zeros_arc (n_of g) h.entries low len from fits;
     }
 
@@ -157,7 +155,6 @@ first_can g low high len sound from to fits =
       made = omega (arith, put_made h c, hole_made g, hole_made (with_hole g));
       owner = omega (arith, n, from);
       place = omega arith;
-      before = refl;
       arc = zeros_arc (n_of k) k.entries high len (omega (arith, n, to)) fits;
     }
 

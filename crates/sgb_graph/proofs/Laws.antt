@@ -1,13 +1,12 @@
 -- Laws: an arc put back and taken out, and one taken out and put back, leave the graph as it was.
-use Rattle.std.proofs.Common.{◌≡◌, ◌≢◌, ◌<◌, ◌≤◌, ◌+◌, ℕ, zero, suc, List, [], ◌∷◌, length, get_or, set, Some, None, is_some, IfSome, option_map, not, refl, sym, ap, subst, ◌∙◌, arith, cond, ◌==◌}
-use Rattle.std.specs.List.{insert, remove, position_or_len, slice_get}
+use Rattle.std.proofs.Common.{◌≡◌, ◌≢◌, ◌<◌, ◌≤◌, ◌+◌, ℕ, zero, suc, List, [], ◌∷◌, length, get_or, set, Some, None, is_some, IfSome, not, refl, sym, ap, subst, ◌∙◌, arith, cond, ◌==◌}
+use Rattle.std.specs.List.{insert, remove, position_or_len}
 use Rattle.std.proofs.lemmas.Bool.{eq-eqb, ne_eqb}
 use Rattle.std.proofs.lemmas.List.{set-set, set-get_or}
 use Rattle.std.proofs.lemmas.List.Edits.{length-remove}
 use Rattle.sgb_graph.specs.declared.delta.CutArc.{CutArc}
 use Rattle.sgb_graph.specs.Graph.{GraphOf, VertexOf, IsGraph, IsArc, n_of, vertex_at, no_vertex, arcs_of, occurrences, names_in}
-use Rattle.sgb_graph.specs.Field.{arc_no}
-use Rattle.sgb_graph.specs.Edit.{number_before, with_listed, without_listed, with_cut_arc, without_arc, arc_of, owner_of, place_of, entry_at}
+use Rattle.sgb_graph.specs.Edit.{with_listed, without_listed, with_cut_arc, without_arc, arc_of, owner_of, place_of, entry_at}
 use Rattle.sgb_graph.specs.Delta.{cut_arc}
 use Rattle.sgb_graph.specs.Private.Link.{CanPutBack, CanTakeOut}
 use Rattle.sgb_graph.proofs.Counts.{occurs_yes, occurs_no}
@@ -76,17 +75,6 @@ without_arc-with_cut_arc g c sound can =
     ∙ (ap (set g.entries k) (sym can.hole) ∙ set-get_or g.entries k None) in
     same_graph (without_arc h k) g refl refl refl vertices entries
 
--- what stands before the place stays
-get-remove : (ks : List ℕ) (i j : ℕ) → i < length ks → j < i → slice_get (remove ks i) j ≡ slice_get ks j
-get-remove [] i j within h = absurd (omega arith)
-get-remove (q ∷ ks) zero j within h = absurd (omega arith)
-get-remove (q ∷ ks) (suc i) zero within h = refl
-get-remove (q ∷ ks) (suc i) (suc j) within h = get-remove ks i j (omega arith) (omega arith)
-
-before-remove : (ks : List ℕ) (i : ℕ) → i < length ks → number_before (remove ks i) i ≡ number_before ks i
-before-remove ks zero within = refl
-before-remove ks (suc i) within = ap (option_map arc_no) (get-remove ks (suc i) i within (omega arith))
-
 -- taken out and put back
 pub cut_can : (g : GraphOf) (k : ℕ) → IsGraph g → CanTakeOut g k → Found g k → CanPutBack (without_arc g k) (cut_arc g k)
 unfolding without_arc without_listed
@@ -100,7 +88,6 @@ cut_can g k sound can f =
       made = omega (arith, take_made g k, f.made);
       owner = omega (arith, take_n g k, f.owner);
       place = omega (arith, length-remove ks (place_of g k) f.within, f.within, ap (λ x. length x.arcs) (take_vertex_same g k f));
-      before = sym (before-remove ks (place_of g k) f.within) ∙ ap (λ x. number_before x.arcs (place_of g k)) (sym (take_vertex_same g k f));
       arc = subst (λ n. IsArc n h.entries (entry_at g k)) (sym (take_n g k)) (entry_without (n_of g) g.entries k (Some (entry_at g k)) named arc);
     }
 

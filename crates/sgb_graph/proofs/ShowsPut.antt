@@ -10,11 +10,11 @@ use Rattle.sgb_graph.specs.declared.graph.Vertex.{Vertex}
 use Rattle.sgb_graph.specs.declared.graph.arena.Slot.{Slot}
 use Rattle.sgb_graph.specs.declared.delta.CutArc.{CutArc}
 use Rattle.sgb_graph.specs.Graph.{GraphOf, VertexOf, IsGraph, n_of, made_of, vertex_at, arcs_of, arc_at, occurrences, names_in, names_of}
-use Rattle.sgb_graph.specs.Edit.{number_before, with_cut_arc}
+use Rattle.sgb_graph.specs.Edit.{with_cut_arc}
 use Rattle.sgb_graph.specs.Chain.{Leads}
 use Rattle.sgb_graph.specs.Private.Arena.{Slots, Shows, ShowsVertex, IsLinked, slot_at, next_of, next_at, entry_of, owner_in, names_counted, numbers}
 use Rattle.sgb_graph.specs.Field.{arc_no}
-use Rattle.sgb_graph.specs.Private.Link.{any_vertex, vertex_in, CanPutBack, value_at, link_after, with_next, vertices_relinked, slots_relinked, slots_gaining, slots_losing, slots_gaining_both}
+use Rattle.sgb_graph.specs.Private.Link.{any_vertex, vertex_in, CanPutBack, value_at, number_before, link_after, with_next, vertices_relinked, slots_relinked, slots_gaining, slots_losing, slots_gaining_both}
 use Rattle.sgb_graph.proofs.Counts.{occurs_at}
 use Rattle.sgb_graph.proofs.Graphs.{listed_live, one_owner, hole_unlisted}
 use Rattle.sgb_graph.proofs.Chains.{Leads-agree, Leads-first, Leads-behind}

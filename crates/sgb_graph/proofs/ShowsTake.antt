@@ -13,12 +13,12 @@ use Rattle.sgb_graph.specs.declared.graph.Vertex.{Vertex}
 use Rattle.sgb_graph.specs.declared.graph.arena.Slot.{Slot}
 use Rattle.sgb_graph.specs.declared.delta.CutArc.{CutArc}
 use Rattle.sgb_graph.specs.Graph.{GraphOf, VertexOf, ArcOf, IsGraph, IsArc, IsValue, n_of, made_of, vertex_at, arcs_of, arc_at, occurrences, names_of}
-use Rattle.sgb_graph.specs.Edit.{number_before, without_arc, owner_of, place_of, entry_at, arc_or, no_arc}
+use Rattle.sgb_graph.specs.Edit.{without_arc, owner_of, place_of, entry_at, arc_or, no_arc}
 use Rattle.sgb_graph.specs.Delta.{cut_arc}
 use Rattle.sgb_graph.specs.Chain.{Leads}
 use Rattle.sgb_graph.specs.Private.Arena.{Slots, Shows, ShowsVertex, IsLinked, slot_at, next_of, next_at, entry_of, owner_in, names_counted, numbers}
 use Rattle.sgb_graph.specs.Field.{arc_no}
-use Rattle.sgb_graph.specs.Private.Link.{any_vertex, vertex_in, IsCounted, value_at, with_next, vertices_relinked, slots_relinked, slots_losing, slots_losing_both}
+use Rattle.sgb_graph.specs.Private.Link.{any_vertex, vertex_in, IsCounted, value_at, number_before, with_next, vertices_relinked, slots_relinked, slots_losing, slots_losing_both}
 use Rattle.sgb_graph.proofs.Counts.{occurs_at, two_places}
 use Rattle.sgb_graph.proofs.Graphs.{listed_live, one_owner, owner_is}
 use Rattle.sgb_graph.proofs.Chains.{Leads-agree, Leads-rest, Leads-without}
@@ -310,21 +310,17 @@ slot_facts vs ss g k s shows sound is =
       len = to_z-of_z w64 s.len y.len;
     }
 
-abbrev cut_of : ArcNo → ℕ → ℕ → Option ArcNo → ArcOf → CutArc
-cut_of number v place before e = record { number = number; owner = record { 0 = v }; place = place; before = before; tip = e.tip; len = e.len; fields = e.fields }
-
--- the arc before that of number k
-abbrev front : GraphOf → ℕ → Option ArcNo
-front g k = number_before (arcs_of g (owner_of g k)) (place_of g k)
+abbrev cut_of : ArcNo → ℕ → ℕ → ArcOf → CutArc
+cut_of number v place e = record { number = number; owner = record { 0 = v }; place = place; tip = e.tip; len = e.len; fields = e.fields }
 
 abbrev arc_with : Slot → ℤ → ArcOf
 arc_with s z = record { tip = s.tip; len = z; fields = s.fields }
 
-abbrev pub cut_from : ArcNo → ℕ → Option ArcNo → Slot → CutArc
-cut_from number place before s = record { number = number; owner = s.owner; place = place; before = before; tip = s.tip; len = to_z w64 (of_z w64 s.len); fields = s.fields }
+abbrev pub cut_from : ArcNo → ℕ → Slot → CutArc
+cut_from number place s = record { number = number; owner = s.owner; place = place; tip = s.tip; len = to_z w64 (of_z w64 s.len); fields = s.fields }
 
-pub record CutDone (ws : List Vertex) (qs : Slots) (g : GraphOf) (number : ArcNo) (place : ℕ) (before : Option ArcNo) (s : Slot) : Type 0 where
-  pub cut : cut_from number place before s ≡ cut_arc g number.0
+pub record CutDone (ws : List Vertex) (qs : Slots) (g : GraphOf) (number : ArcNo) (place : ℕ) (s : Slot) : Type 0 where
+  pub cut : cut_from number place s ≡ cut_arc g number.0
   pub shows : Shows ws qs (without_arc g number.0)
 
 -- what the steps of `take_out` leave
@@ -333,7 +329,7 @@ pub take_out_done : (vs ws : List Vertex) (ss rs ts qs : Slots) (g : GraphOf) (n
     → place ≡ position_or_len (λ j. j == number.0) (numbers ss (get_or vs v.0 d).first)
     → before ≡ number_before (numbers ss (get_or vs v.0 d).first) place
     → rs ≡ set ss number.0 None → ws ≡ vertices_relinked vs v.0 before s.next → ts ≡ slots_relinked rs before s.next → qs ≡ slots_losing_both ts s.fields
-    → CutDone ws qs g number place before s
+    → CutDone ws qs g number place s
 take_out_done vs ws ss rs ts qs g number v d place before s shows sound owner slot place_is before_is rs_is ws_is ts_is qs_is =
     let k = number.0 in
     let t = take_facts vs ss g k v d shows sound owner in
@@ -346,11 +342,10 @@ take_out_done vs ws ss rs ts qs g number v d place before s shows sound owner sl
     let qs' : qs ≡ slots_losing_both (take_slots ss k before (next_at ss k)) (entry_at g k).fields = qs_is ∙ (ap (λ r. slots_losing_both r s.fields) ts' ∙ ap (slots_losing_both (take_slots ss k before (next_at ss k))) fields) in
     record {
       cut =
-          ap (λ n. cut_from number n before s) here
-          ∙ (ap (λ b. cut_from number (place_of g k) b s) is
-          ∙ (ap (λ z. cut_of number s.owner.0 (place_of g k) (front g k) (arc_with s z)) y.len
-          ∙ (ap (λ w. cut_of number w (place_of g k) (front g k) (arc_with s s.len)) (sym y.owner)
-          ∙ ap (cut_of number (owner_of g k) (place_of g k) (front g k)) (sym y.entry))));
+          ap (λ n. cut_from number n s) here
+          ∙ (ap (λ z. cut_of number s.owner.0 (place_of g k) (arc_with s z)) y.len
+          ∙ (ap (λ w. cut_of number w (place_of g k) (arc_with s s.len)) (sym y.owner)
+          ∙ ap (λ e. cut_of number (owner_of g k) (place_of g k) e) (sym y.entry)));
       shows = rw (ws', qs') (take_shows vs ss g k before shows sound t.found t.arc.two is);
     }
 

@@ -9,10 +9,10 @@ use Rattle.sgb_graph.specs.declared.delta.CutArc.{CutArc}
 use Rattle.sgb_graph.specs.declared.delta.GraphDelta.{GraphDelta}
 use Rattle.sgb_graph.specs.declared.delta.GraphDelta.TheVariants.{NewArc, NewEdge, Cut, SetLen, SetUtil, SetLabel, SetId, SetTypes}
 use Rattle.sgb_graph.specs.Set.{IsStorable}
-use Rattle.sgb_graph.specs.Graph.{GraphOf, IsGraph, made_of, label_of, arcs_of}
-use Rattle.sgb_graph.specs.Edit.{with_arc, with_edge, without_arc, with_len, with_util, with_label, util_at, entry_at, owner_of, place_of, number_before, stored, refusal_of_arc, refusal_of_edge, refusal_of_cut, refusal_of_len, refusal_of_util, refusal_of_label, refusal_of_id}
+use Rattle.sgb_graph.specs.Graph.{GraphOf, IsGraph, made_of, label_of}
+use Rattle.sgb_graph.specs.Edit.{with_arc, with_edge, without_arc, with_len, with_util, with_label, util_at, entry_at, owner_of, place_of, stored, refusal_of_arc, refusal_of_edge, refusal_of_cut, refusal_of_len, refusal_of_util, refusal_of_label, refusal_of_id}
 
--- what a cut of arc k keeps: its number, its owner, its place, the arc before it and the arc
+-- what a cut of arc k keeps: its number, its owner, its place and the arc
 abbrev pub cut_arc : GraphOf → ℕ → CutArc
 cut_arc g k =
     let e = entry_at g k in
@@ -20,7 +20,6 @@ cut_arc g k =
       number = record { 0 = k };
       owner = record { 0 = owner_of g k };
       place = place_of g k;
-      before = number_before (arcs_of g (owner_of g k)) (place_of g k);
       tip = e.tip;
       len = e.len;
       fields = e.fields;

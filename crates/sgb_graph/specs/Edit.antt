@@ -1,8 +1,7 @@
 -- What each edit makes of a graph, and when it is refused.
-use Rattle.std.specs.Prelude.{◌+◌, ℕ, zero, suc, ℤ, pos, List, [], ◌∷◌, ◌++◌, length, Option, Some, None, Bool, true, ◌&&◌, ◌==◌, nat_le, min, max, insert, remove, option_map, slice_get, slice_index_or, slice_set, if◌then◌else◌}
+use Rattle.std.specs.Prelude.{◌+◌, ℕ, ℤ, pos, List, [], ◌∷◌, ◌++◌, length, Option, Some, None, Bool, true, ◌&&◌, ◌==◌, nat_le, min, max, insert, remove, slice_index_or, slice_set, if◌then◌else◌}
 use Rattle.std.specs.List.{list_any, position_or_len}
 use Rattle.std.specs.Ordering.{int_eq}
-use Rattle.sgb_graph.specs.declared.field.ArcNo.{ArcNo}
 use Rattle.sgb_graph.specs.declared.field.Tip.TheVariants.{To}
 use Rattle.sgb_graph.specs.declared.field.Util.{Util}
 use Rattle.sgb_graph.specs.declared.field.Util.TheVariants.{Zero, Int, Vertex, Arc, Text}
@@ -11,7 +10,7 @@ use Rattle.sgb_graph.specs.declared.field.Place.TheVariants as places
 use Rattle.sgb_graph.specs.declared.delta.CutArc.{CutArc}
 use Rattle.sgb_graph.specs.declared.refusal.Refusal.{Refusal}
 use Rattle.sgb_graph.specs.declared.refusal.Refusal.TheVariants.{TooLarge, BadOperand}
-use Rattle.sgb_graph.specs.Field.{arc_no, vertex_place, arc_place, graph_place}
+use Rattle.sgb_graph.specs.Field.{vertex_place, arc_place, graph_place}
 use Rattle.sgb_graph.specs.Graph.{GraphOf, VertexOf, ArcOf, made_of, vertex_at, arcs_of, arc_at, has_vertex, has_arc, names_of}
 
 -- one edit of one vertex, and one of one entry
@@ -59,11 +58,6 @@ owner_of g k = position_or_len (λ v. list_any (λ j. j == k) v.arcs) g.vertices
 
 abbrev pub place_of : GraphOf → ℕ → ℕ
 place_of g k = position_or_len (λ j. j == k) (arcs_of g (owner_of g k))
-
--- the arc that stands before place i of the list, if one does
-abbrev pub number_before : List ℕ → ℕ → Option ArcNo
-number_before ks zero = None
-number_before ks (suc i) = option_map arc_no (slice_get ks i)
 
 -- the arc is cut: no list has its number, which is a hole
 unfoldable pub without_arc : GraphOf → ℕ → GraphOf

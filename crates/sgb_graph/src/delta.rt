@@ -22,14 +22,12 @@ pub enum GraphDelta {
     SetTypes(Types),
 }
 
-/// An arc that was cut: its number, its owner, its place in the owner's list, the arc that stood before it there, and the
-/// arc itself. Told of the arc before, `revert` need not walk the list.
+/// An arc that was cut: its number, its owner, its place in the owner's list, and the arc.
 #[derive(Debug, Drop, PartialEq, Eq)]
 pub struct CutArc {
     pub number: ArcNo,
     pub owner: VertexNo,
     pub place: u32,
-    pub before: Option<ArcNo>,
     pub tip: Tip,
     pub len: i64,
     pub fields: [Util; 2],

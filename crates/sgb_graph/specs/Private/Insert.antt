@@ -20,7 +20,7 @@ use Rattle.sgb_graph.specs.Private.Link.{CanPutBack, vertex_in, vertices_relinke
 -- the arc of this number, first in the list of its owner
 abbrev pub new_cut : ArcNo → VertexNo → VertexNo → ℤ → CutArc
 new_cut number owner to len =
-    record { number = number; owner = owner; place = 0; before = None; tip = To to; len = len; fields = Zero ∷ Zero ∷ [] }
+    record { number = number; owner = owner; place = 0; tip = To to; len = len; fields = Zero ∷ Zero ∷ [] }
 
 -- the slot of a new arc
 abbrev pub new_slot : VertexNo → VertexNo → Option ArcNo → ℤ → Slot

@@ -18,8 +18,7 @@ use Rattle.sgb_graph.specs.declared.graph.arena.Cell.{Cell}
 use Rattle.sgb_graph.specs.declared.graph.arena.Slot.{Slot}
 use Rattle.sgb_graph.specs.declared.graph.lay.Chained.{Chained}
 use Rattle.sgb_graph.specs.Private.Cells.{two_zeros, slot_with}
-use Rattle.sgb_graph.specs.Edit.{number_before}
-use Rattle.sgb_graph.specs.Private.Link.{vertex_in}
+use Rattle.sgb_graph.specs.Private.Link.{number_before, vertex_in}
 use Rattle.sgb_graph.specs.Private.Vertices.{with_first}
 
 -- the links of the records, and the number that follows by them
@@ -73,7 +72,7 @@ RefusesToLay vs ls e = (e ≡ NoRoom) ⊎ ((e ≡ BadOperand) × ((h : GraphOf) 
 -- an arc that is to be filled, last in the list of its owner
 abbrev pub laid_arc : GraphOf → ArcNo → VertexNo → CutArc
 laid_arc g number owner =
-    record { number = number; owner = owner; place = length (arcs_of g owner.0); before = last_number (arcs_of g owner.0); tip = tips.Zero; len = pos 0; fields = Zero ∷ Zero ∷ [] }
+    record { number = number; owner = owner; place = length (arcs_of g owner.0); tip = tips.Zero; len = pos 0; fields = Zero ∷ Zero ∷ [] }
 
 -- what is kept of the record of a number while chains are followed, and what stands beyond all records
 abbrev pub any_row : Chained

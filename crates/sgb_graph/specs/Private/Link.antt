@@ -1,5 +1,5 @@
 -- What relinking does to the fields of a graph.
-use Rattle.std.specs.Prelude.{◌≡◌, ◌<◌, ◌≤◌, ◌+◌, ◌-◌, ℕ, List, length, Option, Some, None, IfSome, true, slice_set, slice_index_or, []}
+use Rattle.std.specs.Prelude.{◌≡◌, ◌<◌, ◌≤◌, ◌+◌, ◌-◌, ℕ, zero, suc, List, length, Option, Some, None, IfSome, true, option_map, slice_get, slice_set, slice_index_or, []}
 use Rattle.sgb_graph.specs.declared.field.ArcNo.{ArcNo}
 use Rattle.sgb_graph.specs.declared.field.Util.{Util}
 use Rattle.sgb_graph.specs.declared.field.Util.TheVariants.{Zero, Int, Vertex, Arc, Text}
@@ -7,9 +7,10 @@ use Rattle.sgb_graph.specs.declared.delta.CutArc.{CutArc}
 use Rattle.sgb_graph.specs.declared.graph.Vertex as vertex
 use Rattle.sgb_graph.specs.declared.graph.arena.Slot.{Slot}
 use Rattle.sgb_graph.specs.Graph.{GraphOf, IsGraph, IsArc, n_of, made_of, arcs_of, arc_at, has_arc, names_of}
-use Rattle.sgb_graph.specs.Edit.{number_before, with_cut_arc, without_arc, arc_of}
+use Rattle.sgb_graph.specs.Edit.{with_cut_arc, without_arc, arc_of}
 use Rattle.sgb_graph.specs.Delta.{cut_arc}
 use Rattle.sgb_graph.specs.Private.Arena.{Slots, Shows, next_at, slot_at, names_counted}
+use Rattle.sgb_graph.specs.Field.{arc_no}
 
 -- a vertex that stands nowhere
 abbrev pub any_vertex : vertex.Vertex
@@ -17,6 +18,11 @@ any_vertex = record { label = []; fields = []; first = None }
 
 abbrev pub vertex_in : List vertex.Vertex → ℕ → vertex.Vertex
 vertex_in vs v = slice_index_or vs v any_vertex
+
+-- the number that stands before place i of the list
+abbrev pub number_before : List ℕ → ℕ → Option ArcNo
+number_before ks zero = None
+number_before ks (suc i) = option_map arc_no (slice_get ks i)
 
 -- the slot with another link
 abbrev pub with_next : Option ArcNo → Option Slot → Option Slot
@@ -80,14 +86,12 @@ IsCounted ss low high (Vertex v) = Unit {0}
 IsCounted ss low high (Arc a) = (a.0 < length ss) × IfSome (names_counted (slot_at ss a.0)) (λ n. (low ≤ n) × (n < high))
 IsCounted ss low high (Text t) = Unit {0}
 
--- the arc can be put into the graph: its number is a hole, its place is in the list of its owner, behind the arc that is
--- told, and it is sound
+-- the arc can be put into the graph: its number is a hole, its place is in the list of its owner, and it is sound
 pub record CanPutBack (g : GraphOf) (c : CutArc) : Type 0 where
   pub hole : arc_at g c.number.0 ≡ None
   pub made : c.number.0 < made_of g
   pub owner : c.owner.0 < n_of g
   pub place : c.place ≤ length (arcs_of g c.owner.0)
-  pub before : c.before ≡ number_before (arcs_of g c.owner.0) c.place
   pub arc : IsArc (n_of g) g.entries (arc_of c)
 
 -- of every sound graph that the fields show, they then show the graph with the arc

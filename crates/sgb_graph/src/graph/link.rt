@@ -3,13 +3,23 @@ ghost use Rattle.std.specs.Prelude.{◌≡◌, ◌<◌, ◌≤◌, ◌^◌, ◌-
 ghost use Rattle.std.specs.List.{position_or_len};
 ghost use Rattle.std.specs.Option.{ForSome};
 ghost use Rattle.sgb_graph.specs.Private.Arena.{IsLinked, numbers};
-ghost use Rattle.sgb_graph.specs.Edit.{number_before};
-ghost use Rattle.sgb_graph.specs.Private.Link.{link_after, vertices_relinked, slots_relinked, slots_gaining, slots_losing, slots_gaining_both, slots_losing_both, value_at, IsCounted, PutsBack, CanBePutBack, TakesOut, CanBeTakenOut};
+ghost use Rattle.sgb_graph.specs.Private.Link.{number_before, link_after, vertices_relinked, slots_relinked, slots_gaining, slots_losing, slots_gaining_both, slots_losing_both, value_at, IsCounted, PutsBack, CanBePutBack, TakesOut, CanBeTakenOut};
 
 use super::arena::{Arena, Slot};
 use super::codes::{Link, TipCode};
 use super::{Arcs, Vertices};
 use crate::{ArcNo, CutArc, Util, VertexNo};
+
+// The arc that stands before this place of a list.
+fn number_before(slots: &Arena, first: Link, place: u32) -> Option<ArcNo>
+    requires { IsLinked slots.now first }
+    ensures { result ≡ number_before (numbers slots.now first) place }
+{
+    if place == 0 {
+        return None;
+    }
+    Arcs::new(slots, first).nth(place as usize - 1)
+}
 
 // Replaces the link that follows this arc, or else the owner's first link, and gives the link that was there.
 fn replace_link(
@@ -68,7 +78,7 @@ fn place_in(slots: &Arena, first: Link, number: ArcNo) -> (u32, Option<ArcNo>)
     (place, before)
 }
 
-// Links the arc into its owner's list behind the one before it. Its number is a hole.
+// Links the arc into its owner's list at its place. Its number is a hole.
 pub(super) fn put_back(vertices: &mut Vertices, slots: &mut Arena, cut: CutArc)
     requires { CanBePutBack vertices.old slots.old cut }
     ensures { PutsBack vertices.old slots.old cut vertices.new slots.new }
@@ -76,13 +86,13 @@ pub(super) fn put_back(vertices: &mut Vertices, slots: &mut Arena, cut: CutArc)
     let CutArc {
         number,
         owner,
-        place: _,
-        before,
+        place,
         tip,
         len,
         fields,
     } = cut;
     gain_names(slots, &fields);
+    let before = number_before(slots, vertices.first(owner), place);
     let next = replace_link(vertices, slots, owner, before, Link::to(number));
     slots.put(number, owner, TipCode::new(tip), next, len, fields);
 }
@@ -112,7 +122,6 @@ pub(super) fn take_out(vertices: &mut Vertices, slots: &mut Arena, number: ArcNo
         number,
         owner,
         place,
-        before,
         tip: tip.get(),
         len,
         fields,

@@ -11,8 +11,7 @@ use super::{Graph, Vertices};
 use crate::{ArcNo, CutArc, GraphDelta, Label, Place, Text, Types, Util, VertexNo};
 
 impl Graph {
-    /// Undoes the edit that gave this delta and left the graph as it is. Takes no memory, and walks no list: an arc that
-    /// was cut comes behind the one that it stood behind.
+    /// Undoes the edit that gave this delta and left the graph as it is. Takes no memory.
     #[inline(always)]
     pub fn revert(&mut self, delta: GraphDelta)
         requires { (g : GraphOf) × LeftBy g delta self.old }

@@ -3,7 +3,7 @@ use Rattle.std.specs.List.{position_or_len}
 use Rattle.sgb_graph.specs.declared.field.ArcNo.{ArcNo}
 use Rattle.sgb_graph.specs.Field.{arc_no}
 use Rattle.sgb_graph.specs.Private.Arena.{numbers, next_at}
-use Rattle.sgb_graph.specs.Edit.{number_before}
+use Rattle.sgb_graph.specs.Private.Link.{number_before}
 use Rattle.sgb_graph.proofs.Chains.{length-chain}
 use Rattle.sgb_graph.proofs.graph.link.place_in.Goals as goal
 

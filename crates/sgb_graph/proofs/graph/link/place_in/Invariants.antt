@@ -1,7 +1,7 @@
 use Rattle.std.proofs.Common.{◌≡◌, ◌+◌, ◌≤◌, ◌==◌, drop, length}
 use Rattle.std.specs.List.{position_or_len}
 use Rattle.sgb_graph.specs.Private.Arena.{numbers}
-use Rattle.sgb_graph.specs.Edit.{number_before}
+use Rattle.sgb_graph.specs.Private.Link.{number_before}
 use Rattle.sgb_graph.proofs.graph.link.place_in.Given as goal
 
 abbrev pub invariant-loop-other : goal.invariant-loop-other

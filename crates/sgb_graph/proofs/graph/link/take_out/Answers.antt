@@ -2,8 +2,7 @@ use Rattle.std.proofs.Common.{◌∙◌, ap, sym, subst, to_z, of_z}
 use Rattle.std.specs.Prelude.{◌==◌}
 use Rattle.std.specs.List.{position_or_len}
 use Rattle.sgb_graph.specs.Private.Arena.{IsLinked, numbers}
-use Rattle.sgb_graph.specs.Edit.{number_before}
-use Rattle.sgb_graph.specs.Private.Link.{any_vertex}
+use Rattle.sgb_graph.specs.Private.Link.{any_vertex, number_before}
 use Rattle.std.specs.Int.{w64}
 use Rattle.sgb_graph.specs.declared.field.Tip.{Tip}
 use Rattle.sgb_graph.specs.declared.delta.CutArc.{CutArc}
@@ -36,5 +35,5 @@ returns c = λ g shows sound can.
     shows sound c.owner_at-owner.ensures c.remove-slot.ensures.slot (c.place_in-place.ensures.place ∙ ap (λ link. position_or_len (λ j. j == c.args.number.0) (numbers c.args.slots.now link)) c.first-first.ensures) (c.place_in-place.ensures.before ∙ ap (λ link. number_before (numbers c.args.slots.now link) c.place_in-place.result.0) c.first-first.ensures)
     c.remove-slot.ensures.slots c.replace_link.ensures.vertices c.replace_link.ensures.slots c.lose_names.ensures in
     let slot = c.remove-slot.result in
-    let cut : Tip → CutArc = λ t. record { number = c.args.number; owner = slot.owner; place = c.place_in-place.result.0; before = c.place_in-place.result.1; tip = t; len = to_z w64 (of_z w64 slot.len); fields = slot.fields } in
+    let cut : Tip → CutArc = λ t. record { number = c.args.number; owner = slot.owner; place = c.place_in-place.result.0; tip = t; len = to_z w64 (of_z w64 slot.len); fields = slot.fields } in
     (ap cut c.get.ensures ∙ r.cut, r.shows)
