@@ -16,7 +16,7 @@ PLAIN = plain_graph plain_make plain_combine plain_text plain_lines
 
 all: bin/sgb
 
-# Proves the program and what it stands on, over what earlier runs kept, builds it, and leaves it as bin/sgb.
+# Proves the program and what it depends on, over what earlier runs kept, builds it, and leaves it as bin/sgb.
 bin/sgb: FORCE
 	@python3 tests/gate.py prove
 
@@ -25,11 +25,11 @@ demo:
 	@sh examples/demo.sh
 
 # The merge gate: every proof from nothing, every test, every edit that must be refused; then the proved program
-# on the examples, with each of its growths refused, and in its own tests.
+# on the examples, with each of its allocations failed, and in its own tests.
 test:
 	@python3 tests/gate.py test
 
-# For who works here: proves and tests the crates that changed, over what earlier runs kept.
+# For contributors: proves and tests the crates that changed, over what earlier runs kept.
 quick:
 	@python3 tests/gate.py quick
 
@@ -48,9 +48,9 @@ twins:
 examples: bin/sgb
 	sh tests/examples.sh bin/sgb
 	python3 tests/documents.py bin/sgb README.md docs/language.md docs/combinations.md
-	python3 tests/shown.py docs/library.md crates/sgb_library_tests/src
+	python3 tests/shown.py docs/library.md crates/sgb_library_tests
 
-# Runs scripts with each growth refused in its turn.
+# Runs scripts with each allocation failed in its turn.
 growths: bin/sgb tests/out/refuse_growth.so
 	python3 tests/growths.py bin/sgb tests/out/refuse_growth.so
 
@@ -66,7 +66,7 @@ large: bin/sgb
 
 .PHONY: wants ends
 
-# Runs one script of every command, and the programs beside the script, with each growth refused.
+# Runs one script of every command, and the programs beside the script, with each allocation failed.
 wants: bin/sgb tests/out/refuse_growth.so
 	python3 tests/wants.py bin/sgb tests/out/refuse_growth.so
 

@@ -279,7 +279,7 @@ class Gate:
         self.log.call(['make', REFUSING, FAILING])
         yield 'examples', ['sh', 'tests/examples.sh', PROGRAM]
         yield 'documents', [sys.executable, 'tests/documents.py', PROGRAM, 'README.md', 'docs/language.md', 'docs/combinations.md']
-        yield 'shown', [sys.executable, 'tests/shown.py', 'docs/library.md', 'crates/sgb_library_tests/src']
+        yield 'shown', [sys.executable, 'tests/shown.py', 'docs/library.md', 'crates/sgb_library_tests']
         yield 'manual', [sys.executable, 'docs/manual.py', '--check', 'sgb.1']
         yield 'growths', [sys.executable, 'tests/growths.py', PROGRAM, REFUSING]
         yield 'wants', [sys.executable, 'tests/wants.py', PROGRAM, REFUSING]

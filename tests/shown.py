@@ -1,15 +1,16 @@
 #!/usr/bin/env python3
 """Compares the programs that a page shows with the files that are proved: each block of the page is a file word for word, and each
-file, but for the root of its crate, is shown once.
+file of the crate's src/ and specs/, but for the root of either, is shown once.
 
-    shown.py PAGE FOLDER
+    shown.py PAGE CRATE
 """
 import glob
 import os
 import re
 import sys
 
-BLOCK = re.compile(r'(?ms)^```rust\n(.*?)^```$')
+BLOCK = re.compile(r'(?ms)^```(?:rust|antt)\n(.*?)^```$')
+ROOTS = ('lib.rt', 'Lib.antt')
 
 
 def read(name):
@@ -20,7 +21,8 @@ def read(name):
 def main():
     page, folder = sys.argv[1:]
     blocks = BLOCK.findall(read(page))
-    files = {name: read(name) for name in sorted(glob.glob(folder + '/*.rt')) if os.path.basename(name) != 'lib.rt'}
+    names = sorted(glob.glob(folder + '/src/*.rt') + glob.glob(folder + '/specs/*.antt'))
+    files = {name: read(name) for name in names if os.path.basename(name) not in ROOTS}
     unknown = [block for block in blocks if block not in files.values()]
     for block in unknown:
         print('%s shows what is no file of %s:\n%s' % (page, folder, block))

@@ -22,7 +22,7 @@ pub fn print_transcript<R: Read + Drop>(rt: &HostRuntime, reader: R) -> Result<b
 }
 
 // Writes out what is held back, whatever came of the run.
-fn outcome<R: Drop, W: Write + Drop>(ended: Ended<R, W>) -> Result<bool, RunFault> {
+fn outcome<R: Read + Drop, W: Write + Drop>(ended: Ended<R, W>) -> Result<bool, RunFault> {
     let flushed = ended.writer.into_inner().flush();
     let end = ended.end?;
     match flushed {

@@ -1,4 +1,2 @@
 mod Linking
 mod Naming
-mod Parting
-mod Spelling

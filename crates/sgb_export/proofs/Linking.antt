@@ -1,13 +1,15 @@
 -- Lemmas on the arcs that are written, as a loop passes over a list.
-use Rattle.std.proofs.Common.{◌≡◌, ◌≤◌, ◌<◌, ◌+◌, ℕ, suc, List, [], ◌∷◌, ◌++◌, length, map, drop, Bool, true, false, ◌&&◌, not, inl, inr, refl, sym, ap, ◌∙◌, arith, append_assoc, zero-add, add-one, drop-cons}
+use Rattle.std.proofs.Common.{◌≡◌, ◌≤◌, ◌<◌, ◌+◌, ℕ, List, [], ◌∷◌, ◌++◌, length, map, drop, Bool, true, false, ◌&&◌, not, inl, inr, refl, sym, ap, ◌∙◌, arith, append_assoc}
 use Rattle.std.specs.List.{filter, flat_map, list_all, range_with_len}
 use Rattle.std.proofs.lemmas.Bool.{cases_Bool}
-use Rattle.std.proofs.lemmas.List.{flat_map_more, map-id, length-append, length-map}
-use Rattle.std.proofs.lemmas.List.FromFn.{map-range_with_len_more, get_or-range_with_len, length-range_with_len}
+use Rattle.std.proofs.lemmas.List.{length-map}
 use Rattle.sgb_graph.specs.Graph.{GraphOf, n_of}
 use Rattle.sgb_graph.specs.Paired.{walk}
 use Rattle.sgb_export.specs.declared.link.Link.{Link}
-use Rattle.sgb_export.specs.Links.{link, is_written, links_at, links, is_even, numbered}
+use Rattle.sgb_export.specs.declared.format.Format.{Format}
+use Rattle.sgb_export.specs.Links.{link, is_written, links_at, is_even}
+use Rattle.sgb_export.specs.Text.{link_text, links_text}
+use Rattle.sgb_print.proofs.Printing.{number_and_rest}
 
 -- what is written of the numbers of a list
 abbrev pub written : Bool → GraphOf → ℕ → List ℕ → List Link
@@ -66,52 +68,26 @@ even_not g v k ks after l steps is wrong =
       | inr not_so ↦ absurd (let fine : (is_written false l && not (is_even g l)) ≡ false = rw not_so refl in cc)
     ]
 
--- ---- how many are written
--- one number more
-range_next : (n : ℕ) → range_with_len 0 n ++ n ∷ [] ≡ range_with_len 0 (n + 1)
-range_next n =
-    ap (λ ks. ks ++ n ∷ []) (sym (map-id (range_with_len 0 n)))
-    ∙ (sym (map-range_with_len_more (λ k. k) 0 n n (omega arith)) ∙ map-id (range_with_len 0 (n + 1)))
+-- ---- lines that are numbered
+module _ (format : Format) (directed : Bool) (g : GraphOf) where
+  pub lines_one : (k : ℕ) (l : Link) (ls all : List Link) → all ≡ l ∷ ls → links_text format directed g k all ≡ link_text format directed g k l ++ links_text format directed g (k + 1) ls
+  unfolding links_text
+  lines_one k l ls all is = ap (links_text format directed g k) is
 
-pub count_more : (directed : Bool) (g : GraphOf) (v count here : ℕ) → count ≡ length (flat_map (links_at directed g) (range_with_len 0 v)) → here ≡ length (links_at directed g v)
-    → count + here ≡ length (flat_map (links_at directed g) (range_with_len 0 (v + 1)))
-count_more directed g v count here before is =
-    let more = flat_map_more (links_at directed g) [] (range_with_len 0 v) v ∙ ap (flat_map (links_at directed g)) (range_next v) in
-    omega (arith, before, is, ap length more, length-append (flat_map (links_at directed g) (range_with_len 0 v)) (links_at directed g v))
+  pub lines_none : (k : ℕ) (all : List Link) → all ≡ [] → links_text format directed g k all ≡ []
+  unfolding links_text
+  lines_none k all is = ap (links_text format directed g k) is
 
-pub count_all : (directed : Bool) (g : GraphOf) (v count : ℕ) → v ≡ n_of g → count ≡ length (flat_map (links_at directed g) (range_with_len 0 v)) → count ≡ length (links directed g)
-unfolding links
-count_all directed g v count all is = is ∙ ap (λ n. length (flat_map (links_at directed g) (range_with_len 0 n))) all
+  lines_append : (k : ℕ) (ls ms : List Link) → links_text format directed g k (ls ++ ms) ≡ links_text format directed g k ls ++ links_text format directed g (k + length ls) ms
+  unfolding links_text
+  lines_append k [] ms = ap (λ n. links_text format directed g n ms) (omega arith)
+  lines_append k (l ∷ ls) ms =
+      ap (λ t. link_text format directed g k l ++ t) (lines_append (k + 1) ls ms ∙ ap (λ n. links_text format directed g (k + 1) ls ++ links_text format directed g n ms) (omega arith))
+      ∙ sym (append_assoc (link_text format directed g k l) (links_text format directed g (k + 1) ls) (links_text format directed g (k + length (l ∷ ls)) ms))
 
--- ---- lines that are counted
-pub numbered_one : (line : ℕ → Link → List ℕ) (k : ℕ) (l : Link) (ls all : List Link) → all ≡ l ∷ ls → numbered line k all ≡ line k l ++ numbered line (k + 1) ls
-unfolding numbered
-numbered_one line k l ls all is = ap (numbered line k) is
-
-pub numbered_none : (line : ℕ → Link → List ℕ) (k : ℕ) (all : List Link) → all ≡ [] → numbered line k all ≡ []
-unfolding numbered
-numbered_none line k all is = ap (numbered line k) is
-
-pub numbered_append : (line : ℕ → Link → List ℕ) (k : ℕ) (ls ms : List Link) → numbered line k (ls ++ ms) ≡ numbered line k ls ++ numbered line (k + length ls) ms
-unfolding numbered
-numbered_append line k [] ms = ap (λ n. numbered line n ms) (omega arith)
-numbered_append line k (l ∷ ls) ms =
-    ap (λ t. line k l ++ t) (numbered_append line (k + 1) ls ms ∙ ap (λ n. numbered line (k + 1) ls ++ numbered line n ms) (omega arith))
-    ∙ sym (append_assoc (line k l) (numbered line (k + 1) ls) (numbered line (k + length (l ∷ ls)) ms))
-
--- where the number does not matter
-pub numbered_plain : (line : Link → List ℕ) (k : ℕ) (ls : List Link) → numbered (λ n l. line l) k ls ≡ flat_map line ls
-unfolding numbered
-numbered_plain line k [] = refl
-numbered_plain line k (l ∷ ls) = ap (λ t. line l ++ t) (numbered_plain line (k + 1) ls)
-
--- the vertices from one on
-pub vertices_from : (directed : Bool) (g : GraphOf) (v : ℕ) → v < n_of g
-    → flat_map (links_at directed g) (drop v (range_with_len 0 (n_of g))) ≡ links_at directed g v ++ flat_map (links_at directed g) (drop (v + 1) (range_with_len 0 (n_of g)))
-vertices_from directed g v less =
-    let n = n_of g in
-    let within : v < length (range_with_len 0 n) = omega (arith, length-range_with_len 0 n) in
-    ap (flat_map (links_at directed g))
-    (drop-cons (range_with_len 0 n) v v within
-    ∙ (ap (λ x. x ∷ drop (suc v) (range_with_len 0 n)) (get_or-range_with_len 0 n v v less ∙ zero-add v)
-    ∙ ap (λ k. v ∷ drop k (range_with_len 0 n)) (sym (add-one v))))
+  -- those of a vertex, and of the vertices behind it
+  pub lines_at : (k v : ℕ) → v < n_of g
+      → links_text format directed g k (flat_map (links_at directed g) (drop v (range_with_len 0 (n_of g))))
+      ≡ links_text format directed g k (links_at directed g v)
+      ++ links_text format directed g (k + length (links_at directed g v)) (flat_map (links_at directed g) (drop (v + 1) (range_with_len 0 (n_of g))))
+  lines_at k v within = ap (links_text format directed g k) (number_and_rest (links_at directed g) (n_of g) v within) ∙ lines_append k _ _

@@ -1,11 +1,9 @@
 -- Graphs in the language of Graphviz.
 use Rattle.std.specs.Prelude.{ℕ, List, ◌++◌, codes, Bool, if◌then◌else◌}
-use Rattle.std.specs.List.{flat_map, range_with_len}
 use Rattle.std.specs.Fmt.{decimal, signed_decimal}
-use Rattle.sgb_graph.specs.Graph.{GraphOf, n_of, label_of}
+use Rattle.sgb_graph.specs.Graph.{GraphOf, label_of}
 use Rattle.sgb_print.specs.Show.{quoted}
 use Rattle.sgb_export.specs.declared.link.Link.{Link}
-use Rattle.sgb_export.specs.Links.{links, is_directed}
 
 abbrev pub kind : Bool → List ℕ
 kind directed = if directed then codes "digraph" else codes "graph"
@@ -25,10 +23,3 @@ dot_vertex g v = codes "  " ++ decimal v ++ codes " [label=" ++ quoted (label_of
 abbrev pub dot_link : Bool → Link → List ℕ
 dot_link directed l =
     codes "  " ++ decimal l.from ++ arrow directed ++ decimal l.to ++ codes " [label=" ++ quoted (signed_decimal l.len) ++ codes "];\n"
-
-unfoldable pub dot_text : GraphOf → List ℕ
-dot_text g =
-    dot_head (is_directed g) g
-    ++ (flat_map (dot_vertex g) (range_with_len 0 (n_of g))
-    ++ (flat_map (dot_link (is_directed g)) (links (is_directed g) g)
-    ++ codes "}\n"))

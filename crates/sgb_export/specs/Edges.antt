@@ -1,11 +1,11 @@
--- Graphs as lists of edges, with numbers or names.
+-- Graphs as lists of edges or arcs, by numbers or by labels.
 use Rattle.std.specs.Prelude.{◌==◌, ℕ, List, [], ◌∷◌, ◌++◌, codes, length, Bool, false, ◌&&◌, not}
 use Rattle.std.specs.Cmp.Lexicographic.{pointwise}
-use Rattle.std.specs.List.{flat_map, list_all, list_any, range_with_len}
+use Rattle.std.specs.List.{list_all, list_any, range_with_len}
 use Rattle.std.specs.Fmt.{decimal, signed_decimal}
 use Rattle.sgb_graph.specs.Graph.{GraphOf, n_of, label_of}
 use Rattle.sgb_export.specs.declared.link.Link.{Link}
-use Rattle.sgb_export.specs.Links.{links, is_directed}
+use Rattle.sgb_export.specs.Links.{links}
 use Rattle.sgb_export.specs.Dot.{kind}
 
 -- # graph N M
@@ -17,17 +17,11 @@ edges_head directed g =
 abbrev pub edges_link : Link → List ℕ
 edges_link l = decimal l.from ++ codes " " ++ decimal l.to ++ codes " " ++ signed_decimal l.len ++ codes "\n"
 
-unfoldable pub edges_text : GraphOf → List ℕ
-edges_text g = edges_head (is_directed g) g ++ flat_map edges_link (links (is_directed g) g)
-
--- the same with names
+-- the same with labels
 abbrev pub named_link : GraphOf → Link → List ℕ
 named_link g l = label_of g l.from ++ codes " " ++ label_of g l.to ++ codes " " ++ signed_decimal l.len ++ codes "\n"
 
-unfoldable pub named_edges_text : GraphOf → List ℕ
-named_edges_text g = edges_head (is_directed g) g ++ flat_map (named_link g) (links (is_directed g) g)
-
--- a name that a line can hold: it is not empty, has no space, and does not begin with #
+-- a label that fits in a line: it is not empty, has no space, and does not begin with #
 abbrev pub is_plain : List ℕ → Bool
 is_plain [] = false
 is_plain (c ∷ name) = not (c == 35) && list_all (λ b. not (b == 32)) (c ∷ name)
@@ -35,7 +29,7 @@ is_plain (c ∷ name) = not (c == 35) && list_all (λ b. not (b == 32)) (c ∷ n
 abbrev pub are_plain : GraphOf → Bool
 are_plain g = list_all (λ v. is_plain (label_of g v)) (range_with_len 0 (n_of g))
 
--- no vertex before v has its name
+-- no vertex before v has its label
 abbrev pub is_new : GraphOf → ℕ → Bool
 is_new g v = not (list_any (λ w. pointwise ◌==◌ (label_of g v) (label_of g w)) (range_with_len 0 v))
 

@@ -1,10 +1,9 @@
 -- Graphs in GraphML.
 use Rattle.std.specs.Prelude.{◌==◌, ℕ, List, [], ◌∷◌, ◌++◌, codes, Bool, if◌then◌else◌}
-use Rattle.std.specs.List.{flat_map, range_with_len}
+use Rattle.std.specs.List.{flat_map}
 use Rattle.std.specs.Fmt.{decimal, signed_decimal}
-use Rattle.sgb_graph.specs.Graph.{GraphOf, n_of, label_of}
+use Rattle.sgb_graph.specs.Graph.{GraphOf, label_of}
 use Rattle.sgb_export.specs.declared.link.Link.{Link}
-use Rattle.sgb_export.specs.Links.{links, is_directed, numbered}
 
 -- &, < and > as entities
 abbrev pub entity : ℕ → List ℕ
@@ -27,22 +26,15 @@ graphml_head directed g =
     ++ codes "  <key id=\"id\" for=\"graph\" attr.name=\"id\" attr.type=\"string\"/>\n"
     ++ codes "  <key id=\"name\" for=\"node\" attr.name=\"name\" attr.type=\"string\"/>\n"
     ++ codes "  <key id=\"len\" for=\"edge\" attr.name=\"len\" attr.type=\"long\"/>\n"
-    ++ codes "  <graph id=\"G\" edgedefault=\"" ++ edge_default directed ++ codes "\">\n"
-    ++ codes "    <data key=\"id\">" ++ escaped g.id ++ codes "</data>\n"
+    ++ codes "  <graph id=\"G\" edgedefault=\"" ++ edge_default directed ++ codes "\">\n    <data key=\"id\">"
+    ++ (escaped g.id ++ codes "</data>\n")
 
 abbrev pub graphml_vertex : GraphOf → ℕ → List ℕ
 graphml_vertex g v =
-    codes "    <node id=\"v" ++ decimal v ++ codes "\"><data key=\"name\">" ++ escaped (label_of g v) ++ codes "</data></node>\n"
+    codes "    <node id=\"v" ++ decimal v ++ codes "\"><data key=\"name\">" ++ (escaped (label_of g v) ++ codes "</data></node>\n")
 
--- edges count from 0
+-- edges are numbered from 0
 abbrev pub graphml_link : ℕ → Link → List ℕ
 graphml_link k l =
     codes "    <edge id=\"e" ++ decimal k ++ codes "\" source=\"v" ++ decimal l.from ++ codes "\" target=\"v" ++ decimal l.to
     ++ codes "\"><data key=\"len\">" ++ signed_decimal l.len ++ codes "</data></edge>\n"
-
-unfoldable pub graphml_text : GraphOf → List ℕ
-graphml_text g =
-    graphml_head (is_directed g) g
-    ++ (flat_map (graphml_vertex g) (range_with_len 0 (n_of g))
-    ++ (numbered graphml_link 0 (links (is_directed g) g)
-    ++ codes "  </graph>\n</graphml>\n"))

@@ -4,4 +4,4 @@ pub mod Edges
 pub mod Export
 pub mod Graphml
 pub mod Links
-pub mod Private
+pub mod Text

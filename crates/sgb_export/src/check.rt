@@ -1,4 +1,4 @@
-//! The refusal of graphs that have no text of a format.
+//! Which graphs have no text in a format.
 ghost use Rattle.std.specs.Prelude.{◌≡◌, ◌⊎◌, IfErr, OnOk, Some, None, true};
 ghost use Rattle.std.specs.Result.{IsErrOf};
 ghost use Rattle.sgb_export.specs.Edges.{are_plain};
@@ -10,10 +10,10 @@ use sgb_graph::{Graph, Refusal};
 use sgb_operand::check_operand;
 use std::alloc::Global;
 
-/// Refuses a graph that has no text of this format, `BadOperand`: where an arc leads to no vertex; and where names are to
-/// stand for the vertices, but one is empty, has a space or begins with `#`, or two are the same.
+/// Refuses a graph that has no text in this format with `BadOperand`: if an arc leads to no vertex, and for
+/// [`Format::NamedEdges`] if a label is empty, has a space or begins with `#`, or if two labels are the same.
 ///
-/// Takes memory for an index of the names alone, where they stand for the vertices, and time of the whole graph.
+/// Allocates only an index of the labels, for `NamedEdges`; `NoRoom` if that fails. Reads the whole graph.
 pub fn check_export(alloc: Global, graph: &Graph, format: Format) -> Result<(), Refusal>
     ensures ok { OnOk result (refusal_of_export format graph.now ≡ None) }
     ensures err { IfErr result (λ e. (e ≡ Refusal.NoRoom) ⊎ (refusal_of_export format graph.now ≡ Some e)) }
@@ -26,7 +26,7 @@ pub fn check_export(alloc: Global, graph: &Graph, format: Format) -> Result<(), 
     }
 }
 
-// Refuses names that do not stand for the vertices.
+// Refuses labels that cannot stand for their vertices.
 fn check_names(alloc: Global, graph: &Graph) -> Result<(), Refusal>
     ensures ok { OnOk result (refusal_of_names Format.NamedEdges graph.now ≡ None) }
     ensures err { IfErr result (λ e. (e ≡ Refusal.NoRoom) ⊎ (refusal_of_names Format.NamedEdges graph.now ≡ Some e)) }

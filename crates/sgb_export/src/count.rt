@@ -1,4 +1,4 @@
-//! How many arcs are written.
+//! Counts the lines of edges or arcs.
 ghost use Rattle.std.specs.Prelude.{◌≡◌, ◌≤◌, ◌<◌, length};
 ghost use Rattle.sgb_graph.specs.Graph.{n_of};
 ghost use Rattle.sgb_export.specs.Links.{links, links_at};
@@ -6,7 +6,7 @@ ghost use Rattle.sgb_export.specs.Links.{links, links_at};
 use crate::link::{is_written, link_at};
 use sgb_graph::{Graph, VertexNo};
 
-// How many arcs of the graph are written.
+// Counts the arcs of the graph that are written.
 pub(crate) fn count_links(graph: &Graph, directed: bool) -> u64
     ensures { result ≡ length (links directed graph.now) }
 {
@@ -17,7 +17,7 @@ pub(crate) fn count_links(graph: &Graph, directed: bool) -> u64
     count
 }
 
-// How many arcs of the vertex are written.
+// Counts the arcs of a vertex that are written.
 fn count_links_at(graph: &Graph, vertex: VertexNo, directed: bool) -> u64
     requires { vertex.0 < n_of graph.now }
     ensures value { result ≡ length (links_at directed graph.now vertex.0) }

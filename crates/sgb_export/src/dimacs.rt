@@ -1,4 +1,4 @@
-//! Writes the parts of a text of DIMACS.
+//! The shortest-path format of DIMACS.
 ghost use Rattle.std.specs.Prelude.{◌<◌};
 ghost use Rattle.sgb_print.specs.Print.{Prints};
 ghost use Rattle.sgb_export.specs.Dimacs.{dimacs_head, dimacs_link};
@@ -10,13 +10,12 @@ use sgb_graph::Graph;
 use sgb_print::{Failed, MeteredWriter, put_all};
 use std::io::Write;
 
-// The id, and the counts.
+// Writes the id and the counts.
 pub(crate) fn put_dimacs_head<W: Write>(
     writer: &mut MeteredWriter<W>,
     graph: &Graph,
 ) -> Result<(), Failed>
-    ensures { Prints (W.contents writer.old.inner) (W.contents writer.new.inner) writer.old.failed writer.new.failed
-        result (dimacs_head graph.now) }
+    ensures { Prints writer.old writer.new result (dimacs_head graph.now) }
 {
     let mut vertex_digits = Buffer::new();
     let vertices = vertex_digits.format(graph.n()).as_bytes();
@@ -28,15 +27,14 @@ pub(crate) fn put_dimacs_head<W: Write>(
     )
 }
 
-// The line of an arc.
+// Writes the line of an arc.
 pub(crate) fn put_dimacs_link<W: Write>(
     writer: &mut MeteredWriter<W>,
     link: Link,
 ) -> Result<(), Failed>
     requires from { link.from < 65535 }
     requires to { link.to < 65535 }
-    ensures { Prints (W.contents writer.old.inner) (W.contents writer.new.inner) writer.old.failed writer.new.failed
-        result (dimacs_link link) }
+    ensures { Prints writer.old writer.new result (dimacs_link link) }
 {
     let mut from_digits = Buffer::new();
     let from = from_digits.format(link.from + 1).as_bytes();

@@ -1,4 +1,4 @@
-//! Writes the parts of a text in the language of Graphviz.
+//! The language of Graphviz.
 ghost use Rattle.std.specs.Prelude.{◌≡◌, ◌<◌};
 ghost use Rattle.sgb_graph.specs.Graph.{n_of};
 ghost use Rattle.sgb_print.specs.Print.{Prints};
@@ -10,21 +10,20 @@ use sgb_graph::{Graph, VertexNo};
 use sgb_print::{Failed, MeteredWriter, put_all};
 use std::io::Write;
 
-// What stands between the ends of an edge or arc.
+// Returns what joins the endpoints of an edge or arc.
 fn arrow(directed: bool) -> &'static str
     ensures { result.now ≡ arrow directed }
 {
     if directed { " -> " } else { " -- " }
 }
 
-// The first line.
+// Writes the first line.
 pub(crate) fn put_dot_head<W: Write>(
     writer: &mut MeteredWriter<W>,
     graph: &Graph,
     directed: bool,
 ) -> Result<(), Failed>
-    ensures { Prints (W.contents writer.old.inner) (W.contents writer.new.inner) writer.old.failed writer.new.failed
-        result (dot_head directed graph.now) }
+    ensures { Prints writer.old writer.new result (dot_head directed graph.now) }
 {
     let id = graph.id();
     if directed {
@@ -34,15 +33,14 @@ pub(crate) fn put_dot_head<W: Write>(
     }
 }
 
-// The line of a vertex.
+// Writes the line of a vertex.
 pub(crate) fn put_dot_vertex<W: Write>(
     writer: &mut MeteredWriter<W>,
     graph: &Graph,
     vertex: VertexNo,
 ) -> Result<(), Failed>
     requires { vertex.0 < n_of graph.now }
-    ensures { Prints (W.contents writer.old.inner) (W.contents writer.new.inner) writer.old.failed writer.new.failed
-        result (dot_vertex graph.now vertex.0) }
+    ensures { Prints writer.old writer.new result (dot_vertex graph.now vertex.0) }
 {
     let mut digits = Buffer::new();
     let digits = digits.format(vertex.0).as_bytes();
@@ -52,14 +50,13 @@ pub(crate) fn put_dot_vertex<W: Write>(
     )
 }
 
-// The line of an edge or arc.
+// Writes the line of an edge or arc.
 pub(crate) fn put_dot_link<W: Write>(
     writer: &mut MeteredWriter<W>,
     directed: bool,
     link: Link,
 ) -> Result<(), Failed>
-    ensures { Prints (W.contents writer.old.inner) (W.contents writer.new.inner) writer.old.failed writer.new.failed
-        result (dot_link directed link) }
+    ensures { Prints writer.old writer.new result (dot_link directed link) }
 {
     let mut from_digits = Buffer::new();
     let from = from_digits.format(link.from).as_bytes();

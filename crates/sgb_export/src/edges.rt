@@ -1,4 +1,4 @@
-//! Writes the parts of a list of edges.
+//! Lists of edges or arcs, by numbers or by labels.
 ghost use Rattle.std.specs.Prelude.{◌≡◌, ◌<◌};
 ghost use Rattle.sgb_graph.specs.Graph.{n_of};
 ghost use Rattle.sgb_print.specs.Print.{Prints};
@@ -12,21 +12,20 @@ use sgb_graph::{Graph, VertexNo};
 use sgb_print::{Failed, MeteredWriter, put_all};
 use std::io::Write;
 
-// Whether edges or arcs follow.
+// Returns the word that says whether edges or arcs follow.
 fn kind(directed: bool) -> &'static str
     ensures { result.now ≡ kind directed }
 {
     if directed { "digraph" } else { "graph" }
 }
 
-// The counts.
+// Writes the kind and the counts.
 pub(crate) fn put_edges_head<W: Write>(
     writer: &mut MeteredWriter<W>,
     graph: &Graph,
     directed: bool,
 ) -> Result<(), Failed>
-    ensures { Prints (W.contents writer.old.inner) (W.contents writer.new.inner) writer.old.failed writer.new.failed
-        result (edges_head directed graph.now) }
+    ensures { Prints writer.old writer.new result (edges_head directed graph.now) }
 {
     let mut vertex_digits = Buffer::new();
     let vertices = vertex_digits.format(graph.n()).as_bytes();
@@ -46,13 +45,12 @@ pub(crate) fn put_edges_head<W: Write>(
     )
 }
 
-// The line of an edge or arc, with numbers.
+// Writes the line of an edge or arc, by the numbers of its endpoints.
 pub(crate) fn put_edges_link<W: Write>(
     writer: &mut MeteredWriter<W>,
     link: Link,
 ) -> Result<(), Failed>
-    ensures { Prints (W.contents writer.old.inner) (W.contents writer.new.inner) writer.old.failed writer.new.failed
-        result (edges_link link) }
+    ensures { Prints writer.old writer.new result (edges_link link) }
 {
     let mut from_digits = Buffer::new();
     let from = from_digits.format(link.from).as_bytes();
@@ -63,7 +61,7 @@ pub(crate) fn put_edges_link<W: Write>(
     put_all(writer, &[from, b" ", to, b" ", len, b"\n"])
 }
 
-// The line of an edge or arc, with names.
+// Writes the line of an edge or arc, by the labels of its endpoints.
 pub(crate) fn put_named_link<W: Write>(
     writer: &mut MeteredWriter<W>,
     graph: &Graph,
@@ -71,8 +69,7 @@ pub(crate) fn put_named_link<W: Write>(
 ) -> Result<(), Failed>
     requires from { link.from < n_of graph.now }
     requires to { link.to < n_of graph.now }
-    ensures { Prints (W.contents writer.old.inner) (W.contents writer.new.inner) writer.old.failed writer.new.failed
-        result (named_link graph.now link) }
+    ensures { Prints writer.old writer.new result (named_link graph.now link) }
 {
     let mut len_digits = Buffer::new();
     let len = len_digits.format(link.len).as_bytes();

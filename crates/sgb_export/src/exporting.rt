@@ -1,4 +1,4 @@
-//! A graph in the text form of another tool.
+//! Graphs in the formats of other tools.
 ghost use Rattle.std.specs.Result.{IsErrOf};
 ghost use Rattle.sgb_export.specs.Export.{Exports, MayWant};
 
@@ -11,19 +11,19 @@ use sgb_print::MeteredWriter;
 use std::alloc::Global;
 use std::io::Write;
 
-/// Writes a graph in the text form of another tool: its vertices by their numbers or names, and each edge once where the
-/// graph is undirected, else each arc; by vertex, and in the order of its list. A graph is undirected where it is paired
-/// and the halves of each edge have one length. Utility fields are left out.
+/// Writes a graph in the format of another tool: each edge once if the graph is undirected, otherwise each arc, vertex by
+/// vertex in the order of its list. A graph is undirected if it is paired and the two halves of each edge have the same
+/// length. Utility fields are left out.
 ///
-/// Ends with `Refused` where [`check_export`] refuses the graph, and nothing is written then; with `Write` where a write
-/// fails. Takes memory for an index of the names alone, where they stand for the vertices.
+/// Fails with `Refused` if [`check_export`] refuses the graph, and then writes nothing; with `Write` if a write fails.
+/// Allocates only an index of the labels, for [`Format::NamedEdges`].
 pub fn export<W: Write>(
     alloc: Global,
     graph: &Graph,
     format: Format,
     writer: &mut MeteredWriter<W>,
 ) -> Result<(), ExportFault>
-    ensures exports { Exports W.contents format graph.now writer.old writer.new result }
+    ensures exports { Exports format graph.now writer.old writer.new result }
     ensures room { IsErrOf result (ExportFault.Refused Refusal.NoRoom) → MayWant format graph.now }
 {
     match check_export(alloc, graph, format) {

@@ -1,15 +1,15 @@
-//! How an export fails.
+//! Why an export fails.
 
 use sgb_graph::Refusal;
 use thiserror::Error;
 
-/// Why a text was not written, or not to its end.
+/// Why an export failed.
 #[derive(Clone, Copy, Debug, PartialEq, Eq, Error)]
 pub enum ExportFault {
-    /// The graph has no text of this format, or there was no room for the index of its names. Nothing was written.
+    /// The graph has no text in this format, or the index of its labels could not be allocated. Nothing was written.
     #[error("{0}")]
     Refused(Refusal),
-    /// A write failed. What was written is a front of the text.
+    /// A write failed. A front of the text was written.
     #[error("write failed")]
     Write,
 }

@@ -1,15 +1,15 @@
-//! The formats.
+//! The formats of an export.
 
-/// A text form of another tool.
+/// A text format of another tool.
 #[derive(Clone, Copy, Debug, PartialEq, Eq)]
 pub enum Format {
     /// The language of Graphviz.
     Dot,
-    /// The shortest-path form of DIMACS. Its vertices count from 1, and its arcs are directed.
+    /// The shortest-path format of DIMACS. Vertices are numbered from 1, and every arc is written.
     Dimacs,
-    /// A line for each edge or arc: its ends by their numbers, from 0, and its length.
+    /// A line for each edge or arc: the numbers of its endpoints, from 0, and its length.
     Edges,
-    /// The same, with the names of its ends.
+    /// A line for each edge or arc: the labels of its endpoints, and its length.
     NamedEdges,
     /// GraphML.
     Graphml,

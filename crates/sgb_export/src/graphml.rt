@@ -1,4 +1,4 @@
-//! Writes the parts of a GraphML document.
+//! GraphML.
 ghost use Rattle.std.specs.Prelude.{◌≡◌, ◌<◌, ◌++◌};
 ghost use Rattle.std.specs.List.{flat_map};
 ghost use Rattle.sgb_graph.specs.Graph.{n_of};
@@ -11,21 +11,20 @@ use sgb_graph::{Graph, VertexNo};
 use sgb_print::{Failed, MeteredWriter, put, put_all};
 use std::io::Write;
 
-// What the edges are where they do not say it.
+// Returns whether edges are directed by default.
 fn edge_default(directed: bool) -> &'static str
     ensures { result.now ≡ edge_default directed }
 {
     if directed { "directed" } else { "undirected" }
 }
 
-// All before the first vertex.
+// Writes all before the first vertex.
 pub(crate) fn put_graphml_head<W: Write>(
     writer: &mut MeteredWriter<W>,
     graph: &Graph,
     directed: bool,
 ) -> Result<(), Failed>
-    ensures { Prints (W.contents writer.old.inner) (W.contents writer.new.inner) writer.old.failed writer.new.failed
-        result (graphml_head directed graph.now) }
+    ensures { Prints writer.old writer.new result (graphml_head directed graph.now) }
 {
     let before: [&[u8]; 9] = [
         b"<?xml version=\"1.0\" encoding=\"UTF-8\"?>\n",
@@ -41,15 +40,14 @@ pub(crate) fn put_graphml_head<W: Write>(
     put_around(writer, &before, graph.id(), b"</data>\n")
 }
 
-// The line of a vertex.
+// Writes the line of a vertex.
 pub(crate) fn put_graphml_vertex<W: Write>(
     writer: &mut MeteredWriter<W>,
     graph: &Graph,
     vertex: VertexNo,
 ) -> Result<(), Failed>
     requires { vertex.0 < n_of graph.now }
-    ensures { Prints (W.contents writer.old.inner) (W.contents writer.new.inner) writer.old.failed writer.new.failed
-        result (graphml_vertex graph.now vertex.0) }
+    ensures { Prints writer.old writer.new result (graphml_vertex graph.now vertex.0) }
 {
     let mut digits = Buffer::new();
     let digits = digits.format(vertex.0).as_bytes();
@@ -57,14 +55,13 @@ pub(crate) fn put_graphml_vertex<W: Write>(
     put_around(writer, &before, graph.label(vertex), b"</data></node>\n")
 }
 
-// The line of an edge or arc, whose number among them it is told.
+// Writes the line of an edge or arc, which is number `number` of those written.
 pub(crate) fn put_graphml_link<W: Write>(
     writer: &mut MeteredWriter<W>,
     number: u64,
     link: Link,
 ) -> Result<(), Failed>
-    ensures { Prints (W.contents writer.old.inner) (W.contents writer.new.inner) writer.old.failed writer.new.failed
-        result (graphml_link number link) }
+    ensures { Prints writer.old writer.new result (graphml_link number link) }
 {
     let mut digits = Buffer::new();
     let digits = digits.format(number).as_bytes();
@@ -90,25 +87,23 @@ pub(crate) fn put_graphml_link<W: Write>(
     )
 }
 
-// A text with entities, and what stands before and behind it.
+// Writes a text with entities, and what is before and behind it.
 fn put_around<W: Write>(
     writer: &mut MeteredWriter<W>,
     before: &[&[u8]],
     text: &[u8],
     behind: &[u8],
 ) -> Result<(), Failed>
-    ensures { Prints (W.contents writer.old.inner) (W.contents writer.new.inner) writer.old.failed writer.new.failed
-        result (flat_map (λ piece. piece.now) before.now ++ (escaped text.now ++ behind.now)) }
+    ensures { Prints writer.old writer.new result (flat_map (λ piece. piece.now) before.now ++ (escaped text.now ++ behind.now)) }
 {
     put_all(writer, before)?;
     put_escaped(writer, text)?;
     put(writer, behind)
 }
 
-// A text with entities.
+// Writes a text with entities.
 fn put_escaped<W: Write>(writer: &mut MeteredWriter<W>, text: &[u8]) -> Result<(), Failed>
-    ensures { Prints (W.contents writer.old.inner) (W.contents writer.new.inner) writer.old.failed writer.new.failed
-        result (escaped text.now) }
+    ensures { Prints writer.old writer.new result (escaped text.now) }
 {
     for byte in text {
         put_entity(writer, *byte)?;
@@ -116,10 +111,9 @@ fn put_escaped<W: Write>(writer: &mut MeteredWriter<W>, text: &[u8]) -> Result<(
     Ok(())
 }
 
-// A byte, or the entity that stands for it.
+// Writes a byte, or the entity that stands for it.
 fn put_entity<W: Write>(writer: &mut MeteredWriter<W>, byte: u8) -> Result<(), Failed>
-    ensures { Prints (W.contents writer.old.inner) (W.contents writer.new.inner) writer.old.failed writer.new.failed
-        result (entity byte) }
+    ensures { Prints writer.old writer.new result (entity byte) }
 {
     match byte {
         b'&' => put(writer, b"&amp;"),

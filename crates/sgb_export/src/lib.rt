@@ -1,4 +1,4 @@
-//! Graphs in the text forms of other tools.
+//! Graphs in the text formats of other tools.
 #![tactic(auto)]
 
 mod check;

@@ -1,4 +1,4 @@
-//! Arcs as they are written.
+//! Edges and arcs as they are written.
 ghost use Rattle.std.specs.Prelude.{◌≡◌, ◌<◌, IsSome};
 ghost use Rattle.sgb_graph.specs.Graph.{n_of, made_of, arc_at};
 ghost use Rattle.sgb_operand.specs.Operand.{tip_number};
@@ -6,7 +6,7 @@ ghost use Rattle.sgb_export.specs.Links.{link, is_written};
 
 use sgb_graph::{ArcNo, Graph, Tip, VertexNo};
 
-// The number of an arc, the numbers of the vertices between which it leads, and its length.
+// An arc: its number, the numbers of its endpoints, and its length.
 #[derive(Clone, Copy, Debug, PartialEq, Eq)]
 pub(crate) struct Link {
     pub(crate) number: u32,
@@ -15,7 +15,7 @@ pub(crate) struct Link {
     pub(crate) len: i64,
 }
 
-// The live arc of this number, which the vertex lists.
+// Returns an arc of the vertex's list.
 pub(crate) fn link_at(graph: &Graph, vertex: VertexNo, number: ArcNo) -> Link
     requires vertex { vertex.0 < n_of graph.now }
     requires live { IsSome (arc_at graph.now number.0) }
@@ -34,7 +34,7 @@ pub(crate) fn link_at(graph: &Graph, vertex: VertexNo, number: ArcNo) -> Link
     }
 }
 
-// The number of the vertex to which a tip leads, or else 0.
+// Returns the number of the tip's vertex, or 0 if it is none.
 fn tip_number(tip: Tip) -> u32
     ensures { result ≡ tip_number tip }
 {
@@ -44,7 +44,7 @@ fn tip_number(tip: Tip) -> u32
     }
 }
 
-// The arc is written: each is, or of an edge the half that leads up.
+// Whether the arc is written: every arc if the graph is directed, otherwise the half of an edge that leads up.
 pub(crate) fn is_written(directed: bool, link: Link) -> bool
     ensures { result ≡ is_written directed link }
 {

@@ -1,4 +1,4 @@
-//! Names that stand for the vertices.
+//! Whether labels can stand for their vertices.
 ghost use Rattle.std.specs.Prelude.{◌≡◌, ◌==◌, IfOk, IfErr, not};
 ghost use Rattle.std.specs.List.{list_all};
 ghost use Rattle.sgb_export.specs.Edges.{is_plain, are_plain, are_distinct};
@@ -7,7 +7,7 @@ use indexmap::IndexSet;
 use sgb_graph::{Graph, Refusal, VertexNo};
 use std::alloc::Global;
 
-// Each name is one that a line can hold.
+// Whether each label fits in a line.
 pub(crate) fn are_plain(graph: &Graph) -> bool
     ensures { result ≡ are_plain graph.now }
 {
@@ -19,7 +19,7 @@ pub(crate) fn are_plain(graph: &Graph) -> bool
     true
 }
 
-// The name is not empty, has no space, and does not begin with `#`.
+// Whether the label is not empty, has no space, and does not begin with `#`.
 fn is_plain(name: &[u8]) -> bool
     ensures { result ≡ is_plain name.now }
 {
@@ -35,7 +35,7 @@ fn has_no_space(name: &[u8]) -> bool
     name.iter().all(|byte| *byte != b' ')
 }
 
-// No two vertices have one name. Takes memory for an index of the names, and time of the names.
+// Whether no two vertices have the same label. Allocates an index of the labels.
 pub(crate) fn are_distinct(alloc: Global, graph: &Graph) -> Result<bool, Refusal>
     ensures ok { IfOk result (λ distinct. distinct ≡ are_distinct graph.now) }
     ensures err { IfErr result (λ e. e ≡ Refusal.NoRoom) }

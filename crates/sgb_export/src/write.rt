@@ -1,10 +1,9 @@
-//! Writes the text of a graph.
+//! The text of a graph, part by part.
 ghost use Rattle.std.specs.Prelude.{◌≡◌, ◌≤◌, ◌<◌, ◌+◌, IfOk, length};
 ghost use Rattle.sgb_graph.specs.Graph.{n_of};
 ghost use Rattle.sgb_print.specs.Print.{Prints};
-ghost use Rattle.sgb_export.specs.Links.{links_at, numbered};
-ghost use Rattle.sgb_export.specs.Export.{export_text};
-ghost use Rattle.sgb_export.specs.Private.Parts.{is_directed_in, head_text, vertex_text, vertices_text, link_text, links_text, foot_text};
+ghost use Rattle.sgb_export.specs.Links.{links, links_at};
+ghost use Rattle.sgb_export.specs.Text.{export_text, is_directed_in, head_text, vertex_text, vertices_text, link_text, links_text, foot_text};
 
 use crate::Format;
 use crate::dimacs::{put_dimacs_head, put_dimacs_link};
@@ -17,18 +16,17 @@ use sgb_graph::{Graph, VertexNo};
 use sgb_print::{Failed, MeteredWriter, put};
 use std::io::Write;
 
-/// Writes the text of a graph in pieces: where it is undirected each edge once, else each arc, by vertex and in the order
-/// of its list; utility fields are left out. An arc that leads to no vertex is written as one to vertex 0:
-/// [`crate::check_export`] tells of it.
+/// Writes the text of a graph, or a front of it if a write fails: each edge once if the graph is undirected, otherwise
+/// each arc, vertex by vertex in the order of its list. Utility fields are left out. An arc that leads to no vertex is
+/// written as an arc to vertex 0; [`crate::check_export`] refuses such graphs.
 ///
-/// Takes no memory, and time of the whole graph.
+/// Does not allocate. Reads the whole graph.
 pub fn write_export<W: Write>(
     writer: &mut MeteredWriter<W>,
     graph: &Graph,
     format: Format,
 ) -> Result<(), Failed>
-    ensures { Prints (W.contents writer.old.inner) (W.contents writer.new.inner) writer.old.failed writer.new.failed
-        result (export_text format graph.now) }
+    ensures { Prints writer.old writer.new result (export_text format graph.now) }
 {
     let directed = is_directed_in(format, graph);
     put_head(writer, graph, format, directed)?;
@@ -37,7 +35,7 @@ pub fn write_export<W: Write>(
     put_foot(writer, format)
 }
 
-// Every arc is written.
+// Whether every arc is written.
 fn is_directed_in(format: Format, graph: &Graph) -> bool
     ensures { result ≡ is_directed_in format graph.now }
 {
@@ -47,15 +45,14 @@ fn is_directed_in(format: Format, graph: &Graph) -> bool
     }
 }
 
-// All before the first vertex.
+// Writes all before the first vertex.
 fn put_head<W: Write>(
     writer: &mut MeteredWriter<W>,
     graph: &Graph,
     format: Format,
     directed: bool,
 ) -> Result<(), Failed>
-    ensures { Prints (W.contents writer.old.inner) (W.contents writer.new.inner) writer.old.failed writer.new.failed
-        result (head_text format directed graph.now) }
+    ensures { Prints writer.old writer.new result (head_text format directed graph.now) }
 {
     match format {
         Format::Dot => put_dot_head(writer, graph, directed),
@@ -65,14 +62,13 @@ fn put_head<W: Write>(
     }
 }
 
-// The lines of the vertices.
+// Writes the lines of the vertices.
 fn put_vertices<W: Write>(
     writer: &mut MeteredWriter<W>,
     graph: &Graph,
     format: Format,
 ) -> Result<(), Failed>
-    ensures { Prints (W.contents writer.old.inner) (W.contents writer.new.inner) writer.old.failed writer.new.failed
-        result (vertices_text format graph.now) }
+    ensures { Prints writer.old writer.new result (vertices_text format graph.now) }
 {
     for v in 0..graph.n() {
         put_vertex(writer, graph, format, VertexNo(v))?;
@@ -80,7 +76,7 @@ fn put_vertices<W: Write>(
     Ok(())
 }
 
-// The line of a vertex, where the format has one.
+// Writes the line of a vertex, if the format has one.
 fn put_vertex<W: Write>(
     writer: &mut MeteredWriter<W>,
     graph: &Graph,
@@ -88,8 +84,7 @@ fn put_vertex<W: Write>(
     vertex: VertexNo,
 ) -> Result<(), Failed>
     requires { vertex.0 < n_of graph.now }
-    ensures { Prints (W.contents writer.old.inner) (W.contents writer.new.inner) writer.old.failed writer.new.failed
-        result (vertex_text format graph.now vertex.0) }
+    ensures { Prints writer.old writer.new result (vertex_text format graph.now vertex.0) }
 {
     match format {
         Format::Dot => put_dot_vertex(writer, graph, vertex),
@@ -98,15 +93,14 @@ fn put_vertex<W: Write>(
     }
 }
 
-// The lines of the edges or arcs.
+// Writes the lines of the edges or arcs.
 fn put_links<W: Write>(
     writer: &mut MeteredWriter<W>,
     graph: &Graph,
     format: Format,
     directed: bool,
 ) -> Result<(), Failed>
-    ensures { Prints (W.contents writer.old.inner) (W.contents writer.new.inner) writer.old.failed writer.new.failed
-        result (links_text format directed graph.now) }
+    ensures { Prints writer.old writer.new result (links_text format directed graph.now 0 (links directed graph.now)) }
 {
     let mut count = 0;
     for v in 0..graph.n() {
@@ -115,7 +109,7 @@ fn put_links<W: Write>(
     Ok(())
 }
 
-// The lines of those of one vertex, which count from `count` on. Answers the count behind them.
+// Writes the lines of those of one vertex, numbered from `count` on. Returns the number of the next line.
 fn put_links_at<W: Write>(
     writer: &mut MeteredWriter<W>,
     graph: &Graph,
@@ -126,8 +120,7 @@ fn put_links_at<W: Write>(
 ) -> Result<u64, Failed>
     requires vertex { vertex.0 < n_of graph.now }
     requires few { count ≤ 65535000000 }
-    ensures written { Prints (W.contents writer.old.inner) (W.contents writer.new.inner) writer.old.failed writer.new.failed
-        result (numbered (link_text format directed graph.now) count (links_at directed graph.now vertex.0)) }
+    ensures written { Prints writer.old writer.new result (links_text format directed graph.now count (links_at directed graph.now vertex.0)) }
     ensures count { IfOk result (λ next. next ≡ count + length (links_at directed graph.now vertex.0)) }
     ensures few { IfOk result (λ next. next ≤ count + 1000000) }
 {
@@ -143,7 +136,7 @@ fn put_links_at<W: Write>(
     Ok(next)
 }
 
-// The line of an edge or arc, whose number among them it is told.
+// Writes the line of an edge or arc, which is number `number` of those written.
 fn put_link<W: Write>(
     writer: &mut MeteredWriter<W>,
     graph: &Graph,
@@ -154,10 +147,9 @@ fn put_link<W: Write>(
 ) -> Result<(), Failed>
     requires from { link.from < n_of graph.now }
     requires to { link.to < n_of graph.now }
-    ensures { Prints (W.contents writer.old.inner) (W.contents writer.new.inner) writer.old.failed writer.new.failed
-        result (link_text format directed graph.now number link) }
+    ensures { Prints writer.old writer.new result (link_text format directed graph.now number link) }
 {
-    // It tells that there are at most 65,535 vertices.
+    // The contract of `n` says that there are at most 65,535 vertices.
     let _ = graph.n();
     match format {
         Format::Dot => put_dot_link(writer, directed, link),
@@ -168,10 +160,9 @@ fn put_link<W: Write>(
     }
 }
 
-// All behind the last edge or arc.
+// Writes all behind the last edge or arc.
 fn put_foot<W: Write>(writer: &mut MeteredWriter<W>, format: Format) -> Result<(), Failed>
-    ensures { Prints (W.contents writer.old.inner) (W.contents writer.new.inner) writer.old.failed writer.new.failed
-        result (foot_text format) }
+    ensures { Prints writer.old writer.new result (foot_text format) }
 {
     match format {
         Format::Dot => put(writer, b"}\n"),

@@ -28,8 +28,7 @@ V0 \"\" u=\"y\" z=-7
 V1 \"w\"
 ";
 
-// More arcs in a list than are printed at a time, with fields of the shortest and the longest kinds that are printed with
-// others, and with one that is printed by itself.
+// Many arcs in a list, some with fields: the longest numbers, a vertex, an arc and texts.
 const LONG: &str = "\"gb_new_graph(2)\" ZZZZZZASZZZZZZ
 2 vertices, 18 arcs, 18 numbers
 V0 \"\"

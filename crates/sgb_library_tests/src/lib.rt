@@ -3,6 +3,7 @@
 
 #[cfg(test)]
 mod combining;
+mod counter;
 #[cfg(test)]
 mod editing;
 #[cfg(test)]
@@ -21,5 +22,7 @@ mod scripts;
 mod sessions;
 #[cfg(test)]
 mod standard;
+#[cfg(test)]
+mod standing;
 #[cfg(test)]
 mod walking;

@@ -1,4 +1,3 @@
 pub mod Meter
 pub mod Print
-pub mod Private
 pub mod Show

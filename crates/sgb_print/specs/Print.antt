@@ -1,6 +1,7 @@
 -- What printing does to the bytes that a writer holds.
-use Rattle.std.specs.Prelude.{◌≡◌, ℕ, Bool, true, List, ◌++◌, Option, Result, Ok, Err}
+use Rattle.std.specs.Prelude.{◌≡◌, ℕ, true, List, ◌++◌, Option, Result, MatchResult}
 use Rattle.std.specs.Io.KnownBytes.{Appends}
+use Rattle.sgb_print.specs.Meter.{WriterUse}
 
 -- known bytes grow by a front of bs
 pub record AppendsFront (old new : Option (List ℕ)) (bs : List ℕ) : Type 0 where
@@ -9,7 +10,7 @@ pub record AppendsFront (old new : Option (List ℕ)) (bs : List ℕ) : Type 0 w
   pub whole : bs ≡ front ++ rest
   pub appends : Appends old new front
 
--- all the bytes were written, or a write failed behind a front of them
-abbrev pub Prints : {X E : Type 0} → Option (List ℕ) → Option (List ℕ) → Bool → Bool → Result X E → List ℕ → Type 0
-Prints old new failed failed' (Ok x) bs = Appends old new bs × (failed' ≡ failed)
-Prints old new failed failed' (Err e) bs = AppendsFront old new bs × (failed' ≡ true)
+-- the whole text was written, or a write failed behind a front of it
+pub record Prints {W X E : Type 0} (old new : WriterUse W) (result : Result X E) (text : List ℕ) : Type 0 where
+  pub bytes : MatchResult result (λ _. Appends old.held new.held text) (λ _. AppendsFront old.held new.held text)
+  pub failed : MatchResult result (λ _. new.failed ≡ old.failed) (λ _. new.failed ≡ true)

@@ -2,19 +2,19 @@
 
 use thiserror::Error;
 
-/// Why a program ended before its work was done. What was written is a front of what was due.
+/// Why a program ended early. What it wrote by then is a front of its whole output.
 #[derive(Clone, Copy, Debug, PartialEq, Eq, Error)]
 pub enum RunFault {
-    /// A read failed. The lines before it that were complete are answered.
+    /// A read failed. The complete lines before it are answered.
     #[error("read failed")]
     Read,
     /// A write failed.
     #[error("write failed")]
     Write,
-    /// More bytes came than are taken. Of a script the complete lines within them are answered.
+    /// The input has more than 16,777,216 bytes. A script's complete lines within them are answered.
     #[error("too long")]
     TooLong,
-    /// There was no room for the work itself, and nothing was written.
+    /// An allocation failed before the program wrote anything.
     #[error("no room")]
     NoRoom,
 }

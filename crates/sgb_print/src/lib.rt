@@ -1,8 +1,7 @@
-//! Readers and writers that remember their failures, how a program fails, and graphs as they are printed.
+//! Readers and writers that remember failures, why a program ends early, and graphs as they are printed.
 #![tactic(auto)]
 
 mod fault;
-mod line;
 mod meter;
 mod page;
 mod print;

@@ -1,4 +1,4 @@
-//! Short texts that are put together before they are written.
+//! Short texts that are put together from back to front, and then written at once.
 ghost use Rattle.std.specs.Prelude.{◌≡◌, ◌+◌, ◌≤◌, ◌++◌, [], length};
 ghost use Rattle.std.specs.Fmt.{decimal, signed_decimal};
 ghost use Rattle.sgb_print.specs.Print.{Prints};
@@ -9,50 +9,41 @@ use itoa::write_digits;
 use std::io::Write;
 use std::marker::Model;
 
-/// The most bytes of an answer that is put together.
+/// The size of a page in bytes.
 pub const PAGE_LIMIT: usize = 96;
 
-/// A text of at most `ROOM` bytes, which grows at its front and is then written by one call. It takes no memory.
+/// A text of at most 96 bytes, put together from back to front. It does not allocate.
 #[derive(Drop)]
-pub struct Page<const ROOM: usize> {
-    bytes: [u8; ROOM],
-    // Where the text begins, which goes on to the last byte.
+pub struct Page {
+    bytes: [u8; PAGE_LIMIT],
+    // Where the text begins. It ends with the last byte.
     start: usize,
 }
 
-impl<const ROOM: usize> Model for Page<ROOM> {
+impl Model for Page {
     ghost use Rattle.std.specs.Prelude.{◌≤◌, List, ℕ, drop};
 
     ghost Value = { List ℕ };
 
     ghost view = { λ p. drop p.start p.bytes };
 
-    ghost invariant = { λ p. p.start ≤ ROOM };
+    ghost invariant = { λ p. p.start ≤ 96 };
 }
 
-impl<const ROOM: usize> Page<ROOM> {
-    /// No text.
-    pub fn new() -> Self
+impl Page {
+    /// Returns an empty page.
+    pub fn new() -> Page
         ensures { result ≡ [] }
     {
         Page {
-            bytes: [0; ROOM],
-            start: ROOM,
+            bytes: [0; PAGE_LIMIT],
+            start: PAGE_LIMIT,
         }
     }
 
-    /// Takes the text away.
-    #[inline(always)]
-    pub fn clear(&mut self)
-        ensures { self.new ≡ [] }
-    {
-        self.start = ROOM;
-    }
-
-    /// Puts bytes in front.
-    #[inline]
+    /// Puts bytes in front of the text.
     pub fn prepend(&mut self, bytes: &[u8])
-        requires { length self.old + length bytes.now ≤ ROOM }
+        requires { length self.old + length bytes.now ≤ 96 }
         ensures text { self.new ≡ bytes.now ++ self.old }
         ensures count { length self.new ≡ length self.old + length bytes.now }
     {
@@ -63,20 +54,18 @@ impl<const ROOM: usize> Page<ROOM> {
         self.start = start;
     }
 
-    /// Puts the digits of a number in front.
-    #[inline]
+    /// Puts the digits of a number in front of the text.
     pub fn prepend_number(&mut self, number: u64)
-        requires { length self.old + 20 ≤ ROOM }
+        requires { length self.old + 20 ≤ 96 }
         ensures text { self.new ≡ decimal number ++ self.old }
         ensures count { length self.new ≤ length self.old + 20 }
     {
         self.start = write_digits(number, &mut self.bytes, self.start);
     }
 
-    /// Puts the digits of a number in front, and its sign where it is below 0.
-    #[inline]
+    /// Puts the digits of a number in front of the text, with a minus sign if the number is negative.
     pub fn prepend_signed(&mut self, number: i64)
-        requires { length self.old + 21 ≤ ROOM }
+        requires { length self.old + 21 ≤ 96 }
         ensures text { self.new ≡ signed_decimal number ++ self.old }
         ensures count { length self.new ≤ length self.old + 21 }
     {
@@ -86,9 +75,9 @@ impl<const ROOM: usize> Page<ROOM> {
         }
     }
 
-    /// Writes the text.
+    /// Writes the text, or a front of it where a write fails.
     pub fn print<W: Write>(&self, writer: &mut MeteredWriter<W>) -> Result<(), Failed>
-        ensures { Prints (W.contents writer.old.inner) (W.contents writer.new.inner) writer.old.failed writer.new.failed result self.now }
+        ensures { Prints writer.old writer.new result self.now }
     {
         let (_, text) = self.bytes.split_at(self.start);
         put(writer, text)

@@ -1,4 +1,3 @@
-mod Pieces
 mod Queens
 mod Reading
 mod Standard

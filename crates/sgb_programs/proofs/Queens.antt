@@ -1,18 +1,18 @@
--- The queen's graph, and what was written of it.
+-- The queen's graph, and what is printed of it.
 use Rattle.std.proofs.Common.{◌≡◌, ◌∙◌, ℕ, List, Option, Result, Ok, Err, false, ap, sym, subst}
 use Rattle.std.proofs.lemmas.Int.{to_z-of_z}
 use Rattle.std.proofs.lemmas.List.Elements.{All-get_or}
 use Rattle.std.specs.Int.{w64}
 use Rattle.std.specs.Prelude.{ℤ, negsuc, ◌<◌, Some, None, IsSome, IfSome, IfOk, FitsSigned, IsOkAnd}
 use mir.Val.{to_z, of_z}
-use Rattle.std.specs.Io.KnownBytes.{Appends}
 use Rattle.sgb_graph.specs.declared.refusal.Refusal.{Refusal}
 use Rattle.sgb_graph.specs.Graph.{GraphOf, ArcOf, n_of, made_of, arc_at, IsGraph, IsArc}
 use Rattle.sgb_graph.specs.Edit.{entry_at, arc_or, no_arc}
 use Rattle.sgb_plan.specs.Plan.{outcome_of, IsMade}
 use Rattle.sgb_make.specs.Board.{plan_of_board}
 use Rattle.sgb_combine.specs.Gunion.{plan_of_gunion}
-use Rattle.sgb_print.specs.Print.{AppendsFront}
+use Rattle.sgb_print.specs.Meter.{WriterUse}
+use Rattle.sgb_print.specs.Print.{Prints}
 use Rattle.sgb_programs.specs.Queen.{squares, united, queen_graph, queen_text}
 
 pub queen_made : (rook bishop g : GraphOf)
@@ -28,13 +28,9 @@ pub queen_answered : (rook bishop : GraphOf) (result : Result GraphOf Refusal)
 queen_answered rook bishop (Ok g) first second union = queen_made rook bishop g first second union
 queen_answered rook bishop (Err e) first second union = tt
 
-pub queen_written : (held held' : Option (List ℕ)) (g : GraphOf) → queen_graph ≡ Ok g
-    → Appends held held' (queen_text g) → IsOkAnd queen_graph (λ h. Appends held held' (queen_text h))
-queen_written held held' g made w = subst (λ o. IsOkAnd o (λ h. Appends held held' (queen_text h))) (sym made) w
-
-pub queen_cut : (held held' : Option (List ℕ)) (g : GraphOf) → queen_graph ≡ Ok g
-    → AppendsFront held held' (queen_text g) → IsOkAnd queen_graph (λ h. AppendsFront held held' (queen_text h))
-queen_cut held held' g made w = subst (λ o. IsOkAnd o (λ h. AppendsFront held held' (queen_text h))) (sym made) w
+pub queen_prints : {W X E : Type 0} {old new : WriterUse W} {result : Result X E} (g : GraphOf) → queen_graph ≡ Ok g
+    → Prints old new result (queen_text g) → IsOkAnd queen_graph (λ h. Prints old new result (queen_text h))
+queen_prints {old = old} {new} {result} g made w = subst (λ o. IsOkAnd o (λ h. Prints old new result (queen_text h))) (sym made) w
 
 -- the length of an arc, as it is read
 entry_fits : (n : ℕ) (es : List (Option ArcOf)) (o : Option ArcOf) → IsSome o → IfSome o (IsArc n es) → FitsSigned w64 (arc_or no_arc o).len

@@ -1,13 +1,14 @@
 -- What stays true while a file is read.
-use Rattle.std.proofs.Common.{◌≡◌, ◌≤◌, ◌+◌, ℕ, Bool, false, List, [], ◌∷◌, Option, length, arith, refl}
+use Rattle.std.proofs.Common.{◌≡◌, ◌≤◌, ◌+◌, ℕ, false, List, [], ◌∷◌, length, arith, refl}
 use Rattle.std.specs.Io.KnownBytes.{Consumes}
+use Rattle.sgb_print.specs.Meter.{ReaderUse}
 
 -- the bytes so far are taken, and so many more may be
-pub record Reading (limit : ℕ) (left left' : Option (List ℕ)) (failed : Bool) (reads : ℕ) (file : List ℕ) (room : ℕ) : Type 0 where
-  pub taken : Consumes left left' file
+pub record Reading {R : Type 0} (limit : ℕ) (old new : ReaderUse R) (file : List ℕ) (room : ℕ) : Type 0 where
+  pub taken : Consumes old.left new.left file
   pub rest : length file + room ≡ limit
-  pub seldom : reads ≤ length file
-  pub reader : failed ≡ false
+  pub seldom : new.reads ≤ length file
+  pub reader : new.failed ≡ false
 
 pub one_byte : (bytes : List ℕ) → length bytes ≡ 1 → (more : ℕ) × (bytes ≡ more ∷ [])
 one_byte [] e = absurd (omega arith)

@@ -1,20 +1,38 @@
 -- Lines that are joined of words, and what an empty session makes of them.
-use Rattle.std.proofs.Common.{◌≡◌, ◌∙◌, ◌<◌, ◌≤◌, ◌+◌, ℕ, List, [], ◌∷◌, ◌++◌, Bor, Option, None, Some, Result, Ok, Err, length, get_or, drop, drop-cons, add-one, map, ap, sym, subst, inl, inr, refl, append_assoc, append-nil, codes}
+use Rattle.std.proofs.Common.{◌≡◌, ◌∙◌, ◌<◌, ◌≤◌, ◌+◌, ℕ, List, [], ◌∷◌, ◌++◌, Bor, Option, None, Some, Result, Ok, Err, length, get_or, drop, drop-cons, add-one, map, ap, sym, subst, inl, inr, refl, append_assoc, append-nil, codes, arith, true}
 use Rattle.std.proofs.Math.ListN.{drop_of_length-le}
 use Rattle.std.specs.Prelude.{◌⊎◌, IsOkAnd, IfOk, IfErr}
 use Rattle.std.specs.List.{flat_map}
-use Rattle.std.specs.Io.KnownBytes.{Appends}
 use Rattle.sgb_graph.specs.Graph.{GraphOf}
-use Rattle.sgb_print.specs.Print.{AppendsFront}
+use Rattle.sgb_print.specs.Meter.{WriterUse}
+use Rattle.sgb_print.specs.Print.{Prints}
 use Rattle.sgb_script.specs.Line.{line_of}
 use Rattle.sgb_script.specs.declared.command.Line.{Line}
 use Rattle.sgb_script.specs.declared.command.Line.TheVariants as lines
-use Rattle.sgb_script.specs.declared.command.Command.{Command}
+use Rattle.sgb_script.specs.declared.command.Single.{Single}
 use Rattle.sgb_script.specs.declared.refusal.ShellRefusal.{ShellRefusal}
 use Rattle.sgb_script.specs.declared.refusal.ShellRefusal.TheVariants as refusals
 use Rattle.sgb_text.specs.Clean.{clean_of}
 use Rattle.sgb_text.specs.Save.{text_of}
-use Rattle.sgb_programs.specs.Made.{made_by, made_line, made_of_words}
+use Rattle.sgb_plan.specs.declared.part.Seed.TheVariants as seeds
+use Rattle.sgb_graph.specs.declared.refusal.Refusal.{Refusal}
+use Rattle.sgb_script.specs.declared.command.Command.TheVariants.{One}
+use Rattle.sgb_script.specs.declared.command.Maker.{Maker}
+use Rattle.sgb_script.specs.declared.command.Maker.TheVariants as makers
+use Rattle.sgb_script.specs.declared.command.Single.TheVariants.{Make}
+use Rattle.sgb_script.specs.declared.command.Single.TheVariants as singles
+use Rattle.sgb_session.specs.Command.{step}
+use Rattle.sgb_session.specs.State.{State, StepOutcome, empty, entering}
+use Rattle.sgb_session.specs.State.{step as single_step}
+use Rattle.sgb_session.specs.declared.reply.Delta.{Delta}
+use Rattle.sgb_session.specs.declared.reply.Delta.TheVariants as deltas
+use Rattle.sgb_session.specs.declared.reply.Reply.{Reply}
+use Rattle.sgb_session.specs.declared.reply.Reply.TheVariants as replies
+use Rattle.sgb_session.specs.declared.reply.SingleDelta.{SingleDelta}
+use Rattle.sgb_session.specs.declared.reply.SingleReply.{SingleReply}
+use Rattle.sgb_undo.specs.Group.{answered_as}
+use Rattle.sgb_undo.specs.Outcome.{Accepted, Refused}
+use Rattle.sgb_programs.specs.Made.{is_standard, made_by, made_line, made_of_words}
 
 -- ---- the line
 
@@ -49,13 +67,13 @@ line_joined line line' command ws front whole =
 -- ---- what it makes
 
 -- the outcome of a line is that of the command that it is read as
-pub line_changes : (text : Result (List ℕ) ShellRefusal) (read : Option Line) (l : Line) (c : Command) → read ≡ Some l → l ≡ lines.Change c
+pub line_changes : (text : Result (List ℕ) ShellRefusal) (read : Option Line) (l : Line) (c : Single) → read ≡ Some l → l ≡ lines.Change c
     → IfOk text (λ t. IsOkAnd (made_by (Some (lines.Change c))) (λ g. t ≡ text_of (clean_of g)))
     → IfOk text (λ t. IsOkAnd (made_by read) (λ g. t ≡ text_of (clean_of g)))
 line_changes text read l c same change =
     subst (λ o. IfOk text (λ t. IsOkAnd (made_by o) (λ g. t ≡ text_of (clean_of g)))) (sym (same ∙ ap Some change))
 
-pub change_refused : (text : Result (List ℕ) ShellRefusal) (read : Option Line) (l : Line) (c : Command) → read ≡ Some l → l ≡ lines.Change c
+pub change_refused : (text : Result (List ℕ) ShellRefusal) (read : Option Line) (l : Line) (c : Single) → read ≡ Some l → l ≡ lines.Change c
     → IfErr text (λ r. (r ≡ refusals.NoRoom) ⊎ (made_by (Some (lines.Change c)) ≡ Err r))
     → IfErr text (λ r. (r ≡ refusals.NoRoom) ⊎ (made_by read ≡ Err r))
 change_refused text read l c same change =
@@ -68,17 +86,17 @@ line_refused read r (inl bad) = inr (ap made_by bad.1 ∙ ap Err (sym bad.0))
 line_refused read r (inr room) = inl room.0
 
 -- a line that is no command
-not_changed : (l : Line) → ((c : Command) → l ≡ lines.Change c → ⊥) → made_by (Some l) ≡ Err refusals.ScriptSyntax
+not_changed : (l : Line) → ((c : Single) → l ≡ lines.Change c → ⊥) → made_by (Some l) ≡ Err refusals.ScriptSyntax
 not_changed (lines.Change c) other = absurd (other c refl)
 not_changed lines.Nothing other = refl
 not_changed lines.Undo other = refl
 not_changed lines.Redo other = refl
-not_changed (lines.Ask query) other = refl
+not_changed (lines.Query query) other = refl
 not_changed (lines.Load name rule) other = refl
 not_changed lines.Group other = refl
 not_changed lines.End other = refl
 
-pub other_line : (read : Option Line) (l : Line) → read ≡ Some l → ((c : Command) → l ≡ lines.Change c → ⊥) → made_by read ≡ Err refusals.ScriptSyntax
+pub other_line : (read : Option Line) (l : Line) → read ≡ Some l → ((c : Single) → l ≡ lines.Change c → ⊥) → made_by read ≡ Err refusals.ScriptSyntax
 other_line read l same other = ap made_by same ∙ not_changed l other
 
 -- ---- what the words make
@@ -92,13 +110,46 @@ pub refused_otherwise : (made : Result GraphOf ShellRefusal) (r : ShellRefusal) 
 refused_otherwise made r other (inl none) = absurd (other none)
 refused_otherwise made r other (inr same) = same
 
--- the text that is written is that of the graph
-pub whole_made : (held held' : Option (List ℕ)) (text : List ℕ) (made : Result GraphOf ShellRefusal) → IsOkAnd made (λ g. text ≡ text_of (clean_of g))
-    → Appends held held' text → IsOkAnd made (λ g. Appends held held' (text_of (clean_of g)))
-whole_made held held' text (Ok g) same w = subst (Appends held held') same w
-whole_made held held' text (Err r) same w = elim same [ ]
+-- the text that is printed is that of the graph
+pub whole_made : {W X E : Type 0} (old new : WriterUse W) (result : Result X E) (text : List ℕ) (made : Result GraphOf ShellRefusal)
+    → IsOkAnd made (λ g. text ≡ text_of (clean_of g)) → Prints old new result text → IsOkAnd made (λ g. Prints old new result (text_of (clean_of g)))
+whole_made old new result text (Ok g) same w = subst (Prints old new result) same w
+whole_made old new result text (Err r) same w = elim same [ ]
 
-pub front_made : (held held' : Option (List ℕ)) (text : List ℕ) (made : Result GraphOf ShellRefusal) → IsOkAnd made (λ g. text ≡ text_of (clean_of g))
-    → AppendsFront held held' text → IsOkAnd made (λ g. AppendsFront held held' (text_of (clean_of g)))
-front_made held held' text (Ok g) same w = subst (AppendsFront held held') same w
-front_made held held' text (Err r) same w = elim same [ ]
+-- ---- the session that makes it
+
+one_back : (o : StepOutcome) (s : State) (d : Delta) (r : Reply) → answered_as deltas.One replies.One o ≡ Accepted s d r → (e : SingleDelta) × (q : SingleReply) × (o ≡ Accepted s e q)
+one_back (Accepted n e q) s d r h = (e, q, cc)
+one_back (Refused f) s d r h = absurd cc
+
+entered : (name : List ℕ) (m : Maker) (made : Result GraphOf Refusal) (s : State) (e : SingleDelta) (q : SingleReply)
+    → entering empty name m made ≡ Accepted s e q → 0 < length s.table
+entered name m (Ok g) s e q h =
+    let table : s.table ≡ record { name = name; graph = g } ∷ [] = cc in omega (arith, ap length table)
+entered name m (Err r) s e q h = absurd cc
+
+filled : (c : Single) (s : State) (e : SingleDelta) (q : SingleReply) → is_standard c ≡ true → single_step empty c ≡ Accepted s e q → 0 < length s.table
+filled (Make name (makers.Empty n)) s e q standard h = entered name (makers.Empty n) _ s e q h
+filled (Make name (makers.Board spec)) s e q standard h = entered name (makers.Board spec) _ s e q h
+filled (Make name (makers.Simplex spec)) s e q standard h = entered name (makers.Simplex spec) _ s e q h
+filled (Make name (makers.Subsets spec)) s e q standard h = entered name (makers.Subsets spec) _ s e q h
+filled (Make name (makers.Perms spec)) s e q standard h = entered name (makers.Perms spec) _ s e q h
+filled (Make name (makers.Binary spec)) s e q standard h = entered name (makers.Binary spec) _ s e q h
+filled (Make name (makers.Random spec (seeds.Number n))) s e q standard h = entered name (makers.Random spec (seeds.Number n)) _ s e q h
+filled (Make name (makers.Random spec seeds.Current)) s e q standard h = entered name (makers.Random spec seeds.Current) _ s e q h
+filled (Make name (makers.Complement g spec)) s e q standard h = absurd cc
+filled (Make name (makers.Gunion g k spec)) s e q standard h = absurd cc
+filled (Make name (makers.Intersection g k directed)) s e q standard h = absurd cc
+filled (Make name (makers.Product g k spec)) s e q standard h = absurd cc
+filled (Make name (makers.Induced g t spec)) s e q standard h = absurd cc
+filled (Make name (makers.Load t rule)) s e q standard h = absurd cc
+filled (singles.Seed n) s e q standard h = absurd cc
+filled singles.Next s e q standard h = absurd cc
+filled (singles.Unif m) s e q standard h = absurd cc
+filled (singles.Edit name edit) s e q standard h = absurd cc
+filled (singles.Lengths name spec seed) s e q standard h = absurd cc
+filled (singles.Drop name) s e q standard h = absurd cc
+
+-- the session has the graph
+pub session_filled : (c : Single) (s : State) (d : Delta) (r : Reply) → is_standard c ≡ true → step empty (One c) ≡ Accepted s d r → 0 < length s.table
+session_filled c s d r standard h = let back = one_back (single_step empty c) s d r h in filled c s back.0 back.1 standard back.2

@@ -1,15 +1,16 @@
--- What is written of a saved text in the text form of another tool.
-use Rattle.std.specs.Prelude.{◌≡◌, ℕ, List, [], Option, Some, None, Bool, true, false, Result, Ok, Err, IsOkAnd}
-use Rattle.std.specs.Io.KnownBytes.{Appends}
+-- What is written of a saved text in the format of another tool.
+use Rattle.std.specs.Prelude.{◌≡◌, ℕ, List, Option, Some, None, Result, Ok, Err, IsOkAnd}
 use Rattle.sgb_graph.specs.declared.refusal.Refusal.{Refusal}
 use Rattle.sgb_graph.specs.Graph.{GraphOf}
-use Rattle.sgb_print.specs.Print.{AppendsFront}
+use Rattle.sgb_print.specs.Meter.{WriterUse}
+use Rattle.sgb_print.specs.Print.{Prints}
 use Rattle.sgb_print.specs.declared.fault.RunFault.{RunFault}
-use Rattle.sgb_print.specs.declared.fault.RunFault.TheVariants as faults
 use Rattle.sgb_text.specs.declared.restoring.CheckRule.{CheckRule}
 use Rattle.sgb_text.specs.Read.{read_as}
 use Rattle.sgb_export.specs.declared.format.Format.{Format}
-use Rattle.sgb_export.specs.Export.{export_text, refusal_of_export}
+use Rattle.sgb_export.specs.Export.{refusal_of_export}
+use Rattle.sgb_export.specs.Text.{export_text}
+use Rattle.sgb_programs.specs.Ends.{UnlessNoRoom}
 
 -- the text, unless it is refused
 abbrev pub text_unless : Option Refusal → List ℕ → Result (List ℕ) Refusal
@@ -25,12 +26,7 @@ text_in format (Err e) = Err e
 unfoldable pub exported : CheckRule → Format → List ℕ → Result (List ℕ) Refusal
 exported rule format text = text_in format (read_as rule text)
 
--- What was done about a text or its refusal: the text was written, or nothing. `held` are the bytes of the writer before
--- and after, and the truth value tells whether a write failed.
-abbrev pub ExportsText : Result (List ℕ) Refusal → Option (List ℕ) → Option (List ℕ) → Bool → Result (Result (Unit {0}) Refusal) RunFault → Type 0
-ExportsText made held held' failed (Ok (Ok x)) = IsOkAnd made (Appends held held') × (failed ≡ false)
-ExportsText made held held' failed (Ok (Err e)) = (made ≡ Err e) × Appends held held' [] × (failed ≡ false)
-ExportsText made held held' failed (Err faults.Write) = IsOkAnd made (AppendsFront held held') × (failed ≡ true)
-ExportsText made held held' failed (Err faults.NoRoom) = Appends held held' [] × (failed ≡ false)
-ExportsText made held held' failed (Err faults.Read) = ⊥
-ExportsText made held held' failed (Err faults.TooLong) = ⊥
+-- the text is printed, or the refusal is the answer and nothing is written
+abbrev pub ExportsText : {W : Type 0} → Result (List ℕ) Refusal → WriterUse W → WriterUse W → Result (Result (Unit {0}) Refusal) RunFault → Type 0
+ExportsText made old new (Ok (Err e)) = (made ≡ Err e) × (new ≡ old)
+ExportsText made old new result = UnlessNoRoom old new result (IsOkAnd made (Prints old new result))

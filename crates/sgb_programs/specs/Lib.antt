@@ -1,4 +1,5 @@
 pub mod Checked
+pub mod Ends
 pub mod Exported
 pub mod File
 pub mod Made

@@ -1,8 +1,7 @@
 -- The queen's moves on a board of 3 by 4, and how they are printed.
-use Rattle.std.specs.Prelude.{◌≡◌, ℕ, ℤ, pos, negsuc, List, [], ◌++◌, codes, Option, Bool, true, false, Result, Ok, Err, IsOkAnd}
+use Rattle.std.specs.Prelude.{ℕ, ℤ, pos, negsuc, List, ◌++◌, codes, false, Result, Ok, Err, IsOkAnd}
 use Rattle.std.specs.List.{flat_map, range_with_len}
 use Rattle.std.specs.Fmt.{decimal, signed_decimal}
-use Rattle.std.specs.Io.KnownBytes.{Appends}
 use Rattle.sgb_graph.specs.declared.field.Tip.{Tip}
 use Rattle.sgb_graph.specs.declared.field.Tip.TheVariants.{Zero, One, To}
 use Rattle.sgb_graph.specs.declared.refusal.Refusal.{Refusal}
@@ -12,9 +11,10 @@ use Rattle.sgb_plan.specs.Plan.{outcome_of}
 use Rattle.sgb_make.specs.declared.spec.BoardSpec.{BoardSpec}
 use Rattle.sgb_make.specs.Board.{plan_of_board}
 use Rattle.sgb_combine.specs.Gunion.{plan_of_gunion}
-use Rattle.sgb_print.specs.Print.{AppendsFront}
+use Rattle.sgb_print.specs.Meter.{WriterUse}
+use Rattle.sgb_print.specs.Print.{Prints}
 use Rattle.sgb_print.specs.declared.fault.RunFault.{RunFault}
-use Rattle.sgb_print.specs.declared.fault.RunFault.TheVariants as faults
+use Rattle.sgb_programs.specs.Ends.{UnlessNoRoom}
 
 -- a board of 3 by 4 for this piece
 abbrev pub squares : ℤ → BoardSpec
@@ -59,11 +59,6 @@ heading g =
 unfoldable pub queen_text : GraphOf → List ℕ
 queen_text g = heading g ++ squares_text g
 
--- What the program wrote. `held` are the bytes of its writer before and after, and the truth value tells whether a
--- write failed.
-abbrev pub ShowsQueen : {X : Type 0} → Option (List ℕ) → Option (List ℕ) → Bool → Result X RunFault → Type 0
-ShowsQueen held held' failed (Ok x) = IsOkAnd queen_graph (λ g. Appends held held' (queen_text g)) × (failed ≡ false)
-ShowsQueen held held' failed (Err faults.Write) = IsOkAnd queen_graph (λ g. AppendsFront held held' (queen_text g)) × (failed ≡ true)
-ShowsQueen held held' failed (Err faults.NoRoom) = Appends held held' [] × (failed ≡ false)
-ShowsQueen held held' failed (Err faults.Read) = ⊥
-ShowsQueen held held' failed (Err faults.TooLong) = ⊥
+-- the moves on the queen's graph are printed
+abbrev pub ShowsQueen : {W X : Type 0} → WriterUse W → WriterUse W → Result X RunFault → Type 0
+ShowsQueen old new result = UnlessNoRoom old new result (IsOkAnd queen_graph (λ g. Prints old new result (queen_text g)))

@@ -1,5 +1,5 @@
 //! The check of a saved text.
-ghost use Rattle.std.specs.Prelude.{◌≡◌, false};
+ghost use Rattle.sgb_print.specs.Meter.{fresh_writer};
 ghost use Rattle.sgb_print.specs.Print.{Prints};
 ghost use Rattle.sgb_programs.specs.Checked.{checked_text, refused_text, Checks};
 
@@ -11,28 +11,26 @@ use sgb_text::{CheckRule, restore};
 use std::alloc::Global;
 use std::io::Write;
 
-/// Tells whether a text is a saved graph: [`check_metered`] with a meter of its own.
+/// Checks whether a text is a saved graph, as [`check_metered`] does, on a writer that it wraps itself.
 pub fn check<W: Write>(alloc: Global, text: &[u8], rule: CheckRule, writer: W) -> Finished<bool, W>
-    ensures checks { Checks rule text.now (W.contents writer) (W.contents result.writer.inner) result.writer.failed result.end }
+    ensures checks { Checks rule text.now (fresh_writer W.contents writer) result.writer result.end }
 {
     let mut writer = MeteredWriter::new(writer);
     let end = check_metered(alloc, text, rule, &mut writer);
     Finished { end, writer }
 }
 
-/// Tells whether a text is a saved graph. Where it is, the id and the counts are written, and the answer is true; where
-/// it is refused, the refusal's number and text are written, and the answer is false.
+/// Checks whether a text is a saved graph. Writes the graph's id and counts and returns true, or writes the number and
+/// text of the refusal and returns false.
 ///
-/// Ends with `NoRoom` where there is no room for the graph, and nothing is written then; with `Write` where a write
-/// fails. Nothing else is a fault of it.
+/// Fails with `NoRoom` if the graph cannot be allocated, and then writes nothing; with `Write` if a write fails.
 pub fn check_metered<W: Write>(
     alloc: Global,
     text: &[u8],
     rule: CheckRule,
     writer: &mut MeteredWriter<W>,
 ) -> Result<bool, RunFault>
-    requires { writer.old.failed ≡ false }
-    ensures checks { Checks rule text.now (W.contents writer.old.inner) (W.contents writer.new.inner) writer.new.failed result }
+    ensures checks { Checks rule text.now writer.old writer.new result }
 {
     match restore(alloc, text, rule) {
         Ok(graph) => match print_checked(writer, &graph) {
@@ -49,10 +47,9 @@ pub fn check_metered<W: Write>(
     }
 }
 
-// The id, and the counts.
+// Prints the id and the counts.
 fn print_checked<W: Write>(writer: &mut MeteredWriter<W>, graph: &Graph) -> Result<(), Failed>
-    ensures { Prints (W.contents writer.old.inner) (W.contents writer.new.inner) writer.old.failed writer.new.failed
-        result (checked_text graph.now) }
+    ensures { Prints writer.old writer.new result (checked_text graph.now) }
 {
     let mut vertex_digits = Buffer::new();
     let mut arc_digits = Buffer::new();
@@ -73,10 +70,9 @@ fn print_checked<W: Write>(writer: &mut MeteredWriter<W>, graph: &Graph) -> Resu
     )
 }
 
-// The refusal's number and text.
+// Prints the refusal's number and text.
 fn print_refused<W: Write>(writer: &mut MeteredWriter<W>, refusal: Refusal) -> Result<(), Failed>
-    ensures { Prints (W.contents writer.old.inner) (W.contents writer.new.inner) writer.old.failed writer.new.failed
-        result (refused_text refusal) }
+    ensures { Prints writer.old writer.new result (refused_text refusal) }
 {
     let mut digits = Buffer::new();
     put_all(

@@ -1,5 +1,6 @@
 //! The export of a saved text.
-ghost use Rattle.std.specs.Prelude.{◌≡◌, ◌≢◌, false, Err, IfOk, IfErr};
+ghost use Rattle.std.specs.Prelude.{◌≡◌, ◌≢◌, Err, IfOk, IfErr};
+ghost use Rattle.sgb_print.specs.Meter.{fresh_writer};
 ghost use Rattle.sgb_programs.specs.Exported.{exported, ExportsText};
 
 use crate::finished::Finished;
@@ -10,7 +11,8 @@ use sgb_text::{CheckRule, restore};
 use std::alloc::Global;
 use std::io::Write;
 
-/// Writes the graph of a saved text in the text form of another tool: [`export_text_metered`] with a meter of its own.
+/// Writes the graph of a saved text in the format of another tool, as [`export_text_metered`] does, on a writer that it
+/// wraps itself.
 pub fn export_text<W: Write>(
     alloc: Global,
     text: &[u8],
@@ -19,18 +21,18 @@ pub fn export_text<W: Write>(
     writer: W,
 ) -> Finished<Result<(), Refusal>, W>
     ensures exports { ExportsText (exported rule format text.now)
-        (W.contents writer) (W.contents result.writer.inner) result.writer.failed result.end }
+        (fresh_writer W.contents writer) result.writer result.end }
 {
     let mut writer = MeteredWriter::new(writer);
     let end = export_text_metered(alloc, text, rule, format, &mut writer);
     Finished { end, writer }
 }
 
-/// Writes the graph that a saved text is read as, in the text form of another tool.
+/// Writes the graph of a saved text in the format of another tool. Returns a refusal, and writes nothing, if the text is
+/// refused under this rule or its graph has no text in this format.
 ///
-/// Answers a refusal where the text is refused under this rule, or its graph has no text of this format, and nothing is
-/// written then. Ends with `NoRoom` where there is no room for the graph or for an index of its names, and nothing is
-/// written then; with `Write` where a write fails. Nothing else is a fault of it.
+/// Fails with `NoRoom` if the graph or the index of its labels cannot be allocated, and then writes nothing; with `Write`
+/// if a write fails.
 pub fn export_text_metered<W: Write>(
     alloc: Global,
     text: &[u8],
@@ -38,9 +40,8 @@ pub fn export_text_metered<W: Write>(
     format: Format,
     writer: &mut MeteredWriter<W>,
 ) -> Result<Result<(), Refusal>, RunFault>
-    requires { writer.old.failed ≡ false }
     ensures exports { ExportsText (exported rule format text.now)
-        (W.contents writer.old.inner) (W.contents writer.new.inner) writer.new.failed result }
+        writer.old writer.new result }
 {
     match restore(alloc, text, rule) {
         Ok(graph) => match export(alloc, &graph, format, writer) {
@@ -52,7 +53,7 @@ pub fn export_text_metered<W: Write>(
     }
 }
 
-// Want of memory is a fault, and each other refusal is the answer.
+// Makes a fault of a failed allocation, and an answer of each other refusal.
 fn refused(refusal: Refusal) -> Result<Result<(), Refusal>, RunFault>
     ensures answer { IfOk result (λ answer. (answer ≡ Err refusal) × (refusal ≢ Refusal.NoRoom)) }
     ensures fault { IfErr result (λ fault. fault ≡ RunFault.NoRoom) }

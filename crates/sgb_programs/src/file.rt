@@ -1,4 +1,4 @@
-//! Reads a whole file.
+//! Whole files.
 ghost use Rattle.std.specs.Prelude.{◌≡◌, false};
 ghost use Rattle.sgb_programs.specs.File.{ReadsFile};
 
@@ -6,17 +6,18 @@ use sgb_print::{MeteredReader, RunFault};
 use std::alloc::Global;
 use std::io::Read;
 
-/// The most bytes of a file that is checked.
+/// The greatest size in bytes of a file that is checked.
 pub const FILE_LIMIT: u32 = 16_777_216;
 
-/// The most bytes of a file that is exported.
+/// The greatest size in bytes of a file that is exported.
 pub const EXPORT_LIMIT: u32 = 268_435_456;
 
 const CHUNK: usize = 4096;
 
-/// All the bytes that the reader gives. At most `limit` bytes are taken, and one further read tells whether more follow;
-/// where they do it ends with `TooLong`. Ends with `Read` where a read fails, and with `NoRoom` where memory for the
-/// bytes is refused.
+/// Reads a whole file of at most `limit` bytes.
+///
+/// Fails with `TooLong` if the file has more bytes, of which it reads one; with `Read` if a read fails; with `NoRoom` if
+/// the bytes cannot be allocated.
 pub fn read_file<R: Read>(
     alloc: Global,
     reader: &mut MeteredReader<R>,
@@ -24,7 +25,7 @@ pub fn read_file<R: Read>(
 ) -> Result<Vec<u8>, RunFault>
     requires unread { reader.old.reads ≡ 0 }
     requires reader { reader.old.failed ≡ false }
-    ensures reads { ReadsFile limit (R.remaining reader.old.inner) (R.remaining reader.new.inner) reader.new.failed reader.new.reads result }
+    ensures reads { ReadsFile limit reader.old reader.new result }
 {
     let mut file = Vec::new(alloc);
     let mut chunk = [0u8; CHUNK];

@@ -1,12 +1,13 @@
-//! How a program ended.
+//! The result of a program.
 
 use sgb_print::{MeteredWriter, RunFault};
+use std::io::Write;
 
-/// What came of a program, with the writer that it was given.
+/// The result of a program, with its writer.
 #[derive(Debug, Drop)]
-pub struct Finished<T, W> {
-    /// What came of it.
+pub struct Finished<T, W: Write> {
+    /// The program's answer, or why it ended early.
     pub end: Result<T, RunFault>,
-    /// The writer, and how it was used.
+    /// The writer, and whether a write failed.
     pub writer: MeteredWriter<W>,
 }

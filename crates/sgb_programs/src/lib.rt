@@ -1,4 +1,4 @@
-//! The programs beside the script: the queen's moves, the check of a saved text, its export, and graphs that words make.
+//! The programs other than the script: the queen's moves, checks and exports of saved texts, and graphs made by words.
 #![tactic(auto)]
 
 mod checking;

@@ -1,6 +1,7 @@
 //! Graphs that are made by the words of a command line.
-ghost use Rattle.std.specs.Prelude.{◌≡◌, ◌⊎◌, ◌∷◌, ◌++◌, map, false, Some, Err, IfOk, IfErr, OnOk, IsOkAnd};
+ghost use Rattle.std.specs.Prelude.{◌≡◌, ◌⊎◌, ◌∷◌, ◌++◌, map, Some, Err, IfOk, IfErr, OnOk, IsOkAnd};
 ghost use Rattle.std.specs.List.{flat_map};
+ghost use Rattle.sgb_print.specs.Meter.{fresh_writer};
 ghost use Rattle.sgb_script.specs.Line.{line_of};
 ghost use Rattle.sgb_script.specs.declared.command.Line.TheVariants.{Change};
 ghost use Rattle.sgb_text.specs.Clean.{clean_of};
@@ -10,14 +11,14 @@ ghost use Rattle.sgb_programs.specs.Made.{made_line, made_by, made_of_words, is_
 use crate::finished::Finished;
 use sgb_graph::Items;
 use sgb_print::{MeteredWriter, RunFault, put};
-use sgb_script::{Command, Line, Maker, ShellRefusal, parse};
+use sgb_script::{Command, Line, Maker, ShellRefusal, Single, parse};
 use sgb_session::Session;
 use sgb_text::save;
 use sgb_undo::Reversible;
 use std::alloc::{AllocError, Global};
 use std::io::Write;
 
-/// Writes the saved text of a graph: [`make_metered`] with a meter of its own.
+/// Writes the saved text of a graph, as [`make_metered`] does, on a writer that it wraps itself.
 pub fn make<W: Write>(
     alloc: Global,
     command: &[u8],
@@ -25,29 +26,28 @@ pub fn make<W: Write>(
     writer: W,
 ) -> Finished<Result<(), ShellRefusal>, W>
     ensures makes { Makes (made_of_words command.now (map (λ word. word.now) words.now))
-        (W.contents writer) (W.contents result.writer.inner) result.writer.failed result.end }
+        (fresh_writer W.contents writer) result.writer result.end }
 {
     let mut writer = MeteredWriter::new(writer);
     let end = make_metered(alloc, command, words, &mut writer);
     Finished { end, writer }
 }
 
-/// Writes the saved text of the graph that a command makes with these words, as a line of a script would with a name
-/// before them: `graph`, a standard graph or a random one. The session is an empty one.
+/// Writes the saved text of the graph that a command makes with these words in an empty session, as a line of a script
+/// with a name before the words does: `graph`, a standard graph or a random graph. Returns a refusal, and writes nothing,
+/// if the line is none of these or is refused.
 ///
-/// Answers a refusal where the line is none of them, or is refused, and nothing is written then. Ends with `NoRoom`
-/// where there is no room for the line, the graph or its text, and nothing is written then; with `Write` where a write
-/// fails. Nothing else is a fault of it.
-#[tactic(auto, using(crate::proofs::Standard::whole_made, crate::proofs::Standard::front_made, crate::proofs::Standard::refused_otherwise))]
+/// Fails with `NoRoom` if the line, the graph or its text cannot be allocated, and then writes nothing; with `Write` if a
+/// write fails.
+#[tactic(auto, using(crate::proofs::Standard::whole_made, crate::proofs::Standard::refused_otherwise))]
 pub fn make_metered<W: Write>(
     alloc: Global,
     command: &[u8],
     words: &[&[u8]],
     writer: &mut MeteredWriter<W>,
 ) -> Result<Result<(), ShellRefusal>, RunFault>
-    requires { writer.old.failed ≡ false }
     ensures makes { Makes (made_of_words command.now (map (λ word. word.now) words.now))
-        (W.contents writer.old.inner) (W.contents writer.new.inner) writer.new.failed result }
+        writer.old writer.new result }
 {
     match text_made(alloc, command, words) {
         Ok(text) => match put(writer, text.as_slice()) {
@@ -101,22 +101,22 @@ fn text_of_line(alloc: Global, line: &[u8]) -> Result<Items<u8>, ShellRefusal>
     ensures err { IfErr result (λ r. (r ≡ ShellRefusal.NoRoom) ⊎ (made_by (line_of line.now) ≡ Err r)) }
 {
     match parse(alloc, line) {
-        Ok(Line::Change(command)) => text_after(alloc, &command),
+        Ok(Line::Change(single)) => text_after(alloc, single),
         Err(refusal) => Err(refusal),
         Ok(_) => Err(ShellRefusal::ScriptSyntax),
     }
 }
 
 // The saved text of the graph that a command makes in an empty session.
-fn text_after(alloc: Global, command: &Command) -> Result<Items<u8>, ShellRefusal>
-    ensures ok { IfOk result (λ text. IsOkAnd (made_by (Some (Change command.now))) (λ g. text ≡ text_of (clean_of g))) }
-    ensures err { IfErr result (λ r. (r ≡ ShellRefusal.NoRoom) ⊎ (made_by (Some (Change command.now)) ≡ Err r)) }
+fn text_after(alloc: Global, single: Single) -> Result<Items<u8>, ShellRefusal>
+    ensures ok { IfOk result (λ text. IsOkAnd (made_by (Some (Change single))) (λ g. text ≡ text_of (clean_of g))) }
+    ensures err { IfErr result (λ r. (r ≡ ShellRefusal.NoRoom) ⊎ (made_by (Some (Change single)) ≡ Err r)) }
 {
-    if !is_standard(command) {
+    if !is_standard(&single) {
         return Err(ShellRefusal::ScriptSyntax);
     }
     let mut session = Session::new(alloc);
-    session.apply(command)?;
+    session.apply(&Command::One(single))?;
     match save(alloc, session.graph_at(0)) {
         Ok(saved) => Ok(saved.text),
         Err(_) => Err(ShellRefusal::NoRoom),
@@ -124,10 +124,10 @@ fn text_after(alloc: Global, command: &Command) -> Result<Items<u8>, ShellRefusa
 }
 
 // A graph is made, and of numbers alone.
-fn is_standard(command: &Command) -> bool
-    ensures { result ≡ is_standard command.now }
+fn is_standard(single: &Single) -> bool
+    ensures { result ≡ is_standard single.now }
 {
-    let Command::Make(_, maker) = command else {
+    let Single::Make(_, maker) = single else {
         return false;
     };
     match maker {

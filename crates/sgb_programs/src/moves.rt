@@ -1,7 +1,8 @@
 //! The queen's moves on a board of 3 by 4.
-ghost use Rattle.std.specs.Prelude.{◌≡◌, ◌<◌, IfOk, IsSome, false, Ok};
+ghost use Rattle.std.specs.Prelude.{◌≡◌, ◌<◌, IfOk, IsSome, Ok};
 ghost use Rattle.std.specs.List.{flat_map};
 ghost use Rattle.sgb_graph.specs.Graph.{IsTip, n_of, made_of, arc_at, arcs_of};
+ghost use Rattle.sgb_print.specs.Meter.{fresh_writer};
 ghost use Rattle.sgb_print.specs.Print.{Prints};
 ghost use Rattle.sgb_programs.specs.Queen.{squares, queen_graph, heading, target, move_line, moves_text, square_text, squares_text, queen_text, ShowsQueen};
 
@@ -14,23 +15,21 @@ use sgb_print::{Failed, MeteredWriter, RunFault, put_all};
 use std::alloc::Global;
 use std::io::Write;
 
-/// Writes the queen's moves on a board of 3 by 4: [`queen_metered`] with a meter of its own.
+/// Writes the queen's moves on a board of 3 by 4, as [`queen_metered`] does, on a writer that it wraps itself.
 pub fn queen<W: Write>(alloc: Global, writer: W) -> Finished<(), W>
-    ensures shows { ShowsQueen (W.contents writer) (W.contents result.writer.inner) result.writer.failed result.end }
+    ensures shows { ShowsQueen (fresh_writer W.contents writer) result.writer result.end }
 {
     let mut writer = MeteredWriter::new(writer);
     let end = queen_metered(alloc, &mut writer);
     Finished { end, writer }
 }
 
-/// Writes the queen's moves on a board of 3 by 4: the id and the counts of the union of a rook's and a bishop's moves,
-/// and under each square its moves, each with where it leads and how long it is. The program `queen` of the GraphBase.
+/// Writes the queen's moves on a board of 3 by 4, which are the rook's and the bishop's: the id and the counts of their
+/// graph, and each square with its moves, each with its target and length. The program `queen` of the GraphBase.
 ///
-/// Ends with `NoRoom` where there is no room for the graphs, and nothing is written then; with `Write` where a write
-/// fails. Nothing else is a fault of it.
+/// Fails with `NoRoom` if the graphs cannot be allocated, and then writes nothing; with `Write` if a write fails.
 pub fn queen_metered<W: Write>(alloc: Global, writer: &mut MeteredWriter<W>) -> Result<(), RunFault>
-    requires { writer.old.failed ≡ false }
-    ensures shows { ShowsQueen (W.contents writer.old.inner) (W.contents writer.new.inner) writer.new.failed result }
+    ensures shows { ShowsQueen writer.old writer.new result }
 {
     let Ok(graph) = queen_graph(alloc) else {
         return Err(RunFault::NoRoom);
@@ -41,7 +40,7 @@ pub fn queen_metered<W: Write>(alloc: Global, writer: &mut MeteredWriter<W>) -> 
     }
 }
 
-// The moves of a rook and those of a bishop.
+// Makes the union of the rook's and the bishop's moves.
 fn queen_graph(alloc: Global) -> Result<Graph, Refusal>
     ensures { IfOk result (λ g. queen_graph ≡ Ok g) }
 {
@@ -54,7 +53,7 @@ fn queen_graph(alloc: Global) -> Result<Graph, Refusal>
     gunion(alloc, &rook, &bishop, &spec)
 }
 
-// A board of 3 by 4 for this piece.
+// Returns the specification of a board of 3 by 4 for a piece.
 fn squares(piece: i64) -> BoardSpec
     ensures { result ≡ squares piece }
 {
@@ -69,18 +68,17 @@ fn squares(piece: i64) -> BoardSpec
     }
 }
 
+// Prints the graph of the moves.
 fn print_queen<W: Write>(writer: &mut MeteredWriter<W>, graph: &Graph) -> Result<(), Failed>
-    ensures { Prints (W.contents writer.old.inner) (W.contents writer.new.inner) writer.old.failed writer.new.failed
-        result (queen_text graph.now) }
+    ensures { Prints writer.old writer.new result (queen_text graph.now) }
 {
     print_heading(writer, graph)?;
     print_squares(writer, graph)
 }
 
-// The title, the id and the counts.
+// Prints the title, the id and the counts.
 fn print_heading<W: Write>(writer: &mut MeteredWriter<W>, graph: &Graph) -> Result<(), Failed>
-    ensures { Prints (W.contents writer.old.inner) (W.contents writer.new.inner) writer.old.failed writer.new.failed
-        result (heading graph.now) }
+    ensures { Prints writer.old writer.new result (heading graph.now) }
 {
     let mut vertex_digits = Buffer::new();
     let mut arc_digits = Buffer::new();
@@ -98,10 +96,9 @@ fn print_heading<W: Write>(writer: &mut MeteredWriter<W>, graph: &Graph) -> Resu
     )
 }
 
-// Each square with its moves.
+// Prints each square with its moves.
 fn print_squares<W: Write>(writer: &mut MeteredWriter<W>, graph: &Graph) -> Result<(), Failed>
-    ensures { Prints (W.contents writer.old.inner) (W.contents writer.new.inner) writer.old.failed writer.new.failed
-        result (squares_text graph.now) }
+    ensures { Prints writer.old writer.new result (squares_text graph.now) }
 {
     for v in 0..graph.n() {
         print_square(writer, graph, VertexNo(v))?;
@@ -109,29 +106,27 @@ fn print_squares<W: Write>(writer: &mut MeteredWriter<W>, graph: &Graph) -> Resu
     Ok(())
 }
 
-// A square with its moves.
+// Prints a square with its moves.
 fn print_square<W: Write>(
     writer: &mut MeteredWriter<W>,
     graph: &Graph,
     vertex: VertexNo,
 ) -> Result<(), Failed>
     requires { vertex.0 < n_of graph.now }
-    ensures { Prints (W.contents writer.old.inner) (W.contents writer.new.inner) writer.old.failed writer.new.failed
-        result (square_text graph.now vertex.0) }
+    ensures { Prints writer.old writer.new result (square_text graph.now vertex.0) }
 {
     put_all(writer, &[graph.label(vertex), b"\n"])?;
     print_moves(writer, graph, vertex)
 }
 
-// The moves from a square, the newest first.
+// Prints the moves from a square, the newest first.
 fn print_moves<W: Write>(
     writer: &mut MeteredWriter<W>,
     graph: &Graph,
     vertex: VertexNo,
 ) -> Result<(), Failed>
     requires { vertex.0 < n_of graph.now }
-    ensures { Prints (W.contents writer.old.inner) (W.contents writer.new.inner) writer.old.failed writer.new.failed
-        result (moves_text graph.now (arcs_of graph.now vertex.0)) }
+    ensures { Prints writer.old writer.new result (moves_text graph.now (arcs_of graph.now vertex.0)) }
 {
     for number in graph.arcs(vertex) {
         print_move(writer, graph, number)?;
@@ -139,7 +134,7 @@ fn print_moves<W: Write>(
     Ok(())
 }
 
-// Where a move leads, and how long it is.
+// Prints a move's target and length.
 fn print_move<W: Write>(
     writer: &mut MeteredWriter<W>,
     graph: &Graph,
@@ -147,8 +142,7 @@ fn print_move<W: Write>(
 ) -> Result<(), Failed>
     requires live { IsSome (arc_at graph.now number.0) }
     requires within { number.0 < made_of graph.now }
-    ensures { Prints (W.contents writer.old.inner) (W.contents writer.new.inner) writer.old.failed writer.new.failed
-        result (move_line graph.now number.0) }
+    ensures { Prints writer.old writer.new result (move_line graph.now number.0) }
 {
     let Some(arc) = graph.arc(number) else {
         unreachable!()
@@ -161,7 +155,7 @@ fn print_move<W: Write>(
     )
 }
 
-// The name of the vertex that a tip is, or the number that it is.
+// Returns the label of the tip's vertex, or the tip's number.
 fn target(graph: &Graph, tip: Tip) -> &[u8]
     requires { IsTip (n_of graph.now) tip }
     ensures { result.now ≡ target graph.now tip }

@@ -20,12 +20,73 @@ const HOLES: &str = "* GraphBase graph (util_types ZZZZZZZZZZZZZZ,2V,2A)
 * Checksum 221745784
 ";
 
+// An edge without the last line.
+const CUT: &str = "* GraphBase graph (util_types ZZZZZZZZZZZZZZ,2V,2A)
+\"gb_new_graph(2)\",2,2
+* Vertices
+\"\",A0
+\"\",A1
+* Arcs
+V1,0,5
+V0,0,5
+";
+
+// An edge whose first line counts one arc.
+const TWO_RECORDS: &str = "* GraphBase graph (util_types ZZZZZZZZZZZZZZ,2V,1A)
+\"gb_new_graph(2)\",2,2
+* Vertices
+\"\",A0
+\"\",A1
+* Arcs
+V1,0,5
+V0,0,5
+* Checksum -1
+";
+
+// An edge whose graph has more vertices than the first line.
+const THREE_OF_TWO: &str = "* GraphBase graph (util_types ZZZZZZZZZZZZZZ,2V,2A)
+\"gb_new_graph(3)\",3,2
+* Vertices
+\"\",A0
+\"\",A1
+* Arcs
+V1,0,5
+V0,0,5
+* Checksum -1
+";
+
+// The list of vertex 1 leads into that of vertex 0.
+const MEETING: &str = "* GraphBase graph (util_types ZZZZZZZZZZZZZZ,2V,2A)
+\"gb_new_graph(2)\",2,2
+* Vertices
+\"\",A0
+\"\",A1
+* Arcs
+V1,0,5
+V0,A0,5
+* Checksum -1
+";
+
+// Both vertices have the same first arc.
+const SHARED: &str = "* GraphBase graph (util_types ZZZZZZZZZZZZZZ,2V,2A)
+\"gb_new_graph(2)\",2,2
+* Vertices
+\"\",A0
+\"\",A0
+* Arcs
+V1,A1,5
+V0,0,5
+* Checksum -1
+";
+
+const NO_GRAPH: &str = "refused 20 bad saved graph\n";
+
 const EDGE_TOLD: &str = "\"gb_new_graph(2)\"
 2 vertices, 2 arcs, 2 numbers
 ";
 
 // Texts, the rule, and what is told of them.
-static TEXTS: [(&str, CheckRule, bool, &str); 8] = [
+static TEXTS: [(&str, CheckRule, bool, &str); 14] = [
     (EDGE, CheckRule::Match, true, EDGE_TOLD),
     (EDGE, CheckRule::Any, true, EDGE_TOLD),
     (WRONG, CheckRule::Any, true, EDGE_TOLD),
@@ -41,8 +102,14 @@ static TEXTS: [(&str, CheckRule, bool, &str); 8] = [
         true,
         "\"gb_new_graph(2)\"\n2 vertices, 0 arcs, 2 numbers\n",
     ),
-    ("", CheckRule::Match, false, "refused 20 bad saved graph\n"),
-    ("", CheckRule::Any, false, "refused 20 bad saved graph\n"),
+    ("", CheckRule::Match, false, NO_GRAPH),
+    ("", CheckRule::Any, false, NO_GRAPH),
+    (CUT, CheckRule::Match, false, NO_GRAPH),
+    (CUT, CheckRule::Any, false, NO_GRAPH),
+    (TWO_RECORDS, CheckRule::Any, false, NO_GRAPH),
+    (THREE_OF_TWO, CheckRule::Any, false, NO_GRAPH),
+    (MEETING, CheckRule::Any, false, NO_GRAPH),
+    (SHARED, CheckRule::Any, false, NO_GRAPH),
     (LARGE, CheckRule::Match, false, "refused 40 too large\n"),
 ];
 

@@ -64,7 +64,7 @@ number_read (c ∷ cs) r h plus = elim (cases_Bool (c == 45)) [
 ascii_digits : (ds : List ℕ) → all_ascii_digits ds ≡ true → IsAscii ds
 ascii_digits ds h = IsAscii-from_digits ds (own.to ds h)
 
-pub natural_none : (ds : List ℕ) → all_ascii_digits ds ≡ false → natural_of ds ≡ None
+natural_none : (ds : List ℕ) → all_ascii_digits ds ≡ false → natural_of ds ≡ None
 unfolding natural_of
 natural_none ds h = rw (and_right (not (length ds == 0)) (all_ascii_digits ds) h) refl
 
@@ -149,7 +149,7 @@ no_plus (c ∷ cs) plus =
 
 -- ---- a few digits, read one by one
 
-pub digit_is : (c : ℕ) → IsInRange 48 57 c → digit_value c ≡ c - 48
+digit_is : (c : ℕ) → IsInRange 48 57 c → digit_value c ≡ c - 48
 digit_is c range = let same : digit_value c + 48 ≡ c = digit_value_digit c range in omega arith
 
 pub value_more : (value i : ℕ) (ds : List ℕ) → i < length ds → IsInRange 48 57 (get_or ds i 0) → digits_value_after 10 value (drop i ds) ≡ digits_value 10 ds

@@ -1,11 +1,5 @@
-mod Asking
-mod Blocks
-mod Briefly
-mod Coded
+mod CommandLemmas
 mod Digits
 mod Names
-mod Numbered
-mod Setting
-mod Spelled
 mod Splitting
 mod Texts

@@ -1,12 +1,12 @@
 -- A line's words, found from the left.
-use Rattle.std.proofs.Common.{◌≡◌, ◌≢◌, ℕ, suc, ◌+◌, ◌-◌, ◌<◌, ◌≤◌, Bool, true, false, not, ◌&&◌, ◌||◌, ◌==◌, cond, List, [], ◌∷◌, ◌++◌, length, take, drop, map, slice_index, Option, Some, None, refl, sym, ap, ◌∙◌, subst, arith, filter, inl, inr, ◌⊎◌, take-append-drop}
+use Rattle.std.proofs.Common.{◌≡◌, ◌≢◌, ℕ, suc, ◌+◌, ◌-◌, ◌<◌, ◌≤◌, Bool, true, false, not, ◌&&◌, ◌||◌, ◌==◌, cond, List, [], ◌∷◌, ◌++◌, length, take, drop, map, slice_index, Option, Some, None, refl, sym, ap, ◌∙◌, subst, arith, filter, inl, inr, take-append-drop}
 use Rattle.std.specs.Option.{option_map}
 use Rattle.std.specs.List.{slice_split, onto_first, prefix_len, list_all, after_first}
 use Rattle.std.proofs.lemmas.Bool.{cases_Bool, cases_lt, ne_eqb, eq-eqb, eqb-true, eqb-false}
 use Rattle.std.proofs.lemmas.List.{append-nil, nil_from_length, length-drop, drop-drop, take_all}
 use Rattle.std.proofs.lemmas.List.Folds.{length-prefix_len}
 use Rattle.std.proofs.lemmas.List.Splits.{slice_split_first}
-use Rattle.sgb_script.specs.Private.Words.{is_nothing, one_of, two_of, three_of, four_of}
+use Rattle.sgb_script.specs.Private.Words.{is_nothing}
 use Rattle.sgb_script.specs.Words.{Word, Plain, Quoted, plain_words, words_in, words_of, begins_with_space, ends_with_space, is_quotable}
 
 abbrev pub is_space : ℕ → Bool
@@ -81,7 +81,7 @@ words_of-space xs = words_in-onto_space (slice_split is_quote xs) (parts is_quot
 drop-one_more : (n x : ℕ) (xs : List ℕ) → drop (1 + n) (x ∷ xs) ≡ drop n xs
 drop-one_more n x xs = let s : 1 + n ≡ suc n = omega arith in ap (λ k. drop k (x ∷ xs)) s
 
-take-one_more : (n x : ℕ) (xs : List ℕ) → take (1 + n) (x ∷ xs) ≡ x ∷ take n xs
+pub take-one_more : (n x : ℕ) (xs : List ℕ) → take (1 + n) (x ∷ xs) ≡ x ∷ take n xs
 take-one_more n x xs = let s : 1 + n ≡ suc n = omega arith in ap (λ k. take k (x ∷ xs)) s
 
 pub words_of-spaces : (xs : List ℕ) → words_of (drop (prefix_len is_space xs) xs) ≡ words_of xs
@@ -404,50 +404,3 @@ quote_first [] some quote = absurd (omega arith)
 quote_first (x ∷ xs) some quote =
     let first : x ≡ 34 = quote in
     ap (λ t. 34 ∷ t) (take_all _ xs (omega arith)) ∙ ap (λ b. b ∷ xs) (sym first)
-
--- ---- so many words
-
-pub no_one : (words : Option (List Word)) → (words ≡ None) ⊎ (words ≡ Some []) → one_of words ≡ None
-no_one words (inl e) = ap one_of e
-no_one words (inr e) = ap one_of e
-
-pub no_two : (words : Option (List Word)) → (words ≡ None) ⊎ (words ≡ Some []) → two_of words ≡ None
-no_two words (inl e) = ap two_of e
-no_two words (inr e) = ap two_of e
-
-pub no_three : (words : Option (List Word)) → (words ≡ None) ⊎ (words ≡ Some []) → three_of words ≡ None
-no_three words (inl e) = ap three_of e
-no_three words (inr e) = ap three_of e
-
-pub no_four : (words : Option (List Word)) → (words ≡ None) ⊎ (words ≡ Some []) → four_of words ≡ None
-no_four words (inl e) = ap four_of e
-no_four words (inr e) = ap four_of e
-
-first_alone : (w : Word) (others : Option (List Word)) → one_of (option_map (λ ws. w ∷ ws) others) ≡ cond (is_nothing others) (Some w) None
-first_alone w None = refl
-first_alone w (Some []) = refl
-first_alone w (Some (v ∷ ws)) = refl
-
-first_of_two : (w : Word) (others : Option (List Word)) → two_of (option_map (λ ws. w ∷ ws) others) ≡ option_map (λ b. (w, b)) (one_of others)
-first_of_two w None = refl
-first_of_two w (Some ws) = refl
-
-first_of_three : (w : Word) (others : Option (List Word)) → three_of (option_map (λ ws. w ∷ ws) others) ≡ option_map (λ p. (w, p.0, p.1)) (two_of others)
-first_of_three w None = refl
-first_of_three w (Some ws) = refl
-
-first_of_four : (w : Word) (others : Option (List Word)) → four_of (option_map (λ ws. w ∷ ws) others) ≡ option_map (λ p. (w, p.0, p.1, p.2)) (three_of others)
-first_of_four w None = refl
-first_of_four w (Some ws) = refl
-
-pub one_is : (words others : Option (List Word)) (w : Word) (b : Bool) → words ≡ option_map (λ ws. w ∷ ws) others → b ≡ is_nothing others → one_of words ≡ cond b (Some w) None
-one_is words others w b split tested = ap one_of split ∙ first_alone w others ∙ ap (λ t. cond t (Some w) None) (sym tested)
-
-pub two_is : (words others : Option (List Word)) (w : Word) → words ≡ option_map (λ ws. w ∷ ws) others → two_of words ≡ option_map (λ b. (w, b)) (one_of others)
-two_is words others w split = ap two_of split ∙ first_of_two w others
-
-pub three_is : (words others : Option (List Word)) (w : Word) → words ≡ option_map (λ ws. w ∷ ws) others → three_of words ≡ option_map (λ p. (w, p.0, p.1)) (two_of others)
-three_is words others w split = ap three_of split ∙ first_of_three w others
-
-pub four_is : (words others : Option (List Word)) (w : Word) → words ≡ option_map (λ ws. w ∷ ws) others → four_of words ≡ option_map (λ p. (w, p.0, p.1, p.2)) (three_of others)
-four_is words others w split = ap four_of split ∙ first_of_four w others

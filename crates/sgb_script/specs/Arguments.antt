@@ -119,32 +119,50 @@ abbrev pub the_value : Word → Option Util
 the_value (Plain w) = value_in w
 the_value (Quoted t) = Some (utils.Text t)
 
--- ---- so many words, each of its kind
+-- ---- so many words, each read as an argument, and what they make
+
+-- a kind of argument: what a word says, if it is one
+abbrev pub Argument : Type 0 → Type 0
+Argument A = Word → Option A
 
 abbrev pub none : {R : Type 0} → R → List Word → Option R
 none r [] = Some r
 none r (w ∷ ws) = None
 
-abbrev pub one : {A R : Type 0} → (Word → Option A) → (A → R) → List Word → Option R
-one f r (w ∷ []) = option_map r (f w)
-one f r ws = None
-
-abbrev pub two : {A B R : Type 0} → (Word → Option A) → (Word → Option B) → (A → B → R) → List Word → Option R
-two f g r (w ∷ ws) = option_and_then (λ a. one g (r a) ws) (f w)
-two f g r [] = None
-
-abbrev pub three : {A B C R : Type 0} → (Word → Option A) → (Word → Option B) → (Word → Option C) → (A → B → C → R) → List Word → Option R
-three f g h r (w ∷ ws) = option_and_then (λ a. two g h (r a) ws) (f w)
-three f g h r [] = None
-
-abbrev pub four : {A B C D R : Type 0} → (Word → Option A) → (Word → Option B) → (Word → Option C) → (Word → Option D) → (A → B → C → D → R) → List Word → Option R
-four f g h i r (w ∷ ws) = option_and_then (λ a. three g h i (r a) ws) (f w)
-four f g h i r [] = None
-
--- a word of its kind first, and what the words behind it give
-abbrev pub first : {A R : Type 0} → (Word → Option A) → (A → List Word → Option R) → List Word → Option R
-first f next (w ∷ ws) = option_and_then (λ a. next a ws) (f w)
+-- an argument, and what the words behind it make
+abbrev pub first : {A R : Type 0} → Argument A → (A → List Word → Option R) → List Word → Option R
 first f next [] = None
+first f next (w ∷ ws) = option_and_then (λ a. next a ws) (f w)
 
-abbrev pub four_numbers : {R : Type 0} → (ℤ → ℤ → ℤ → ℤ → List Word → Option R) → List Word → Option R
-four_numbers next = first the_number (λ a. first the_number (λ b. first the_number (λ c. first the_number (next a b c))))
+-- an argument of two words, and what the words behind them make
+abbrev pub both : {A R : Type 0} → (Word → Word → Option A) → (A → List Word → Option R) → List Word → Option R
+both f next [] = None
+both f next (v ∷ []) = None
+both f next (v ∷ w ∷ ws) = option_and_then (λ a. next a ws) (f v w)
+
+abbrev pub one : {A R : Type 0} → Argument A → (A → R) → List Word → Option R
+one f r = first f (λ a. none (r a))
+
+abbrev pub two : {A B R : Type 0} → Argument A → Argument B → (A → B → R) → List Word → Option R
+two f g r = first f (λ a. one g (r a))
+
+abbrev pub three : {A B C R : Type 0} → Argument A → Argument B → Argument C → (A → B → C → R) → List Word → Option R
+three f g h r = first f (λ a. two g h (r a))
+
+abbrev pub four : {A B C D R : Type 0} → Argument A → Argument B → Argument C → Argument D → (A → B → C → D → R) → List Word → Option R
+four f g h i r = first f (λ a. three g h i (r a))
+
+abbrev pub five : {A B C D E R : Type 0} → Argument A → Argument B → Argument C → Argument D → Argument E → (A → B → C → D → E → R) → List Word → Option R
+five f g h i j r = first f (λ a. four g h i j (r a))
+
+abbrev pub six : {A B C D E F R : Type 0} → Argument A → Argument B → Argument C → Argument D → Argument E → Argument F → (A → B → C → D → E → F → R) → List Word → Option R
+six f g h i j k r = first f (λ a. five g h i j k (r a))
+
+abbrev pub seven : {A B C D E F G R : Type 0} → Argument A → Argument B → Argument C → Argument D → Argument E → Argument F → Argument G → (A → B → C → D → E → F → G → R) → List Word → Option R
+seven f g h i j k l r = first f (λ a. six g h i j k l (r a))
+
+abbrev pub eight : {A B C D E F G H R : Type 0} → Argument A → Argument B → Argument C → Argument D → Argument E → Argument F → Argument G → Argument H → (A → B → C → D → E → F → G → H → R) → List Word → Option R
+eight f g h i j k l m r = first f (λ a. seven g h i j k l m (r a))
+
+abbrev pub nine : {A B C D E F G H I R : Type 0} → Argument A → Argument B → Argument C → Argument D → Argument E → Argument F → Argument G → Argument H → Argument I → (A → B → C → D → E → F → G → H → I → R) → List Word → Option R
+nine f g h i j k l m n r = first f (λ a. eight g h i j k l m n (r a))

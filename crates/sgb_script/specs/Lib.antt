@@ -2,8 +2,7 @@ pub mod Name
 pub mod Words
 pub mod Numbers
 pub mod Arguments
-pub mod Makers
+pub mod Commands
 pub mod Line
-pub mod Brief
 pub mod Refusal
 pub mod Private

@@ -1,6 +1,5 @@
 -- What serves private functions only.
 pub mod Padding
-pub mod Coding
+pub mod Texts
 pub mod Words
 pub mod Reading
-pub mod Briefly

@@ -1,141 +1,167 @@
-//! The arguments of a line: what a word says where a name, a number, a place or a value is wanted.
-ghost use Rattle.std.specs.Prelude.{◌≡◌};
-ghost use Rattle.std.specs.Option.{option_map, option_copied};
-ghost use Rattle.sgb_script.specs.Private.Words.{seen};
-ghost use Rattle.sgb_script.specs.Arguments.{the_number, the_flag, the_bits, the_seed, the_rule, the_vertex, the_name, the_text, the_letters, the_place, place_in, value_in, vertex_field, arc_field, graph_field};
+//! The arguments of a command.
+//!
+//! Each method takes the next word off, and is refused `ScriptSyntax` if there is none or it is of another kind.
+ghost use Rattle.std.specs.Prelude.{◌≡◌, ◌⊎◌, IfOk, IfErr, IsTrue, Some, None};
+ghost use Rattle.sgb_graph.specs.Text.{IsText};
+ghost use Rattle.sgb_script.specs.Arguments.{the_number, the_flag, the_bits, the_seed, the_rule, the_vertex, the_arc, the_name, the_text, the_letters, the_value, place_in, value_in, vertex_field, arc_field, graph_field};
+ghost use Rattle.sgb_script.specs.Private.Words.{seen, the_plain, Takes, TakesBytes};
+ghost use Rattle.sgb_script.specs.Private.Texts.{IsTextIfQuoted};
+ghost use Rattle.sgb_script.specs.Private.Reading.{is_text};
+ghost use Rattle.sgb_script.specs.declared.refusal.ShellRefusal.TheVariants.{NoRoom, ScriptSyntax};
 
 use crate::Name;
-use crate::numbers::{arc_no, bits, index, is_yes, number, vertex_no};
-use crate::words::Word;
-use sgb_graph::{ArcField, GraphField, Place, Types, Util, VertexField, VertexNo};
+use crate::numbers::{bits, in_32_bits, index, is_yes, number};
+use crate::refusal::ShellRefusal;
+use crate::words::{Word, Words};
+use sgb_graph::{ArcField, ArcNo, GraphField, Place, Text, Types, Util, VertexField, VertexNo};
 use sgb_make::Seed;
 use sgb_text::CheckRule;
+use std::alloc::Global;
 
-#[inline(always)]
-pub(crate) fn the_number(word: Word<'_>) -> Option<i64>
-    ensures { result ≡ the_number (seen word.entry) }
+impl<'a> Words<'a> {
+    /// The bytes of a word without quotes.
+    pub(crate) fn plain(&mut self) -> Result<&'a [u8], ShellRefusal>
+        ensures { TakesBytes the_plain self.old result self.new }
+    {
+        match self.next()? {
+            Word::Plain(bytes) => Ok(bytes),
+            Word::Quoted(_) => Err(ShellRefusal::ScriptSyntax),
+        }
+    }
+
+    /// The bytes of a text, without its quotes.
+    pub(crate) fn text(&mut self) -> Result<&'a [u8], ShellRefusal>
+        ensures word { TakesBytes the_text self.old result self.new }
+        ensures text { IfOk result (λ t. IsText t.now) }
+    {
+        match self.next()? {
+            Word::Quoted(text) => Ok(text),
+            Word::Plain(_) => Err(ShellRefusal::ScriptSyntax),
+        }
+    }
+
+    /// The name of a graph.
+    pub(crate) fn name(&mut self) -> Result<Name, ShellRefusal>
+        ensures { Takes the_name self.old result self.new }
+    {
+        Name::new(self.plain()?).ok_or(ShellRefusal::ScriptSyntax)
+    }
+
+    /// A signed number of 64 bits.
+    pub(crate) fn number(&mut self) -> Result<i64, ShellRefusal>
+        ensures { Takes the_number self.old result self.new }
+    {
+        number(self.plain()?).ok_or(ShellRefusal::ScriptSyntax)
+    }
+
+    /// A flag: a number, where 0 is no and every other number is yes.
+    pub(crate) fn flag(&mut self) -> Result<bool, ShellRefusal>
+        ensures { Takes the_flag self.old result self.new }
+    {
+        Ok(is_yes(self.number()?))
+    }
+
+    /// A number from 0 to 2^64 - 1.
+    pub(crate) fn bits(&mut self) -> Result<u64, ShellRefusal>
+        ensures { Takes the_bits self.old result self.new }
+    {
+        bits(self.plain()?).ok_or(ShellRefusal::ScriptSyntax)
+    }
+
+    /// The number of a vertex.
+    pub(crate) fn vertex(&mut self) -> Result<VertexNo, ShellRefusal>
+        ensures { Takes the_vertex self.old result self.new }
+    {
+        Ok(VertexNo(in_32_bits(self.number()?)))
+    }
+
+    /// The number of an arc.
+    pub(crate) fn arc(&mut self) -> Result<ArcNo, ShellRefusal>
+        ensures { Takes the_arc self.old result self.new }
+    {
+        Ok(ArcNo(in_32_bits(self.number()?)))
+    }
+
+    /// Fourteen letters of `ZIVSA`.
+    pub(crate) fn letters(&mut self) -> Result<Types, ShellRefusal>
+        ensures { Takes the_letters self.old result self.new }
+    {
+        Types::new(self.plain()?).ok_or(ShellRefusal::ScriptSyntax)
+    }
+
+    /// A seed: a number, or `-` for the generator as it stands.
+    pub(crate) fn seed(&mut self) -> Result<Seed, ShellRefusal>
+        ensures { Takes the_seed self.old result self.new }
+    {
+        match self.plain()? {
+            b"-" => Ok(Seed::Current),
+            bytes => Ok(Seed::Number(number(bytes).ok_or(ShellRefusal::ScriptSyntax)?)),
+        }
+    }
+
+    /// What is done with a check number: `check` or `any`.
+    pub(crate) fn rule(&mut self) -> Result<CheckRule, ShellRefusal>
+        ensures { Takes the_rule self.old result self.new }
+    {
+        match self.plain()? {
+            b"check" => Ok(CheckRule::Match),
+            b"any" => Ok(CheckRule::Any),
+            _ => Err(ShellRefusal::ScriptSyntax),
+        }
+    }
+}
+
+/// A text of these bytes. Refused `NoRoom` if the allocation fails.
+pub(crate) fn text(alloc: Global, bytes: &[u8]) -> Result<Text, ShellRefusal>
+    requires { IsText bytes.now }
+    ensures ok { IfOk result (λ t. t ≡ bytes.now) }
+    ensures err { IfErr result (λ e. e ≡ NoRoom) }
+{
+    match Text::new(alloc, bytes) {
+        Ok(text) => Ok(text),
+        Err(_) => Err(ShellRefusal::NoRoom),
+    }
+}
+
+/// The value that a word says. Allocates only for a text.
+pub(crate) fn the_value(alloc: Global, word: Word<'_>) -> Result<Util, ShellRefusal>
+    requires { IsTextIfQuoted (seen word) }
+    ensures ok { IfOk result (λ v. the_value (seen word.entry) ≡ Some v) }
+    ensures err { IfErr result (λ e. ((e ≡ ScriptSyntax) × (the_value (seen word.entry) ≡ None))
+        ⊎ ((e ≡ NoRoom) × IsTrue (is_text (the_value (seen word.entry))))) }
 {
     match word {
-        Word::Plain(bytes) => number(bytes),
-        Word::Quoted(_) => None,
+        Word::Plain(bytes) => value_in(bytes).ok_or(ShellRefusal::ScriptSyntax),
+        Word::Quoted(bytes) => Ok(Util::Text(text(alloc, bytes)?)),
     }
 }
 
-pub(crate) fn the_flag(word: Word<'_>) -> Option<bool>
-    ensures { result ≡ the_flag (seen word.entry) }
-{
-    let flag = the_number(word)?;
-    Some(is_yes(flag))
-}
-
-/// `size_bits`, a number below 2^64.
-pub(crate) fn the_bits(word: Word<'_>) -> Option<u64>
-    ensures { result ≡ the_bits (seen word.entry) }
-{
-    match word {
-        Word::Plain(bytes) => bits(bytes),
-        Word::Quoted(_) => None,
-    }
-}
-
-/// A number, or `-`.
-pub(crate) fn the_seed(word: Word<'_>) -> Option<Seed>
-    ensures { result ≡ the_seed (seen word.entry) }
-{
-    match word {
-        Word::Plain(b"-") => Some(Seed::Current),
-        Word::Plain(bytes) => Some(Seed::Number(number(bytes)?)),
-        Word::Quoted(_) => None,
-    }
-}
-
-/// `check` or `any`.
-pub(crate) fn the_rule(word: Word<'_>) -> Option<CheckRule>
-    ensures { result ≡ the_rule (seen word.entry) }
-{
-    match word {
-        Word::Plain(b"check") => Some(CheckRule::Match),
-        Word::Plain(b"any") => Some(CheckRule::Any),
-        _ => None,
-    }
-}
-
-#[inline(always)]
-pub(crate) fn the_vertex(word: Word<'_>) -> Option<VertexNo>
-    ensures { result ≡ the_vertex (seen word.entry) }
-{
-    let number = the_number(word)?;
-    Some(vertex_no(number))
-}
-
-#[inline(always)]
-pub(crate) fn the_name(word: Word<'_>) -> Option<Name>
-    ensures { result ≡ the_name (seen word.entry) }
-{
-    match word {
-        Word::Plain(bytes) => Name::new(bytes),
-        Word::Quoted(_) => None,
-    }
-}
-
-/// The bytes of a text.
-pub(crate) fn the_text(word: Word<'_>) -> Option<&[u8]>
-    ensures { option_copied result ≡ the_text (seen word.entry) }
-{
-    match word {
-        Word::Plain(_) => None,
-        Word::Quoted(text) => Some(text),
-    }
-}
-
-/// Fourteen letters of `ZIVSA`.
-pub(crate) fn the_letters(word: Word<'_>) -> Option<Types>
-    ensures { result ≡ the_letters (seen word.entry) }
-{
-    match word {
-        Word::Plain(bytes) => Types::new(bytes),
-        Word::Quoted(_) => None,
-    }
-}
-
-/// A place, and one of its fields.
-#[inline]
-pub(crate) fn the_place(place: Word<'_>, field: Word<'_>) -> Option<Place>
-    ensures { result ≡ the_place (seen place.entry) (seen field.entry) }
-{
-    match (place, field) {
-        (Word::Plain(place), Word::Plain(field)) => place_in(place, field),
-        _ => None,
-    }
-}
-
-#[inline]
-fn place_in(place: &[u8], field: &[u8]) -> Option<Place>
+/// The field of this name of the place `Vk`, `Ak` or `G`.
+pub(crate) fn place_in(place: &[u8], field: &[u8]) -> Option<Place>
     ensures { result ≡ place_in place.now field.now }
 {
     match place {
         [b'V', digits @ ..] => {
             let vertex = index(digits)?;
-            Some(Place::Vertex(vertex_no(vertex), vertex_field(field)?))
+            Some(Place::Vertex(VertexNo(in_32_bits(vertex)), vertex_field(field)?))
         }
         [b'A', digits @ ..] => {
             let arc = index(digits)?;
-            Some(Place::Arc(arc_no(arc), arc_field(field)?))
+            Some(Place::Arc(ArcNo(in_32_bits(arc)), arc_field(field)?))
         }
         [b'G'] => Some(Place::Graph(graph_field(field)?)),
         _ => None,
     }
 }
 
-/// A value that is no text: `Vk`, `Ak` or a number.
-#[inline]
-pub(crate) fn value_in(word: &[u8]) -> Option<Util>
+// A value that is not a text: `Vk`, `Ak` or a number.
+fn value_in(word: &[u8]) -> Option<Util>
     ensures { result ≡ value_in word.now }
 {
     match word {
         [] => None,
-        [b'V', digits @ ..] => Some(Util::Vertex(vertex_no(index(digits)?))),
-        [b'A', digits @ ..] => Some(Util::Arc(arc_no(index(digits)?))),
+        [b'V', digits @ ..] => Some(Util::Vertex(VertexNo(in_32_bits(index(digits)?)))),
+        [b'A', digits @ ..] => Some(Util::Arc(ArcNo(in_32_bits(index(digits)?)))),
         _ => Some(Util::Int(number(word)?)),
     }
 }

@@ -1,24 +1,17 @@
-//! The script language: what a line asks for.
+//! The script language: the commands, and the reading of a line.
 #![tactic(auto)]
 
 mod arguments;
-mod brief;
-mod brief_line;
 mod command;
+mod edits;
 mod line;
 mod makers;
 mod name;
 mod numbers;
-mod printable;
 mod refusal;
-mod short_name;
-mod text;
 mod words;
 
-pub use brief::BriefCommand;
-pub use brief_line::parse_brief;
-pub use command::{Command, Edit, Line, Maker, Query, ShortCommand};
-pub use line::{LINE_LIMIT, parse, parse_short};
+pub use command::{Command, Edit, Line, MOST_MEMBERS, Maker, Query, Single};
+pub use line::{LINE_LIMIT, parse};
 pub use name::{NAME_LIMIT, Name};
 pub use refusal::ShellRefusal;
-pub use short_name::ShortName;

@@ -1,333 +1,201 @@
-//! Reads the lines that make a graph.
-ghost use Rattle.std.specs.Prelude.{◌≡◌, IfSome};
-ghost use Rattle.sgb_graph.specs.Text.{IsText};
-ghost use Rattle.std.specs.Option.{option_map, option_and_then};
-ghost use Rattle.sgb_script.specs.Words.{words_of};
-ghost use Rattle.sgb_script.specs.Makers.{maker_after, board, simplex, subsets, perms, random, drawn, described};
-ghost use Rattle.sgb_script.specs.Line.{making};
-ghost use Rattle.sgb_script.specs.Private.Words.{HasTexts};
-ghost use Rattle.sgb_script.specs.Private.Reading.{Reads, ReadsMaker};
-ghost use Rattle.sgb_script.specs.declared.makers.Kind.TheVariants as kinds;
+//! The commands that make a graph.
+ghost use Rattle.std.specs.Prelude.{codes};
+ghost use Rattle.std.specs.Option.{option_and_then};
+ghost use Rattle.sgb_script.specs.Commands.{line_of_command};
+ghost use Rattle.sgb_script.specs.Private.Reading.{Reads};
 
-use crate::arguments::{the_bits, the_flag, the_name, the_number, the_seed, the_text};
-use crate::command::{Command, Maker};
-use crate::numbers::is_yes;
+use crate::arguments::text;
+use crate::command::{Line, Maker, Single};
 use crate::refusal::ShellRefusal;
-use crate::text::text;
-use crate::words::{four_numbers, four_words, one_word, split_word, three_words};
+use crate::words::Words;
 use sgb_combine::{ComplementSpec, GunionSpec, InducedSpec, ProductSpec};
-use sgb_make::{BinarySpec, BoardSpec, PermsSpec, RandomSpec, Seed, SimplexSpec, SubsetsSpec};
+use sgb_make::{BinarySpec, BoardSpec, PermsSpec, RandomSpec, SimplexSpec, SubsetsSpec};
 use std::alloc::Global;
 
-/// What makes a graph, by the first word of a line.
-#[derive(Clone, Copy)]
-pub(crate) enum Kind {
-    Empty,
-    Board,
-    Simplex,
-    Subsets,
-    Perms,
-    Binary,
-    Random,
-    Complement,
-    Gunion,
-    Intersection,
-    Product,
-    Induced,
-}
-
-/// A new graph's name, and what makes it.
 #[inline(never)]
-pub(crate) fn make(
-    alloc: Global,
-    kind: Kind,
-    rest: &[u8],
-    command: &mut Command,
-) -> Result<(), ShellRefusal>
-    requires { HasTexts (words_of rest.now) }
-    ensures { Reads (option_and_then (making kind) (words_of rest.now)) command.new result }
+pub(crate) fn empty(words: &mut Words<'_>) -> Result<Line, ShellRefusal>
+    ensures { Reads (option_and_then (line_of_command (codes "graph")) words.old) result }
 {
-    let refused = ShellRefusal::ScriptSyntax;
-    let (name, rest) = split_word(rest).ok_or(refused)?;
-    let name = the_name(name).ok_or(refused)?;
-    let maker = maker_after(alloc, kind, rest)?;
-    *command = Command::Make(name, maker);
-    Ok(())
-}
-
-// What the words behind the name ask for.
-fn maker_after(alloc: Global, kind: Kind, rest: &[u8]) -> Result<Maker, ShellRefusal>
-    requires { HasTexts (words_of rest.now) }
-    ensures { ReadsMaker (option_and_then (λ ws. maker_after ws kind) (words_of rest.now)) result }
-{
-    let refused = ShellRefusal::ScriptSyntax;
-    match kind {
-        Kind::Empty => empty(rest).ok_or(refused),
-        Kind::Board => board(rest).ok_or(refused),
-        Kind::Simplex => simplex(rest).ok_or(refused),
-        Kind::Subsets => subsets(rest).ok_or(refused),
-        Kind::Perms => perms(rest).ok_or(refused),
-        Kind::Binary => binary(rest).ok_or(refused),
-        Kind::Random => random(rest).ok_or(refused),
-        Kind::Complement => complement(rest).ok_or(refused),
-        Kind::Gunion => gunion(rest).ok_or(refused),
-        Kind::Intersection => intersection(rest).ok_or(refused),
-        Kind::Product => product(rest).ok_or(refused),
-        Kind::Induced => induced(alloc, rest),
-    }
+    let name = words.name()?;
+    let count = words.number()?;
+    words.end()?;
+    Ok(Line::Change(Single::Make(name, Maker::Empty(count))))
 }
 
 #[inline(never)]
-fn empty(rest: &[u8]) -> Option<Maker>
-    ensures { result ≡ option_and_then (λ ws. maker_after ws kinds.Empty) (words_of rest.now) }
+pub(crate) fn board(words: &mut Words<'_>) -> Result<Line, ShellRefusal>
+    ensures { Reads (option_and_then (line_of_command (codes "board")) words.old) result }
 {
-    let count = the_number(one_word(rest)?)?;
-    Some(Maker::Empty(count))
+    let name = words.name()?;
+    let spec = BoardSpec {
+        n1: words.number()?,
+        n2: words.number()?,
+        n3: words.number()?,
+        n4: words.number()?,
+        piece: words.number()?,
+        wrap: words.number()?,
+        directed: words.flag()?,
+    };
+    words.end()?;
+    Ok(Line::Change(Single::Make(name, Maker::Board(spec))))
 }
 
 #[inline(never)]
-fn board(rest: &[u8]) -> Option<Maker>
-    ensures { result ≡ option_and_then (λ ws. maker_after ws kinds.Board) (words_of rest.now) }
+pub(crate) fn simplex(words: &mut Words<'_>) -> Result<Line, ShellRefusal>
+    ensures { Reads (option_and_then (line_of_command (codes "simplex")) words.old) result }
 {
-    let (n1, n2, n3, n4, rest) = four_numbers(rest)?;
-    board_with(n1, n2, n3, n4, rest)
-}
-
-fn board_with(n1: i64, n2: i64, n3: i64, n4: i64, rest: &[u8]) -> Option<Maker>
-    ensures { result ≡ option_and_then (board n1 n2 n3 n4) (words_of rest.now) }
-{
-    let (piece, wrap, directed) = three_words(rest)?;
-    let piece = the_number(piece)?;
-    let wrap = the_number(wrap)?;
-    let directed = the_flag(directed)?;
-    Some(Maker::Board(BoardSpec {
-        n1,
-        n2,
-        n3,
-        n4,
-        piece,
-        wrap,
-        directed,
-    }))
+    let name = words.name()?;
+    let spec = SimplexSpec {
+        n: words.number()?,
+        n0: words.number()?,
+        n1: words.number()?,
+        n2: words.number()?,
+        n3: words.number()?,
+        n4: words.number()?,
+        directed: words.flag()?,
+    };
+    words.end()?;
+    Ok(Line::Change(Single::Make(name, Maker::Simplex(spec))))
 }
 
 #[inline(never)]
-fn simplex(rest: &[u8]) -> Option<Maker>
-    ensures { result ≡ option_and_then (λ ws. maker_after ws kinds.Simplex) (words_of rest.now) }
+pub(crate) fn subsets(words: &mut Words<'_>) -> Result<Line, ShellRefusal>
+    ensures { Reads (option_and_then (line_of_command (codes "subsets")) words.old) result }
 {
-    let (n, n0, n1, n2, rest) = four_numbers(rest)?;
-    simplex_with(n, n0, n1, n2, rest)
-}
-
-fn simplex_with(n: i64, n0: i64, n1: i64, n2: i64, rest: &[u8]) -> Option<Maker>
-    ensures { result ≡ option_and_then (simplex n n0 n1 n2) (words_of rest.now) }
-{
-    let (n3, n4, directed) = three_words(rest)?;
-    let n3 = the_number(n3)?;
-    let n4 = the_number(n4)?;
-    let directed = the_flag(directed)?;
-    Some(Maker::Simplex(SimplexSpec {
-        n,
-        n0,
-        n1,
-        n2,
-        n3,
-        n4,
-        directed,
-    }))
+    let name = words.name()?;
+    let spec = SubsetsSpec {
+        n: words.number()?,
+        n0: words.number()?,
+        n1: words.number()?,
+        n2: words.number()?,
+        n3: words.number()?,
+        n4: words.number()?,
+        size_bits: words.bits()?,
+        directed: words.flag()?,
+    };
+    words.end()?;
+    Ok(Line::Change(Single::Make(name, Maker::Subsets(spec))))
 }
 
 #[inline(never)]
-fn subsets(rest: &[u8]) -> Option<Maker>
-    ensures { result ≡ option_and_then (λ ws. maker_after ws kinds.Subsets) (words_of rest.now) }
+pub(crate) fn perms(words: &mut Words<'_>) -> Result<Line, ShellRefusal>
+    ensures { Reads (option_and_then (line_of_command (codes "perms")) words.old) result }
 {
-    let (n, n0, n1, n2, rest) = four_numbers(rest)?;
-    subsets_with(n, n0, n1, n2, rest)
-}
-
-fn subsets_with(n: i64, n0: i64, n1: i64, n2: i64, rest: &[u8]) -> Option<Maker>
-    ensures { result ≡ option_and_then (subsets n n0 n1 n2) (words_of rest.now) }
-{
-    let (n3, n4, size_bits, directed) = four_words(rest)?;
-    let n3 = the_number(n3)?;
-    let n4 = the_number(n4)?;
-    let size_bits = the_bits(size_bits)?;
-    let directed = the_flag(directed)?;
-    Some(Maker::Subsets(SubsetsSpec {
-        n,
-        n0,
-        n1,
-        n2,
-        n3,
-        n4,
-        size_bits,
-        directed,
-    }))
+    let name = words.name()?;
+    let spec = PermsSpec {
+        n0: words.number()?,
+        n1: words.number()?,
+        n2: words.number()?,
+        n3: words.number()?,
+        n4: words.number()?,
+        max_inv: words.number()?,
+        directed: words.flag()?,
+    };
+    words.end()?;
+    Ok(Line::Change(Single::Make(name, Maker::Perms(spec))))
 }
 
 #[inline(never)]
-fn perms(rest: &[u8]) -> Option<Maker>
-    ensures { result ≡ option_and_then (λ ws. maker_after ws kinds.Perms) (words_of rest.now) }
+pub(crate) fn binary(words: &mut Words<'_>) -> Result<Line, ShellRefusal>
+    ensures { Reads (option_and_then (line_of_command (codes "binary")) words.old) result }
 {
-    let (n0, n1, n2, n3, rest) = four_numbers(rest)?;
-    perms_with(n0, n1, n2, n3, rest)
-}
-
-fn perms_with(n0: i64, n1: i64, n2: i64, n3: i64, rest: &[u8]) -> Option<Maker>
-    ensures { result ≡ option_and_then (perms n0 n1 n2 n3) (words_of rest.now) }
-{
-    let (n4, max_inv, directed) = three_words(rest)?;
-    let n4 = the_number(n4)?;
-    let max_inv = the_number(max_inv)?;
-    let directed = the_flag(directed)?;
-    Some(Maker::Perms(PermsSpec {
-        n0,
-        n1,
-        n2,
-        n3,
-        n4,
-        max_inv,
-        directed,
-    }))
+    let name = words.name()?;
+    let spec = BinarySpec {
+        n: words.number()?,
+        max_height: words.number()?,
+        directed: words.flag()?,
+    };
+    words.end()?;
+    Ok(Line::Change(Single::Make(name, Maker::Binary(spec))))
 }
 
 #[inline(never)]
-fn binary(rest: &[u8]) -> Option<Maker>
-    ensures { result ≡ option_and_then (λ ws. maker_after ws kinds.Binary) (words_of rest.now) }
+pub(crate) fn random(words: &mut Words<'_>) -> Result<Line, ShellRefusal>
+    ensures { Reads (option_and_then (line_of_command (codes "random")) words.old) result }
 {
-    let (n, max_height, directed) = three_words(rest)?;
-    let n = the_number(n)?;
-    let max_height = the_number(max_height)?;
-    let directed = the_flag(directed)?;
-    Some(Maker::Binary(BinarySpec {
-        n,
-        max_height,
-        directed,
-    }))
+    let name = words.name()?;
+    let spec = RandomSpec {
+        n: words.number()?,
+        m: words.number()?,
+        multi: words.number()?,
+        loops: words.flag()?,
+        directed: words.flag()?,
+        min: words.number()?,
+        max: words.number()?,
+    };
+    let seed = words.seed()?;
+    words.end()?;
+    Ok(Line::Change(Single::Make(name, Maker::Random(spec, seed))))
 }
 
 #[inline(never)]
-fn random(rest: &[u8]) -> Option<Maker>
-    ensures { result ≡ option_and_then (λ ws. maker_after ws kinds.Random) (words_of rest.now) }
+pub(crate) fn complement(words: &mut Words<'_>) -> Result<Line, ShellRefusal>
+    ensures { Reads (option_and_then (line_of_command (codes "complement")) words.old) result }
 {
-    let (n, m, multi, loops, rest) = four_numbers(rest)?;
-    let loops = is_yes(loops);
-    random_with(n, m, multi, loops, rest)
-}
-
-fn random_with(n: i64, m: i64, multi: i64, loops: bool, rest: &[u8]) -> Option<Maker>
-    ensures { result ≡ option_and_then (random n m multi loops) (words_of rest.now) }
-{
-    let (directed, min, max, seed) = drawn(rest)?;
-    Some(Maker::Random(
-        RandomSpec {
-            n,
-            m,
-            multi,
-            loops,
-            directed,
-            min,
-            max,
-        },
-        seed,
-    ))
-}
-
-/// How lengths are drawn: whether arcs are, the least and the greatest, and a seed.
-pub(crate) fn drawn(rest: &[u8]) -> Option<(bool, i64, i64, Seed)>
-    ensures { result ≡ option_and_then drawn (words_of rest.now) }
-{
-    let (directed, min, max, seed) = four_words(rest)?;
-    let directed = the_flag(directed)?;
-    let min = the_number(min)?;
-    let max = the_number(max)?;
-    let seed = the_seed(seed)?;
-    Some((directed, min, max, seed))
+    let name = words.name()?;
+    let graph = words.name()?;
+    let spec = ComplementSpec {
+        copy: words.flag()?,
+        loops: words.flag()?,
+        directed: words.flag()?,
+    };
+    words.end()?;
+    Ok(Line::Change(Single::Make(name, Maker::Complement(graph, spec))))
 }
 
 #[inline(never)]
-fn complement(rest: &[u8]) -> Option<Maker>
-    ensures { result ≡ option_and_then (λ ws. maker_after ws kinds.Complement) (words_of rest.now) }
+pub(crate) fn gunion(words: &mut Words<'_>) -> Result<Line, ShellRefusal>
+    ensures { Reads (option_and_then (line_of_command (codes "gunion")) words.old) result }
 {
-    let (graph, copy, loops, directed) = four_words(rest)?;
-    let graph = the_name(graph)?;
-    let copy = the_flag(copy)?;
-    let loops = the_flag(loops)?;
-    let directed = the_flag(directed)?;
-    Some(Maker::Complement(
-        graph,
-        ComplementSpec {
-            copy,
-            loops,
-            directed,
-        },
-    ))
+    let name = words.name()?;
+    let graph = words.name()?;
+    let other = words.name()?;
+    let spec = GunionSpec {
+        multi: words.flag()?,
+        directed: words.flag()?,
+    };
+    words.end()?;
+    Ok(Line::Change(Single::Make(name, Maker::Gunion(graph, other, spec))))
 }
 
 #[inline(never)]
-fn gunion(rest: &[u8]) -> Option<Maker>
-    ensures { result ≡ option_and_then (λ ws. maker_after ws kinds.Gunion) (words_of rest.now) }
+pub(crate) fn intersection(words: &mut Words<'_>) -> Result<Line, ShellRefusal>
+    ensures { Reads (option_and_then (line_of_command (codes "intersection")) words.old) result }
 {
-    let (graph, other, multi, directed) = four_words(rest)?;
-    let graph = the_name(graph)?;
-    let other = the_name(other)?;
-    let multi = the_flag(multi)?;
-    let directed = the_flag(directed)?;
-    Some(Maker::Gunion(graph, other, GunionSpec { multi, directed }))
+    let name = words.name()?;
+    let maker = Maker::Intersection(words.name()?, words.name()?, words.flag()?);
+    words.end()?;
+    Ok(Line::Change(Single::Make(name, maker)))
 }
 
 #[inline(never)]
-fn intersection(rest: &[u8]) -> Option<Maker>
-    ensures { result ≡ option_and_then (λ ws. maker_after ws kinds.Intersection) (words_of rest.now) }
+pub(crate) fn product(words: &mut Words<'_>) -> Result<Line, ShellRefusal>
+    ensures { Reads (option_and_then (line_of_command (codes "product")) words.old) result }
 {
-    let (graph, other, directed) = three_words(rest)?;
-    let graph = the_name(graph)?;
-    let other = the_name(other)?;
-    let directed = the_flag(directed)?;
-    Some(Maker::Intersection(graph, other, directed))
+    let name = words.name()?;
+    let graph = words.name()?;
+    let other = words.name()?;
+    let spec = ProductSpec {
+        kind: words.number()?,
+        directed: words.flag()?,
+    };
+    words.end()?;
+    Ok(Line::Change(Single::Make(name, Maker::Product(graph, other, spec))))
 }
 
 #[inline(never)]
-fn product(rest: &[u8]) -> Option<Maker>
-    ensures { result ≡ option_and_then (λ ws. maker_after ws kinds.Product) (words_of rest.now) }
+pub(crate) fn induced(alloc: Global, words: &mut Words<'_>) -> Result<Line, ShellRefusal>
+    ensures { Reads (option_and_then (line_of_command (codes "induced")) words.old) result }
 {
-    let (graph, other, kind, directed) = four_words(rest)?;
-    let graph = the_name(graph)?;
-    let other = the_name(other)?;
-    let kind = the_number(kind)?;
-    let directed = the_flag(directed)?;
-    Some(Maker::Product(graph, other, ProductSpec { kind, directed }))
-}
-
-#[inline(never)]
-fn induced(alloc: Global, rest: &[u8]) -> Result<Maker, ShellRefusal>
-    requires { HasTexts (words_of rest.now) }
-    ensures { ReadsMaker (option_and_then (λ ws. maker_after ws kinds.Induced) (words_of rest.now)) result }
-{
-    let refused = ShellRefusal::ScriptSyntax;
-    let (graph, rest) = split_word(rest).ok_or(refused)?;
-    let graph = the_name(graph).ok_or(refused)?;
-    let (bytes, spec) = described(rest).ok_or(refused)?;
-    Ok(Maker::Induced(graph, text(alloc, bytes)?, spec))
-}
-
-// The description and the flags of an induced graph.
-fn described(rest: &[u8]) -> Option<(&[u8], InducedSpec)>
-    requires { HasTexts (words_of rest.now) }
-    ensures text { IfSome result (λ d. IsText d.0.now) }
-    ensures value { option_map (λ d. (d.0.now, d.1)) result ≡ option_and_then described (words_of rest.now) }
-{
-    let (text, loops, multi, directed) = four_words(rest)?;
-    let text = the_text(text)?;
-    let loops = the_flag(loops)?;
-    let multi = the_flag(multi)?;
-    let directed = the_flag(directed)?;
-    Some((
-        text,
-        InducedSpec {
-            loops,
-            multi,
-            directed,
-        },
-    ))
+    let name = words.name()?;
+    let graph = words.name()?;
+    let description = words.text()?;
+    let spec = InducedSpec {
+        loops: words.flag()?,
+        multi: words.flag()?,
+        directed: words.flag()?,
+    };
+    words.end()?;
+    let maker = Maker::Induced(graph, text(alloc, description)?, spec);
+    Ok(Line::Change(Single::Make(name, maker)))
 }

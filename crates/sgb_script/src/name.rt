@@ -2,20 +2,19 @@
 ghost use Rattle.std.specs.Prelude.{◌≡◌, IfSome, IfNone, IsTrue, slice_index};
 ghost use Rattle.std.specs.List.{list_all};
 ghost use Rattle.sgb_script.specs.Name.{is_name, is_letter, is_name_byte};
-ghost use Rattle.sgb_script.specs.Private.Coding.{encoded};
 
 use std::marker::Model;
 
 /// The most bytes of a name.
 pub const NAME_LIMIT: usize = 32;
 
-/// The name of a graph in a session: a letter, then letters, digits and `_`, at most 32 bytes in all. It takes no
-/// memory, and is copied like a number.
+/// The name of a graph in a session: a letter, then letters, digits and `_`, at most 32 bytes in all. It is stored in
+/// place, and is `Copy`.
 #[derive(Clone, Copy, Debug)]
 pub struct Name {
-    // The bytes of the name, and zeros behind them. Their count has 32 bits, so that a name is moved by whole words.
+    // The bytes of the name, padded with zeros.
     bytes: [u8; NAME_LIMIT],
-    len: u32,
+    len: u8,
 }
 
 impl Model for Name {
@@ -48,7 +47,6 @@ impl PartialEq for Name {
 
     ghost laws = { Prim.search (comparing, rules) };
 
-    #[inline]
     fn eq(&self, other: &Name) -> bool {
         self.bytes() == other.bytes()
     }
@@ -62,8 +60,7 @@ impl Eq for Name {
 }
 
 impl Name {
-    /// The name of these bytes, where they are one.
-    #[inline]
+    /// The name that these bytes spell, or `None` if they are not a name.
     pub fn new(bytes: &[u8]) -> Option<Name>
         ensures some { IfSome result (λ n. n ≡ bytes.now) }
         ensures when { IfSome result (λ _. IsTrue (is_name bytes.now)) }
@@ -76,32 +73,20 @@ impl Name {
         padded[..bytes.len()].copy_from_slice(bytes);
         Some(Name {
             bytes: padded,
-            len: bytes.len() as u32,
+            len: bytes.len() as u8,
         })
     }
 
-    /// The bytes.
-    #[inline]
+    /// The bytes of the name.
     pub fn bytes(&self) -> &[u8]
         ensures value { result.now ≡ self.now }
         ensures name { IsTrue (is_name self.now) }
     {
-        &self.bytes[..self.len as usize]
-    }
-
-    /// The first eight bytes, and zeros behind fewer of them, as a [`ShortName`](crate::ShortName) holds them.
-    #[inline(always)]
-    pub(crate) fn code(&self) -> u64
-        ensures value { result ≡ encoded self.now }
-        ensures name { IsTrue (is_name self.now) }
-    {
-        let b = &self.bytes;
-        u64::from_le_bytes([b[0], b[1], b[2], b[3], b[4], b[5], b[6], b[7]])
+        &self.bytes[..usize::from(self.len)]
     }
 }
 
-#[inline]
-pub(crate) fn is_name(bytes: &[u8]) -> bool
+fn is_name(bytes: &[u8]) -> bool
     ensures { result ≡ is_name bytes.now }
 {
     if bytes.len() > NAME_LIMIT {
@@ -110,7 +95,6 @@ pub(crate) fn is_name(bytes: &[u8]) -> bool
     begins_with_letter(bytes) && are_name_bytes(bytes)
 }
 
-#[inline]
 fn begins_with_letter(bytes: &[u8]) -> bool
     ensures { result ≡ is_letter (slice_index bytes.now 0) }
 {
@@ -120,21 +104,18 @@ fn begins_with_letter(bytes: &[u8]) -> bool
     }
 }
 
-#[inline]
 fn are_name_bytes(bytes: &[u8]) -> bool
     ensures { result ≡ list_all is_name_byte bytes.now }
 {
     bytes.iter().all(|byte| is_name_byte(*byte))
 }
 
-#[inline]
 fn is_letter(byte: u8) -> bool
     ensures { result ≡ is_letter byte }
 {
     matches!(byte, b'A'..=b'Z' | b'a'..=b'z')
 }
 
-#[inline]
 fn is_name_byte(byte: u8) -> bool
     ensures { result ≡ is_name_byte byte }
 {

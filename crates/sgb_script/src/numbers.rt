@@ -1,15 +1,13 @@
-//! The numbers of a line.
+//! Numbers.
 ghost use Rattle.std.specs.Prelude.{◌≡◌, ◌==◌, ◌<◌, ◌^◌, slice_index, IfSome, Some};
-ghost use Rattle.sgb_script.specs.Numbers.{natural_of, number_of, index_of, bits_of, is_yes, in_32_bits, vertex_no, arc_no};
+ghost use Rattle.sgb_script.specs.Numbers.{natural_of, number_of, index_of, bits_of, is_yes, in_32_bits};
 
-use sgb_graph::{ArcNo, VertexNo};
 use std::str::from_utf8;
 
-/// So many digits spell a number of 64 bits, whatever they are.
-pub(crate) const SHORT: usize = 17;
+/// Any number of at most this many digits fits in 64 bits.
+const SHORT: usize = 17;
 
-/// A whole number: digits, and a minus before them.
-#[inline(always)]
+/// A whole number: digits, with an optional minus before them.
 pub(crate) fn number(word: &[u8]) -> Option<i64>
     ensures { result ≡ number_of word.now }
 {
@@ -19,8 +17,7 @@ pub(crate) fn number(word: &[u8]) -> Option<i64>
     }
 }
 
-// The number that a few digits spell; none tells nothing of the word.
-#[inline(always)]
+// The number, if these are digits alone and few of them.
 fn short_natural(digits: &[u8]) -> Option<u64>
     ensures value { IfSome result (λ n. natural_of digits.now ≡ Some n) }
     ensures small { IfSome result (λ n. n < 10 ^ 17) }
@@ -61,7 +58,7 @@ pub(crate) fn index(digits: &[u8]) -> Option<i64>
     number(digits)
 }
 
-/// Digits alone, of a number below 2^64.
+/// A number below 2^64: digits alone.
 pub(crate) fn bits(digits: &[u8]) -> Option<u64>
     ensures { result ≡ bits_of digits.now }
 {
@@ -74,15 +71,14 @@ pub(crate) fn bits(digits: &[u8]) -> Option<u64>
     }
 }
 
-/// Whether a flag says yes: every number but 0 does.
+/// Whether a flag is set: every number but 0 is.
 pub(crate) fn is_yes(flag: i64) -> bool
     ensures { result ≡ is_yes flag }
 {
     flag != 0
 }
 
-/// The number as one of 32 bits. What is none of them becomes the greatest.
-#[inline(always)]
+/// The number as a `u32`; numbers out of range give `u32::MAX`.
 pub(crate) fn in_32_bits(number: i64) -> u32
     ensures { result ≡ in_32_bits number }
 {
@@ -90,22 +86,6 @@ pub(crate) fn in_32_bits(number: i64) -> u32
         Ok(small) => small,
         Err(_) => u32::MAX,
     }
-}
-
-/// The vertex of a number.
-#[inline(always)]
-pub(crate) fn vertex_no(number: i64) -> VertexNo
-    ensures { result ≡ vertex_no number }
-{
-    VertexNo(in_32_bits(number))
-}
-
-/// The arc of a number.
-#[inline(always)]
-pub(crate) fn arc_no(number: i64) -> ArcNo
-    ensures { result ≡ arc_no number }
-{
-    ArcNo(in_32_bits(number))
 }
 
 fn has_plus(word: &[u8]) -> bool

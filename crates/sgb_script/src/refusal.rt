@@ -1,53 +1,53 @@
-//! The refusals of the session and its script, with their numbers.
+//! The refusals of the session and of its script, with their numbers.
 
 use thiserror::Error;
 
-/// Why a line or a command was refused. Whatever was refused has changed nothing.
+/// Why a line or a command was refused. A refused command changes nothing.
 #[derive(Clone, Copy, Debug, PartialEq, Eq, Error)]
 pub enum ShellRefusal {
-    /// 1: memory was wanted and not given.
+    /// 1: an allocation failed.
     #[error("no room")]
     NoRoom,
-    /// 11: a saved graph ends with another check number than its lines have.
+    /// 11: the check number of a saved graph is not that of its lines.
     #[error("check number is wrong")]
     CheckWrong,
-    /// 20: a text is no saved graph.
+    /// 20: a text is not a saved graph.
     #[error("bad saved graph")]
     Syntax,
-    /// 30: a number is outside its range.
+    /// 30: a number is out of its range.
     #[error("bad specification")]
     BadSpecs,
     /// 31: a range of lengths has too many values for one uniform number.
     #[error("length range too wide")]
     LengthRange,
-    /// 40: a limit would be passed.
+    /// 40: a limit would be exceeded.
     #[error("too large")]
     TooLarge,
     /// 50: no graph has this name.
     #[error("no such graph")]
     NoGraph,
-    /// 60: an operand is none that the command can work on.
+    /// 60: the command cannot work on this operand.
     #[error("bad operand")]
     BadOperand,
-    /// 100: the line is none of the language.
+    /// 100: the line is not one of the language.
     #[error("bad command")]
     ScriptSyntax,
-    /// 101: as many graphs stand in the table as it holds.
+    /// 101: the table of graphs is full.
     #[error("table is full")]
     TableFull,
     /// 102: a graph has this name already.
     #[error("name is taken")]
     NameTaken,
-    /// 103: no command stands.
+    /// 103: there is no command to undo.
     #[error("nothing to undo")]
     NothingToUndo,
-    /// 104: no command is undone.
+    /// 104: there is no command to redo.
     #[error("nothing to redo")]
     NothingToRedo,
-    /// 105: as many commands stand as a journal holds.
+    /// 105: the journal is full.
     #[error("journal is full")]
     JournalFull,
-    /// 106: a random graph found no place for all its arcs within its attempts.
+    /// 106: a random graph ran out of attempts before it had all its arcs.
     #[error("stuck")]
     Stuck,
 }
@@ -56,7 +56,7 @@ impl ShellRefusal {
     ghost use Rattle.std.specs.Prelude.{◌≡◌};
     ghost use Rattle.sgb_script.specs.Refusal.{number_of, text_of};
 
-    /// The number that the transcript prints.
+    /// The number of the refusal, as the transcript prints it.
     pub fn number(&self) -> u8
         ensures { result ≡ number_of self.now }
     {
@@ -79,7 +79,7 @@ impl ShellRefusal {
         }
     }
 
-    /// The text that the transcript prints after the number. `Display` prints the same.
+    /// The text of the refusal, as the transcript prints it after the number. `Display` prints the same.
     pub fn text(&self) -> &'static str
         ensures { result.now ≡ text_of self.now }
     {

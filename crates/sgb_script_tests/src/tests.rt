@@ -1,9 +1,9 @@
-//! What no script can show of a line, of a name and of a refusal. The small functions promise nothing, so that the proof of
-//! a test stays short. What else a line asks for stands in `tests/corpus/what-lines-ask-for.sgb`, and what is refused in
-//! `lines-that-ask-for-nothing.sgb` beside it.
+//! What no script can show of a line, of a name and of a refusal. The helper functions have no contracts, so that the
+//! proofs of the tests stay short. For the rest, `tests/corpus/what-lines-ask-for.sgb` has lines of each command, and
+//! `lines-that-ask-for-nothing.sgb` lines that are refused.
 
 use sgb_graph::{Util, VertexNo};
-use sgb_script::{Command, Edit, Line, Maker, Name, ShellRefusal, parse};
+use sgb_script::{Edit, Line, Maker, Name, ShellRefusal, Single, parse};
 use std::alloc::{AllocError, Global};
 use std::test::Fail;
 
@@ -15,13 +15,13 @@ fn read(alloc: Global, line: &[u8]) -> Result<Line, ShellRefusal> {
 fn kind_of(alloc: Global, line: &[u8]) -> &'static str {
     match &read(alloc, line) {
         Ok(Line::Nothing) => "nothing",
-        Ok(Line::Change(Command::Next)) => "next",
+        Ok(Line::Change(Single::Next)) => "next",
         Err(ShellRefusal::ScriptSyntax) => "refused",
         _ => "another",
     }
 }
 
-// What a line of these bytes is, behind which spaces stand up to so many bytes in all.
+// What the line of these bytes is, padded with spaces to this many bytes.
 fn padded_kind(alloc: Global, bytes: &[u8], count: usize) -> Result<&'static str, AllocError> {
     let mut line = Vec::from_slice(alloc, bytes)?;
     for _ in bytes.len()..count {
@@ -44,8 +44,8 @@ fn long_lines(rt: HostRuntime) -> Result<(), Fail> {
 // The number of a line that seeds the generator or draws a uniform number.
 fn number_of(alloc: Global, line: &[u8]) -> Option<i64> {
     match &read(alloc, line) {
-        Ok(Line::Change(Command::Seed(seed))) => Some(*seed),
-        Ok(Line::Change(Command::Unif(bound))) => Some(*bound),
+        Ok(Line::Change(Single::Seed(seed))) => Some(*seed),
+        Ok(Line::Change(Single::Unif(bound))) => Some(*bound),
         _ => None,
     }
 }
@@ -62,7 +62,7 @@ fn numbers(rt: HostRuntime) {
     assert!(rt; number_of(alloc, b"unif 6") == Some(6));
 }
 
-// The numbers of what makes a graph, where it has six; a count of vertices or a kind of product six times.
+// The numbers of a maker, if it has six. A count of vertices or a kind of product is repeated six times.
 fn numbers_of(maker: &Maker) -> Option<[i64; 6]> {
     match maker {
         Maker::Empty(n) => Some([*n; 6]),
@@ -77,12 +77,12 @@ fn numbers_of(maker: &Maker) -> Option<[i64; 6]> {
 // The numbers of the graph that a line makes.
 fn made(alloc: Global, line: &[u8]) -> Option<[i64; 6]> {
     match &read(alloc, line) {
-        Ok(Line::Change(Command::Make(_, maker))) => numbers_of(maker),
+        Ok(Line::Change(Single::Make(_, maker))) => numbers_of(maker),
         _ => None,
     }
 }
 
-// A script shows these numbers only as the graph's id has them, or not at all.
+// A script shows these numbers only in the id of the graph, or not at all.
 #[test]
 fn numbers_of_graphs(rt: HostRuntime) {
     let alloc = rt.alloc();
@@ -94,26 +94,26 @@ fn numbers_of_graphs(rt: HostRuntime) {
     assert!(rt; made(alloc, b"product g h i 3 1") == Some([3; 6]));
 }
 
-// The vertices of the arc of length 0 that a line asks for.
+// The vertices of the arc of length 0 that a line adds.
 fn arc_of(alloc: Global, line: &[u8]) -> Option<(VertexNo, VertexNo)> {
     match &read(alloc, line) {
-        Ok(Line::Change(Command::Edit(_, Edit::Arc(from, to, 0)))) => Some((*from, *to)),
+        Ok(Line::Change(Single::Edit(_, Edit::Arc(from, to, 0)))) => Some((*from, *to)),
         _ => None,
     }
 }
 
-// How long the text is that a line gives a graph as its id, or a field.
+// The length of the text that a line sets as an id or as a field.
 fn text_len(alloc: Global, line: &[u8]) -> Option<usize> {
     match &read(alloc, line) {
-        Ok(Line::Change(Command::Edit(_, Edit::Id(text)))) => Some(text.bytes().len()),
-        Ok(Line::Change(Command::Edit(_, Edit::Set(_, Util::Text(text))))) => {
+        Ok(Line::Change(Single::Edit(_, Edit::Id(text)))) => Some(text.bytes().len()),
+        Ok(Line::Change(Single::Edit(_, Edit::Set(_, Util::Text(text))))) => {
             Some(text.bytes().len())
         }
         _ => None,
     }
 }
 
-// The length of an id of so many bytes, as a line gives it.
+// The length of the id that a line with an id of this many bytes sets.
 fn id_len(alloc: Global, count: usize) -> Result<Option<usize>, AllocError> {
     let text = vec![in alloc; b'a'; count]?;
     let mut line = Vec::from_slice(alloc, b"id g \"")?;
@@ -140,7 +140,7 @@ fn are_one_name(bytes: &[u8], others: &[u8]) -> bool {
     Name::new(bytes) == Name::new(others)
 }
 
-// Whether these bytes are a name that gives them back.
+// Whether these bytes are a name, and the name has these bytes.
 fn has_its_bytes(bytes: &[u8]) -> bool {
     match Name::new(bytes) {
         Some(name) => name.bytes() == bytes,
@@ -160,13 +160,13 @@ fn names(rt: HostRuntime) {
 }
 
 // Whether the refusal has this number and this text, and prints the text.
-fn is_told(alloc: Global, refusal: ShellRefusal, number: u8, text: &str) -> Result<bool, Fail> {
+fn has_text(alloc: Global, refusal: ShellRefusal, number: u8, text: &str) -> Result<bool, Fail> {
     let printed = format!(in alloc; "{refusal}")?;
     Ok(printed.as_str() == text && refusal.text() == text && refusal.number() == number)
 }
 
-// The first text whose refusal is not told by it.
-fn first_untold(alloc: Global) -> Result<Option<&'static str>, Fail> {
+// The first text that its refusal does not have.
+fn first_without_text(alloc: Global) -> Result<Option<&'static str>, Fail> {
     for (refusal, number, text) in [
         (ShellRefusal::NoRoom, 1, "no room"),
         (ShellRefusal::CheckWrong, 11, "check number is wrong"),
@@ -184,7 +184,7 @@ fn first_untold(alloc: Global) -> Result<Option<&'static str>, Fail> {
         (ShellRefusal::JournalFull, 105, "journal is full"),
         (ShellRefusal::Stuck, 106, "stuck"),
     ] {
-        if !is_told(alloc, refusal, number, text)? {
+        if !has_text(alloc, refusal, number, text)? {
             return Ok(Some(text));
         }
     }
@@ -193,6 +193,6 @@ fn first_untold(alloc: Global) -> Result<Option<&'static str>, Fail> {
 
 #[test]
 fn refusals_print_their_text(rt: HostRuntime) -> Result<(), Fail> {
-    assert_eq!(rt; first_untold(rt.alloc())?, None);
+    assert_eq!(rt; first_without_text(rt.alloc())?, None);
     Ok(())
 }

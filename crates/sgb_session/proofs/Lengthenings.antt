@@ -9,18 +9,18 @@ use Rattle.sgb_lengths.specs.declared.spec.LengthsSpec.{LengthsSpec}
 use Rattle.sgb_lengths.specs.Lengths.{CanRevertLengths, before_lengths, lengthened, lengths_of}
 use Rattle.sgb_plan.specs.declared.part.Seed.{Seed}
 use Rattle.sgb_undo.specs.Outcome.{Accepted, Refused}
-use Rattle.sgb_script.specs.declared.command.Command.TheVariants.{Lengths}
+use Rattle.sgb_script.specs.declared.command.Single.TheVariants.{Lengths}
 use Rattle.sgb_script.specs.declared.refusal.ShellRefusal.TheVariants.{TooLarge}
-use Rattle.sgb_session.specs.declared.reply.Delta.TheVariants as kept
-use Rattle.sgb_session.specs.declared.reply.Reply.TheVariants.{Done}
+use Rattle.sgb_session.specs.declared.reply.SingleDelta.TheVariants as kept
+use Rattle.sgb_session.specs.declared.reply.SingleReply.TheVariants.{Done}
 use Rattle.sgb_session.specs.declared.reply.Source.{Source}
 use Rattle.sgb_session.specs.declared.table.Entry.{Entry}
 use Rattle.sgb_session.specs.Drawing.{Drawing, generator_of, drawn_from, drawn_on}
 use Rattle.sgb_session.specs.Edits.{refusal_from}
 use Rattle.sgb_session.specs.Source.{source_of, turned_back, CanTurnBack}
-use Rattle.sgb_session.specs.State.{State, StepOutcome, step, may_want, lengthening, unless_refused, unless_spent, where_found, is_spent, Performs}
+use Rattle.sgb_session.specs.State.{State, StepOutcome, step, may_want, lengthening, unless_refused, unless_spent, where_found, is_spent}
 use Rattle.sgb_session.specs.Table.{find, entry_in, graph_in, with_graph}
-use Rattle.sgb_session.specs.Private.Making.{AtPlace}
+use Rattle.sgb_session.specs.Private.Making.{AtPlace, Performs}
 use Rattle.sgb_session.specs.Private.Working.{Lengthens, HasLengths, length_draws}
 use Rattle.sgb_session.proofs.Sessions.{state, graph_there, same_graph_back, replaced_twice, no_room_is}
 use Rattle.sgb_session.proofs.Makings.{can_turn_back, is_turned_back}
@@ -40,7 +40,7 @@ lengths_spent s name spec seed i at spent =
     ap (λ o. where_found o (λ j. unless_spent from (lengthening s j spec seed from))) at
     ∙ ap (λ (b : Bool). let o : StepOutcome = if b then Refused TooLarge else lengthening s i spec seed from in o) spent
 
-pub lengths_want : (s : State) (name : List ℕ) (spec : LengthsSpec) (seed : Seed) (i : ℕ) → find s.table name ≡ Some i → is_spent (drawn_from seed s.generator) ≡ false
+lengths_want : (s : State) (name : List ℕ) (spec : LengthsSpec) (seed : Seed) (i : ℕ) → find s.table name ≡ Some i → is_spent (drawn_from seed s.generator) ≡ false
     → may_want s (Lengths name spec seed) ≡ true
 lengths_want s name spec seed i at fresh =
     ap (λ o. is_some o && not (is_spent (drawn_from seed s.generator))) at ∙ ap not fresh

@@ -3,4 +3,3 @@ mod Tables
 mod Sessions
 mod Makings
 mod Lengthenings
-mod ShortEdits

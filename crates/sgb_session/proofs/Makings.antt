@@ -3,27 +3,26 @@ use Rattle.std.proofs.Common.{◌≡◌, ◌<◌, ◌+◌, ◌-◌, ℕ, ℤ, Li
 use Rattle.std.proofs.Math.Seq.{take-append_seam}
 use Rattle.std.specs.Prelude.{is_none, is_ok, unwrap_or}
 use Rattle.sgb_graph.specs.declared.refusal.Refusal.{Refusal}
-use Rattle.sgb_graph.specs.declared.refusal.Refusal.TheVariants as graphs
 use Rattle.sgb_graph.specs.Graph.{GraphOf, n_of, m_of}
 use Rattle.sgb_plan.specs.declared.part.Seed.{Seed}
 use Rattle.sgb_plan.specs.declared.part.Seed.TheVariants as seeds
 use Rattle.sgb_plan.specs.Plan.{Plan, IsMade, outcome_of}
 use Rattle.sgb_undo.specs.Outcome.{Accepted, is_accepted}
-use Rattle.sgb_script.specs.declared.command.Command.TheVariants.{Make}
+use Rattle.sgb_script.specs.declared.command.Single.TheVariants.{Make}
 use Rattle.sgb_script.specs.declared.command.Maker.{Maker}
 use Rattle.sgb_script.specs.declared.command.Maker.TheVariants.{Empty, Board, Simplex, Subsets, Perms, Binary, Random, Complement, Gunion, Intersection, Product, Induced, Load}
 use Rattle.sgb_script.specs.declared.refusal.ShellRefusal.{ShellRefusal}
-use Rattle.sgb_session.specs.declared.reply.Delta.{Delta}
-use Rattle.sgb_session.specs.declared.reply.Delta.TheVariants as kept
-use Rattle.sgb_session.specs.declared.reply.Reply.TheVariants.{Made}
+use Rattle.sgb_session.specs.declared.reply.SingleDelta.{SingleDelta}
+use Rattle.sgb_session.specs.declared.reply.SingleDelta.TheVariants as kept
+use Rattle.sgb_session.specs.declared.reply.SingleReply.TheVariants.{Made}
 use Rattle.sgb_session.specs.declared.table.Entry.{Entry}
 use Rattle.sgb_session.specs.Drawing.{Drawing, drawn_from, drawn_on}
 use Rattle.sgb_session.specs.Edits.{refusal_from}
 use Rattle.sgb_session.specs.Make.{empty_graph, graph_made, generator_after, kept_of}
 use Rattle.sgb_session.specs.Source.{source_of, turned_back, CanTurnBack}
-use Rattle.sgb_session.specs.State.{State, step, before, can_revert, may_want, is_large, unless, entering, refusal_of_making, Performs}
+use Rattle.sgb_session.specs.State.{State, step, before, can_revert, may_want, unless, entering, refusal_of_making}
 use Rattle.sgb_session.specs.Table.{find, graph_in, graph_named}
-use Rattle.sgb_session.specs.Private.Making.{MakesGraph, CanUnmake, unmade, may_lack, with_made}
+use Rattle.sgb_session.specs.Private.Making.{MakesGraph, Performs, may_lack, with_made}
 use Rattle.sgb_session.specs.Private.Working.{random_draws}
 use Rattle.sgb_session.proofs.Sessions.{state, no_room_is}
 
@@ -50,7 +49,7 @@ take_front t x =
     ap (λ k. take k (t ++ x ∷ [])) same ∙ take-append_seam t (x ∷ [])
 
 -- what is kept of a new graph leads back
-abbrev LeadsBack : Drawing → List Entry → Drawing → List Entry → Delta → Type 0
+abbrev LeadsBack : Drawing → List Entry → Drawing → List Entry → SingleDelta → Type 0
 LeadsBack d t e u k = can_revert (state e u) k × (before (state e u) k ≡ state d t)
 
 made_leads_back : (d : Drawing) (t : List Entry) (x : Entry) → LeadsBack d t d (t ++ x ∷ []) kept.Made
@@ -90,71 +89,13 @@ made_still d t m plan (Err e) same lacks stays keeps made = (
   ],
 )
 
--- the generator behind a graph that nothing keeps
-can_unmake_kept : (d : Drawing) (m : Maker) → CanUnmake (kept_of d m) (generator_after d m)
-can_unmake_kept d (Empty n) = tt
-can_unmake_kept d (Board spec) = tt
-can_unmake_kept d (Simplex spec) = tt
-can_unmake_kept d (Subsets spec) = tt
-can_unmake_kept d (Perms spec) = tt
-can_unmake_kept d (Binary spec) = tt
-can_unmake_kept d (Random spec seed) = can_turn_back seed d (random_draws spec (drawn_from seed d))
-can_unmake_kept d (Complement g spec) = tt
-can_unmake_kept d (Gunion g h spec) = tt
-can_unmake_kept d (Intersection g h directed) = tt
-can_unmake_kept d (Product g h spec) = tt
-can_unmake_kept d (Induced g description spec) = tt
-can_unmake_kept d (Load text rule) = tt
-
-unmade_kept : (d : Drawing) (m : Maker) → unmade (kept_of d m) (generator_after d m) ≡ d
-unmade_kept d (Empty n) = refl
-unmade_kept d (Board spec) = refl
-unmade_kept d (Simplex spec) = refl
-unmade_kept d (Subsets spec) = refl
-unmade_kept d (Perms spec) = refl
-unmade_kept d (Binary spec) = refl
-unmade_kept d (Random spec seed) = is_turned_back seed d (random_draws spec (drawn_from seed d))
-unmade_kept d (Complement g spec) = refl
-unmade_kept d (Gunion g h spec) = refl
-unmade_kept d (Intersection g h directed) = refl
-unmade_kept d (Product g h spec) = refl
-unmade_kept d (Induced g description spec) = refl
-unmade_kept d (Load text rule) = refl
-
-pub can_unmake : (d e : Drawing) (t : List Entry) (m : Maker) (a : GraphOf × Delta) → MakesGraph d e t m (Ok a) → CanUnmake a.1 e
-can_unmake d e t m a made =
-    subst (λ f. CanUnmake a.1 f) (sym made.1) (subst (λ k. CanUnmake k (generator_after d m)) (sym made.2) (can_unmake_kept d m))
-
-may_lack_made : (m : Maker) (g : GraphOf) → may_lack m (Ok g) ≡ true
-may_lack_made (Empty n) g = refl
-may_lack_made (Board spec) g = refl
-may_lack_made (Simplex spec) g = refl
-may_lack_made (Subsets spec) g = refl
-may_lack_made (Perms spec) g = refl
-may_lack_made (Binary spec) g = refl
-may_lack_made (Random spec seed) g = refl
-may_lack_made (Complement f spec) g = refl
-may_lack_made (Gunion f h spec) g = refl
-may_lack_made (Intersection f h directed) g = refl
-may_lack_made (Product f h spec) g = refl
-may_lack_made (Induced f description spec) g = refl
-may_lack_made (Load text rule) g = refl
-
--- a graph for which there is no box
-pub not_boxed : (d e f : Drawing) (t : List Entry) (m : Maker) (a : GraphOf × Delta) → MakesGraph d e t m (Ok a) → f ≡ unmade a.1 e
-    → MakesGraph d f t m (Err graphs.NoRoom)
-not_boxed d e f t m a made back = (
-  back ∙ (ap (unmade a.1) made.1 ∙ (ap (λ k. unmade k (generator_after d m)) made.2 ∙ unmade_kept d m)),
-  inl (refl, ap (may_lack m) made.0 ∙ may_lack_made m a.0),
-)
-
 -- a graph that was made
 making_is : (d : Drawing) (t : List Entry) (name : List ℕ) (m : Maker) (made : Result GraphOf Refusal) → refusal_of_making (state d t) name m ≡ None
     → graph_made d t m ≡ made → step (state d t) (Make name m) ≡ entering (state d t) name m made
 making_is d t name m made free is =
     ap (λ r. unless r (entering (state d t) name m (graph_made d t m))) free ∙ ap (entering (state d t) name m) is
 
-pub make_done : (d e : Drawing) (t : List Entry) (name : List ℕ) (m : Maker) (a : GraphOf × Delta) → refusal_of_making (state d t) name m ≡ None
+pub make_done : (d e : Drawing) (t : List Entry) (name : List ℕ) (m : Maker) (a : GraphOf × SingleDelta) → refusal_of_making (state d t) name m ≡ None
     → MakesGraph d e t m (Ok a) → Performs (state d t) (state e (t ++ record { name = name; graph = a.0 } ∷ [])) (Make name m) (Ok (a.1, Made name (n_of a.0) (m_of a.0)))
 make_done d e t name m a free made =
     let x : Entry = record { name = name; graph = a.0 } in
@@ -192,22 +133,6 @@ make_wants d t name (Intersection g h directed) free lacks = ap is_none free
 make_wants d t name (Product g h spec) free lacks = ap is_none free
 make_wants d t name (Induced g description spec) free lacks = ap is_none free
 make_wants d t name (Load text rule) free lacks = ap is_none free
-
--- what makes more than vertices may want for memory wherever it may be made
-pub large_wants : (s : State) (name : List ℕ) (m : Maker) → is_large (Make name m) ≡ true → refusal_of_making s name m ≡ None → may_want s (Make name m) ≡ true
-large_wants s name (Empty n) large free = absurd cc
-large_wants s name (Board spec) large free = ap is_none free
-large_wants s name (Simplex spec) large free = ap is_none free
-large_wants s name (Subsets spec) large free = ap is_none free
-large_wants s name (Perms spec) large free = ap is_none free
-large_wants s name (Binary spec) large free = ap is_none free
-large_wants s name (Random spec seed) large free = ap is_none free
-large_wants s name (Complement g spec) large free = ap is_none free
-large_wants s name (Gunion g h spec) large free = ap is_none free
-large_wants s name (Intersection g h directed) large free = ap is_none free
-large_wants s name (Product g h spec) large free = ap is_none free
-large_wants s name (Induced g description spec) large free = ap is_none free
-large_wants s name (Load text rule) large free = ap is_none free
 
 -- a graph that was not made
 pub make_refused : (d e : Drawing) (t : List Entry) (name : List ℕ) (m : Maker) (r : Refusal) → refusal_of_making (state d t) name m ≡ None

@@ -1,10 +1,13 @@
 -- What an edit of a graph does to the session.
-use Rattle.std.proofs.Common.{◌≡◌, ◌<◌, ◌≤◌, ℕ, List, length, set, refl, true, Option, Some, None, Ok, Err, sym, ap, ap₂, ◌∙◌, subst, inl, inr, arith}
-use Rattle.std.specs.Prelude.{is_none, ◌&&◌, ◌||◌}
-use Rattle.std.specs.List.{position_or_len, insert, remove}
+use Rattle.std.proofs.Common.{◌≡◌, ◌<◌, ◌≤◌, ℕ, List, length, set, insert, remove, refl, ap₂, true, Option, Some, None, Ok, Err, sym, ap, ◌∙◌, subst, inl, inr, cond, arith}
+use Rattle.std.specs.Prelude.{nat_lt, is_none, ◌&&◌, ◌||◌}
+use Rattle.std.specs.List.{position_or_len}
 use Rattle.std.specs.Str.{bytes_eq}
-use Rattle.std.proofs.lemmas.List.Edits.{length-remove}
+use Rattle.std.proofs.lemmas.Bool.{cases_Bool, ltb-true}
 use Rattle.std.proofs.lemmas.List.{set-get_or, set-set, get_or-set_same, length-set}
+use Rattle.std.proofs.lemmas.List.Edits.{length-remove}
+use Rattle.sgb_session.proofs.Tables.{insert-remove}
+use Rattle.sgb_session.specs.declared.reply.SingleReply.TheVariants.{Done}
 use Rattle.sgb_graph.specs.declared.delta.GraphDelta.{GraphDelta}
 use Rattle.sgb_graph.specs.declared.refusal.Refusal.{Refusal}
 use Rattle.sgb_graph.specs.declared.refusal.Refusal.TheVariants as graphs
@@ -13,18 +16,16 @@ use Rattle.sgb_graph.specs.Delta.{LeftBy}
 use Rattle.sgb_graph.proofs.Reverting.{reverted_is}
 use Rattle.sgb_undo.specs.Outcome.{Accepted, is_accepted}
 use Rattle.sgb_script.specs.declared.command.Edit as script
-use Rattle.sgb_script.specs.declared.command.Command.TheVariants.{Edit, Drop}
+use Rattle.sgb_script.specs.declared.command.Single.TheVariants.{Edit, Drop}
 use Rattle.sgb_script.specs.declared.refusal.ShellRefusal.TheVariants as shells
-use Rattle.sgb_session.specs.declared.reply.Delta.TheVariants as kept
-use Rattle.sgb_session.specs.declared.reply.Reply.{Reply}
-use Rattle.sgb_session.specs.declared.reply.Reply.TheVariants.{Done}
+use Rattle.sgb_session.specs.declared.reply.SingleDelta.TheVariants as kept
+use Rattle.sgb_session.specs.declared.reply.SingleReply.{SingleReply}
 use Rattle.sgb_session.specs.declared.table.Entry.{Entry}
 use Rattle.sgb_session.specs.Drawing.{Drawing}
 use Rattle.sgb_session.specs.Edits.{edited, refusal_from, edit_has_text, edit_takes_memory}
-use Rattle.sgb_session.specs.State.{State, StepOutcome, step, may_want, editing, unless_refused, where_found, dropping, Performs}
+use Rattle.sgb_session.specs.State.{State, StepOutcome, step, may_want, editing, unless_refused, where_found, dropping}
 use Rattle.sgb_session.specs.Table.{find, no_entry, entry_in, graph_in, with_graph}
-use Rattle.sgb_session.specs.Private.Making.{AtPlace, Edits, edit_may_want}
-use Rattle.sgb_session.proofs.Tables.{insert-remove, found_within}
+use Rattle.sgb_session.specs.Private.Making.{Performs, AtPlace, Edits, edit_may_want}
 
 abbrev pub state : Drawing → List Entry → State
 state d t = record { generator = d; table = t }
@@ -41,6 +42,12 @@ replaced_twice t i g h within =
     ap (λ (e : Entry). set (with_graph t i g) i (record e { graph = h })) (get_or-set_same t i (record (entry_in t i) { graph = g }) no_entry within)
     ∙ set-set t i (record (entry_in t i) { graph = g }) (record (entry_in t i) { graph = h })
 
+found_within : (n l i : ℕ) → cond (nat_lt n l) (Some n) None ≡ Some i → i < l
+found_within n l i e = elim (cases_Bool (nat_lt n l)) [
+  | inl low ↦ (let same : n ≡ i = cc in omega (arith, ltb-true n l low))
+  | inr high ↦ absurd cc
+]
+
 pub find_within : (t : List Entry) (name : List ℕ) (i : ℕ) → find t name ≡ Some i → i < length t
 find_within t name i e = found_within (position_or_len (λ e. bytes_eq e.name name) t) (length t) i e
 
@@ -49,7 +56,7 @@ step_is : (s : State) (name : List ℕ) (e : script.Edit) (i : ℕ) → find s.t
 step_is s name e i at = ap (λ o. where_found o (λ j. editing s j (edited (graph_in s.table j) e))) at
 
 -- an edit that was made
-pub edit_done : (d : Drawing) (t u : List Entry) (name : List ℕ) (e : script.Edit) (i : ℕ) (a : GraphDelta × Reply) → find t name ≡ Some i → i < length t
+pub edit_done : (d : Drawing) (t u : List Entry) (name : List ℕ) (e : script.Edit) (i : ℕ) (a : GraphDelta × SingleReply) → find t name ≡ Some i → i < length t
     → AtPlace (Edits e (Ok a)) t u i → Performs (state d t) (state d u) (Edit name e) (Ok (kept.Edit i a.0, a.1))
 edit_done d t u name e i a at within m =
     let x = edited (graph_in t i) e in

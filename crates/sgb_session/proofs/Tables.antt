@@ -1,9 +1,8 @@
 -- What the slots of a table show.
-use Rattle.std.proofs.Common.{◌≡◌, ◌<◌, ◌≤◌, ◌+◌, ℕ, suc, List, [], ◌∷◌, ◌++◌, length, map, get_or, set, take, drop, Option, Some, None, All, Bool, refl, sym, ap, ◌∙◌, subst, cond, not, zero, inl, inr, arith}
+use Rattle.std.proofs.Common.{◌≡◌, ◌<◌, ◌+◌, ℕ, suc, List, [], ◌∷◌, ◌++◌, length, map, get_or, set, take, drop, Option, Some, None, All, Bool, refl, sym, ap, ◌∙◌, subst, cond, not, zero, arith}
 use Rattle.std.specs.List.{insert, remove, position, position_or_len}
-use Rattle.std.specs.Prelude.{nat_lt, IfSome}
+use Rattle.std.specs.Prelude.{nat_lt}
 use Rattle.std.proofs.Math.ListN.{get_or-map}
-use Rattle.std.proofs.lemmas.Bool.{cases_Bool, ltb-true}
 use Rattle.std.proofs.lemmas.List.{map-set, length-map, get_or_default}
 use Rattle.std.proofs.lemmas.List.Elements.{All-append, All-cons, All-take, All-drop}
 use Rattle.sgb_graph.specs.declared.delta.GraphDelta.{GraphDelta}
@@ -36,17 +35,6 @@ map-insert f xs i x = map-append f (take i xs) (x ∷ drop i xs) ∙ (ap (λ l. 
 
 pub map-remove : {X Y : Type 0} (f : X → Y) (xs : List X) (i : ℕ) → map f (remove xs i) ≡ remove (map f xs) i
 map-remove f xs i = map-append f (take i xs) (drop (suc i) xs) ∙ (ap (λ l. l ++ map f (drop (suc i) xs)) (map-take f i xs) ∙ ap (λ l. take i (map f xs) ++ l) (map-drop f (suc i) xs))
-
-pub found_within : (n l i : ℕ) → cond (nat_lt n l) (Some n) None ≡ Some i → i < l
-found_within n l i e = elim (cases_Bool (nat_lt n l)) [
-  | inl low ↦ (let same : n ≡ i = cc in omega (arith, ltb-true n l low))
-  | inr high ↦ absurd cc
-]
-
--- what is found stands in the list
-pub found_few : {X : Type 0} (p : X → Bool) (xs : List X) (most : ℕ) (o : Option ℕ) → o ≡ position p xs → length xs ≤ most → IfSome o (λ i. i < most)
-found_few p xs most None e few = tt
-found_few p xs most (Some i) e few = omega (arith, found_within (position_or_len p xs) (length xs) i (sym e), few)
 
 position_or_len-map : {X Y : Type 0} (f : X → Y) (p : Y → Bool) (xs : List X) → position_or_len (λ x. p (f x)) xs ≡ position_or_len p (map f xs)
 position_or_len-map f p [] = refl

@@ -15,15 +15,15 @@ use Rattle.sgb_script.specs.declared.command.Edit.{Edit}
 use Rattle.sgb_script.specs.declared.command.Edit.TheVariants.{Arc, Edge, Cut, Len, Set, Types, Label, Id}
 use Rattle.sgb_script.specs.declared.refusal.ShellRefusal.{ShellRefusal}
 use Rattle.sgb_script.specs.declared.refusal.ShellRefusal.TheVariants.{NoRoom, CheckWrong, Syntax, BadSpecs, LengthRange, TooLarge, BadOperand, Stuck}
-use Rattle.sgb_session.specs.declared.reply.Reply.{Reply}
-use Rattle.sgb_session.specs.declared.reply.Reply.TheVariants as replies
+use Rattle.sgb_session.specs.declared.reply.SingleReply.{SingleReply}
+use Rattle.sgb_session.specs.declared.reply.SingleReply.TheVariants as replies
 
 -- why it is refused, want of memory aside; the graph after it, what undoing it needs, and the reply
 pub record Edited : Type 0 where
   pub refusal : Option Refusal
   pub graph : GraphOf
   pub delta : GraphDelta
-  pub reply : Reply
+  pub reply : SingleReply
 
 abbrev number : ℕ → ArcNo
 number k = record { 0 = k }

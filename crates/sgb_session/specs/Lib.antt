@@ -3,6 +3,6 @@ pub mod Edits
 pub mod Make
 pub mod Source
 pub mod State
+pub mod Command
 pub mod Table
-pub mod Brief
 pub mod Private

@@ -17,8 +17,8 @@ use Rattle.sgb_plan.specs.Plan.{outcome_of}
 use Rattle.sgb_random.specs.Random.{course, plan_of_random}
 use Rattle.sgb_script.specs.declared.command.Maker.{Maker}
 use Rattle.sgb_script.specs.declared.command.Maker.TheVariants.{Empty, Board, Simplex, Subsets, Perms, Binary, Random, Complement, Gunion, Intersection, Product, Induced, Load}
-use Rattle.sgb_session.specs.declared.reply.Delta.{Delta}
-use Rattle.sgb_session.specs.declared.reply.Delta.TheVariants as kept
+use Rattle.sgb_session.specs.declared.reply.SingleDelta.{SingleDelta}
+use Rattle.sgb_session.specs.declared.reply.SingleDelta.TheVariants as kept
 use Rattle.sgb_session.specs.declared.table.Entry.{Entry}
 use Rattle.sgb_session.specs.Drawing.{Drawing, generator_of, drawn_from, drawn_on}
 use Rattle.sgb_session.specs.Source.{source_of}
@@ -69,6 +69,6 @@ generator_after d (Random spec seed) = let from = drawn_from seed d in drawn_on 
 generator_after d m = d
 
 -- what undoing it needs: of a random graph what the generator was
-abbrev pub kept_of : Drawing → Maker → Delta
+abbrev pub kept_of : Drawing → Maker → SingleDelta
 kept_of d (Random spec seed) = kept.MadeBy (source_of seed d (course spec (generator_of (drawn_from seed d))).draws)
 kept_of d m = kept.Made

@@ -1,5 +1,5 @@
 -- The session's state, and what each command does to it.
-use Rattle.std.specs.Prelude.{◌≡◌, ◌⊎◌, ℕ, ◌≤◌, ◌<◌, ◌-◌, ◌^◌, ◌&&◌, ◌||◌, not, nat_le, if◌then◌else◌, pos, unsigned_abs, int_lt, List, [], ◌∷◌, ◌++◌, length, take, insert, remove, Option, None, Some, is_some, is_none, Bool, true, false, Result, Ok, Err}
+use Rattle.std.specs.Prelude.{ℕ, ◌≤◌, ◌<◌, ◌-◌, ◌^◌, ◌&&◌, ◌||◌, not, nat_le, if◌then◌else◌, pos, unsigned_abs, int_lt, List, [], ◌∷◌, ◌++◌, length, take, insert, remove, Option, None, Some, is_some, is_none, Bool, true, false, Result, Ok, Err}
 use Rattle.sgb_flip.specs.Generator.{drawn, uniform}
 use Rattle.sgb_graph.specs.declared.refusal.Refusal.{Refusal}
 use Rattle.sgb_graph.specs.Graph.{GraphOf, n_of, m_of}
@@ -9,16 +9,16 @@ use Rattle.sgb_lengths.specs.declared.spec.LengthsSpec.{LengthsSpec}
 use Rattle.sgb_lengths.specs.Lengths.{CanRevertLengths, before_lengths, draws_for, lengthened, lengths_of, refusal_of_lengths}
 use Rattle.sgb_plan.specs.declared.part.Seed as parts
 use Rattle.sgb_undo.specs.Outcome.{Outcome, Accepted, Refused, is_accepted}
-use Rattle.sgb_script.specs.declared.command.Command.{Command}
-use Rattle.sgb_script.specs.declared.command.Command.TheVariants.{Seed, Next, Unif, Make, Edit, Lengths, Drop}
+use Rattle.sgb_script.specs.declared.command.Single.{Single}
+use Rattle.sgb_script.specs.declared.command.Single.TheVariants.{Seed, Next, Unif, Make, Edit, Lengths, Drop}
 use Rattle.sgb_script.specs.declared.command.Maker.{Maker}
 use Rattle.sgb_script.specs.declared.command.Maker.TheVariants.{Empty}
 use Rattle.sgb_script.specs.declared.refusal.ShellRefusal.{ShellRefusal}
-use Rattle.sgb_script.specs.declared.refusal.ShellRefusal.TheVariants.{NoRoom, BadSpecs, TooLarge, NoGraph, TableFull, NameTaken}
-use Rattle.sgb_session.specs.declared.reply.Delta.{Delta}
-use Rattle.sgb_session.specs.declared.reply.Delta.TheVariants as kept
-use Rattle.sgb_session.specs.declared.reply.Reply.{Reply}
-use Rattle.sgb_session.specs.declared.reply.Reply.TheVariants.{Done, Number, Made}
+use Rattle.sgb_script.specs.declared.refusal.ShellRefusal.TheVariants.{BadSpecs, TooLarge, NoGraph, TableFull, NameTaken}
+use Rattle.sgb_session.specs.declared.reply.SingleDelta.{SingleDelta}
+use Rattle.sgb_session.specs.declared.reply.SingleDelta.TheVariants as kept
+use Rattle.sgb_session.specs.declared.reply.SingleReply.{SingleReply}
+use Rattle.sgb_session.specs.declared.reply.SingleReply.TheVariants.{Done, Number, Made}
 use Rattle.sgb_session.specs.declared.table.Entry.{Entry}
 use Rattle.sgb_session.specs.Drawing.{Drawing, generator_of, seeded_by, drawn_on, drawn_back, drawn_from}
 use Rattle.sgb_session.specs.Edits.{Edited, edited, edit_has_text, edit_takes_memory, refusal_from}
@@ -36,7 +36,7 @@ abbrev pub empty : State
 empty = record { generator = seeded_by (pos 0); table = [] }
 
 abbrev pub StepOutcome : Type 0
-StepOutcome = Outcome State Delta Reply ShellRefusal
+StepOutcome = Outcome State SingleDelta SingleReply ShellRefusal
 
 -- the first refusal there is, and else the outcome
 abbrev pub unless : Option ShellRefusal → StepOutcome → StepOutcome
@@ -100,7 +100,7 @@ abbrev pub dropping : State → ℕ → StepOutcome
 dropping s i = Accepted (record s { table = remove s.table i }) (kept.Dropped i (entry_in s.table i).name (graph_in s.table i)) Done
 
 -- what a command does: the state after it, what undoing it needs, and the reply, or the first refusal
-abbrev pub step : State → Command → StepOutcome
+abbrev pub step : State → Single → StepOutcome
 step s (Seed n) = Accepted (record s { generator = seeded_by n }) (kept.Seed s.generator) Done
 step s Next = unless_spent s.generator (drawing s 1 (drawn (generator_of s.generator) 0))
 step s (Unif m) = unless_spent s.generator
@@ -113,7 +113,7 @@ step s (Lengths name spec seed) = where_found (find s.table name) (λ i.
 step s (Drop name) = where_found (find s.table name) (dropping s)
 
 -- whether a command takes memory: a new graph, arc or edge, new lengths, and a text
-abbrev pub takes_memory : Command → Bool
+abbrev pub takes_memory : Single → Bool
 takes_memory (Seed n) = false
 takes_memory Next = false
 takes_memory (Unif m) = false
@@ -125,7 +125,7 @@ takes_memory (Drop name) = false
 -- Whether a command may want for memory at a state: a graph once its names are good, but one without arcs only where it
 -- is accepted; an edit with a text, since the text is copied first, and another edit that takes memory where it is
 -- accepted; and lengths of a graph that is there.
-abbrev pub may_want : State → Command → Bool
+abbrev pub may_want : State → Single → Bool
 may_want s (Make name (Empty n)) = is_accepted (step s (Make name (Empty n)))
 may_want s (Make name m) = is_none (refusal_of_making s name m)
 may_want s (Edit name e) = edit_takes_memory e && (edit_has_text e || is_accepted (step s (Edit name e)))
@@ -133,7 +133,7 @@ may_want s (Lengths name spec seed) = is_some (find s.table name) && not (is_spe
 may_want s c = false
 
 -- the state that a delta leads back to
-abbrev pub before : State → Delta → State
+abbrev pub before : State → SingleDelta → State
 before s (kept.Seed generator) = record s { generator = generator }
 before s (kept.Draws n) = record s { generator = drawn_back s.generator n }
 before s kept.Made = record s { table = take (length s.table - 1) s.table }
@@ -144,7 +144,7 @@ before s (kept.Lengths i d source) =
 before s (kept.Dropped i name g) = record s { table = insert s.table i (record { name = name; graph = g }) }
 
 -- no more draws can be taken back than were made; an edit is taken back from a graph that it left
-abbrev pub can_revert : State → Delta → Type 0
+abbrev pub can_revert : State → SingleDelta → Type 0
 can_revert s (kept.Seed generator) = Unit {0}
 can_revert s (kept.Draws n) = n ≤ s.generator.draws
 can_revert s kept.Made = 0 < length s.table
@@ -152,22 +152,3 @@ can_revert s (kept.MadeBy source) = (0 < length s.table) × CanTurnBack source s
 can_revert s (kept.Edit i d) = (i < length s.table) × ((g : GraphOf) × LeftBy g d (graph_in s.table i))
 can_revert s (kept.Lengths i d source) = (i < length s.table) × CanRevertLengths d (graph_in s.table i) × CanTurnBack source s.generator
 can_revert s (kept.Dropped i name g) = (i ≤ length s.table) × (length s.table < 64)
-
--- what was answered, with what was written of it into two places
-abbrev pub told : {D R U F : Type 0} → D → R → Result U F → Result (D × R) F
-told d r (Ok done) = Ok (d, r)
-told d r (Err refusal) = Err refusal
-
--- a command was performed, with a delta that leads back; or it changed nothing, since it is refused, or since memory
--- was wanted and may be
-abbrev pub Performs : State → State → Command → Result (Delta × Reply) ShellRefusal → Type 0
-Performs old new c (Ok a) = (step old c ≡ Accepted new a.0 a.1) × can_revert new a.0 × (before new a.0 ≡ old)
-Performs old new c (Err r) = (new ≡ old) × (((r ≡ NoRoom) × (may_want old c ≡ true)) ⊎ (step old c ≡ Refused r))
-
--- A command that makes more than vertices, or draws lengths. It may want for memory wherever its names and the generator
--- are good.
-abbrev pub is_large : Command → Bool
-is_large (Make name (Empty n)) = false
-is_large (Make name m) = true
-is_large (Lengths name spec seed) = true
-is_large c = false

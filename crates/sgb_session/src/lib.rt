@@ -1,22 +1,18 @@
-//! The session: a generator and named graphs, as a machine whose commands can be taken back.
+//! The session: a generator and named graphs, as a machine whose commands can be undone.
+//!
+//! [`Base`] performs single commands. [`Session`], above it, performs commands that are single or groups.
 #![tactic(auto)]
 
-mod boxed;
-mod brief;
-mod brief_edit;
-mod briefly;
+mod base;
 mod edit;
 mod making;
 mod mark;
-mod past;
 mod reply;
 mod session;
 mod table;
 
-pub use boxed::Boxed;
-pub use brief::{BriefDelta, BriefReply};
+pub use base::{Base, MOST_DRAWS, MOST_UNIFORM};
 pub use mark::Mark;
-pub use past::Past;
-pub use reply::{Delta, Reply, Source};
-pub use session::{MOST_DRAWS, MOST_UNIFORM, Session};
+pub use reply::{Delta, Reply, SingleDelta, SingleReply, Source};
+pub use session::Session;
 pub use table::{Entry, MOST_GRAPHS};

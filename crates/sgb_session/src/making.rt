@@ -3,14 +3,13 @@ ghost use Rattle.std.specs.Prelude.{◌≡◌, ◌<◌, ◌^◌, ◌&&◌, [], �
 ghost use Rattle.sgb_script.specs.declared.command.Maker.TheVariants.{Empty, Random, Load};
 ghost use Rattle.sgb_session.specs.Drawing.{drawn_from};
 ghost use Rattle.sgb_session.specs.Make.{empty_graph, goes_on};
-ghost use Rattle.sgb_session.specs.Private.Making.{StandAt, Finds, AnswersGraph, MakesGraph, CanUnmake, unmade, with_made};
+ghost use Rattle.sgb_session.specs.Private.Making.{StandAt, Finds, AnswersGraph, MakesGraph, with_made};
 ghost use Rattle.sgb_session.specs.State.{is_spent};
 ghost use Rattle.sgb_session.specs.Table.{find, has_all};
 ghost use Rattle.sgb_text.specs.Read.{read_as};
 
-use crate::boxed::Boxed;
 use crate::mark::Mark;
-use crate::reply::Delta;
+use crate::reply::SingleDelta;
 use crate::table::Table;
 use sgb_combine::{complement, gunion, induced, intersection, product};
 use sgb_graph::{Graph, Items, MOST_VERTICES, Refusal};
@@ -58,46 +57,14 @@ pub(crate) fn goes_on(maker: &Maker) -> bool
     matches!(maker, Maker::Random(_, Seed::Current))
 }
 
-/// Makes a graph, in a box that the table keeps it in. Its operands stand at these places.
-pub(crate) fn make_boxed(
+/// Makes a graph. Its operands stand at these places.
+pub(crate) fn make_graph(
     alloc: Global,
     generator: &mut Mark,
     table: &Table,
     operands: (usize, usize),
     maker: &Maker,
-) -> Result<(Boxed<Graph>, Delta), Refusal>
-    requires operands { StandAt table.now maker.now operands }
-    requires fresh { (goes_on maker.now && is_spent generator.old) ≡ false }
-    ensures { MakesGraph generator.old generator.new table.now maker.now result }
-{
-    let (graph, delta) = make_graph(alloc, generator, table, operands, maker)?;
-    match Boxed::new(alloc, graph) {
-        Ok(boxed) => Ok((boxed, delta)),
-        Err(_) => {
-            unmake(generator, delta);
-            Err(Refusal::NoRoom)
-        }
-    }
-}
-
-// Turns the generator back behind a graph that nothing keeps.
-fn unmake(generator: &mut Mark, delta: Delta)
-    requires { CanUnmake delta generator.old }
-    ensures { generator.new ≡ unmade delta generator.old }
-{
-    if let Delta::MadeBy(source) = delta {
-        generator.turn_back(source);
-    }
-}
-
-// Makes a graph.
-fn make_graph(
-    alloc: Global,
-    generator: &mut Mark,
-    table: &Table,
-    operands: (usize, usize),
-    maker: &Maker,
-) -> Result<(Graph, Delta), Refusal>
+) -> Result<(Graph, SingleDelta), Refusal>
     requires operands { StandAt table.now maker.now operands }
     requires fresh { (goes_on maker.now && is_spent generator.old) ≡ false }
     ensures { MakesGraph generator.old generator.new table.now maker.now result }
@@ -156,18 +123,18 @@ fn make_random(
     generator: &mut Mark,
     spec: &RandomSpec,
     seed: Seed,
-) -> Result<(Graph, Delta), Refusal>
+) -> Result<(Graph, SingleDelta), Refusal>
     requires { (drawn_from seed generator.old).draws < 2 ^ 62 }
     ensures { MakesGraph generator.old generator.new [] (Random spec.now seed) result }
 {
     let (graph, source) = generator.random(alloc, spec, seed)?;
-    Ok((graph, Delta::MadeBy(source)))
+    Ok((graph, SingleDelta::MadeBy(source)))
 }
 
 // A graph that leaves the generator alone.
-fn made(outcome: Result<Graph, Refusal>) -> Result<(Graph, Delta), Refusal>
+fn made(outcome: Result<Graph, Refusal>) -> Result<(Graph, SingleDelta), Refusal>
     ensures { result ≡ with_made outcome }
 {
     let graph = outcome?;
-    Ok((graph, Delta::Made))
+    Ok((graph, SingleDelta::Made))
 }

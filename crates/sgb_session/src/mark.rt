@@ -11,7 +11,6 @@ ghost use Rattle.sgb_session.specs.Drawing.{
 ghost use Rattle.sgb_session.specs.Source.{turned_back, CanTurnBack};
 ghost use Rattle.sgb_session.specs.Private.Working.{DrawsRandom, MakesRandom, DrawsLengths, Lengthens};
 
-use crate::boxed::Boxed;
 use crate::reply::Source;
 use sgb_combine::{LengthsDelta, LengthsSpec, random_lengths};
 use sgb_flip::{Drawn, Flip};
@@ -54,19 +53,6 @@ impl Mark {
         }
     }
 
-    /// The generator of a seed, from which so many numbers were drawn.
-    pub(crate) fn drawn_anew(seed: u32, draws: u64) -> Mark
-        requires small { seed < 2 ^ 31 }
-        requires few { draws < 2 ^ 63 }
-        ensures { result ≡ record { seed = seed; draws = draws } }
-    {
-        let mut flip = Flip::new(i64::from(seed));
-        for _draw in 0..draws {
-            let _number = flip.next();
-        }
-        Mark { flip, seed, draws }
-    }
-
     /// Draws one number below 2^31.
     #[inline]
     pub fn next(&mut self) -> u32
@@ -80,7 +66,6 @@ impl Mark {
     }
 
     /// Draws a uniform number below `m`.
-    #[inline]
     pub fn uniform(&mut self, m: u32) -> Drawn
         requires positive { 1 ≤ m }
         requires small { m ≤ 2 ^ 31 }
@@ -97,16 +82,11 @@ impl Mark {
     }
 
     /// Takes back the last draws.
-    #[inline]
     pub fn back_by(&mut self, draws: u64)
         requires { draws ≤ self.old.draws }
         ensures { self.new ≡ drawn_back self.old draws }
     {
         self.draws -= draws;
-        if draws == 1 {
-            self.flip.back();
-            return;
-        }
         self.flip.back_by(draws);
     }
 
@@ -123,9 +103,9 @@ impl Mark {
     {
         match seed {
             Seed::Number(number) => {
-                let before = Boxed::new(alloc, *self)?;
                 let mut fresh = Mark::new(number);
                 let (graph, _) = fresh.draw_random(alloc, spec, seed)?;
+                let before = *self;
                 *self = fresh;
                 Ok((graph, Source::Seeded(before)))
             }
@@ -166,9 +146,9 @@ impl Mark {
     {
         match seed {
             Seed::Number(number) => {
-                let before = Boxed::new(alloc, *self)?;
                 let mut fresh = Mark::new(number);
                 let (delta, _) = fresh.draw_lengths(alloc, graph, spec, seed)?;
+                let before = *self;
                 *self = fresh;
                 Ok((delta, Source::Seeded(before)))
             }
@@ -196,15 +176,13 @@ impl Mark {
     }
 
     /// Turns the generator back behind random work.
-    // A generator is large, so what is copied here has its room in a call of its own, and not in that of each undo.
-    #[inline(never)]
     pub(crate) fn turn_back(&mut self, source: Source)
         requires { CanTurnBack source self.old }
         ensures { self.new ≡ turned_back source self.old }
     {
         match source {
             Source::Draws(draws) => self.back_by(draws),
-            Source::Seeded(before) => *self = *before.get(),
+            Source::Seeded(before) => *self = before,
         }
     }
 

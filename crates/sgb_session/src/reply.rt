@@ -1,17 +1,34 @@
-//! What a command leaves for its undoing, and what it answers.
+//! What a command leaves for its undoing, and what it replies.
 
-use crate::boxed::Boxed;
 use crate::mark::Mark;
-use crate::past::Past;
 use sgb_combine::LengthsDelta;
 use sgb_graph::{ArcNo, Graph, GraphDelta};
 use sgb_script::Name;
+use sgb_undo::Members;
 
 /// What undoing a command needs beside the command. It holds no copy of a graph or of the table.
 #[derive(Drop, PartialEq, Eq)]
 pub enum Delta {
-    /// The generator before a seeding, by its seed and its draws.
-    Seed(Past),
+    /// What undoing a single command needs.
+    One(SingleDelta),
+    /// What undoing each member of a group needs, in order.
+    Group(Members<SingleDelta>),
+}
+
+/// What an accepted command replies.
+#[derive(Debug, Drop, PartialEq, Eq)]
+pub enum Reply {
+    /// The reply to a single command.
+    One(SingleReply),
+    /// The replies to the members of a group, in order.
+    Group(Members<SingleReply>),
+}
+
+/// What undoing a single command needs beside the command.
+#[derive(Drop, PartialEq, Eq)]
+pub enum SingleDelta {
+    /// The generator before a seeding.
+    Seed(Mark),
     /// How many numbers were drawn.
     Draws(u64),
     /// A graph was made; it stands last in the table.
@@ -19,25 +36,25 @@ pub enum Delta {
     /// A random graph was made; it stands last in the table.
     MadeBy(Source),
     /// The graph at this place of the table was edited.
-    Edit(u32, GraphDelta),
+    Edit(usize, GraphDelta),
     /// The graph at this place got new lengths.
-    Lengths(u32, LengthsDelta, Source),
+    Lengths(usize, LengthsDelta, Source),
     /// The graph that left the table, with its place and its name.
-    Dropped(u32, Name, Boxed<Graph>),
+    Dropped(usize, Name, Graph),
 }
 
-/// What turns the generator back behind random work.
+/// What turns the generator back after random work.
 #[derive(Drop, PartialEq, Eq)]
 pub enum Source {
     /// How many numbers were drawn from the generator, which went on.
     Draws(u64),
     /// The generator before it was seeded anew.
-    Seeded(Boxed<Mark>),
+    Seeded(Mark),
 }
 
-/// What an accepted command answers.
+/// What an accepted single command replies.
 #[derive(Clone, Copy, Debug, PartialEq, Eq)]
-pub enum Reply {
+pub enum SingleReply {
     /// It is done.
     Done,
     /// The number that was drawn.

@@ -1,5 +1,5 @@
 //! The named graphs of a session.
-ghost use Rattle.std.specs.Prelude.{◌≡◌, ◌<◌, ◌≤◌, ◌^◌, ◌-◌, ◌++◌, ◌∷◌, [], length, take, insert, remove, IsSome, IfSome, true};
+ghost use Rattle.std.specs.Prelude.{◌≡◌, ◌<◌, ◌≤◌, ◌^◌, ◌-◌, ◌++◌, ◌∷◌, [], length, take, insert, remove, IsSome};
 ghost use Rattle.std.specs.List.{position};
 ghost use Rattle.std.specs.Str.{bytes_eq};
 ghost use Rattle.sgb_graph.specs.Graph.{GraphOf};
@@ -8,23 +8,18 @@ ghost use Rattle.sgb_graph.specs.Reverted.{reverted};
 ghost use Rattle.sgb_lengths.specs.Lengths.{CanRevertLengths, before_lengths};
 ghost use Rattle.sgb_session.specs.Drawing.{drawn_from};
 ghost use Rattle.sgb_session.specs.Private.Making.{AtPlace, InSlot, Edits};
-ghost use Rattle.sgb_session.specs.Private.Briefly.{EditsBriefly, leaves_plainly};
-ghost use Rattle.sgb_session.specs.State.{told};
 ghost use Rattle.sgb_session.specs.Private.Slots.{held, slot_in, slot_with_graph};
 ghost use Rattle.sgb_session.specs.Private.Working.{Lengthens};
 ghost use Rattle.sgb_session.specs.Table.{find, entry_in, graph_in, with_graph};
 
-use crate::boxed::Boxed;
-use crate::brief::{BriefDelta, BriefEdit, BriefReply};
-use crate::brief_edit::make_brief_edit;
 use crate::edit::make_edit;
 use crate::mark::Mark;
-use crate::reply::{Reply, Source};
+use crate::reply::{SingleReply, Source};
 use arrayvec::ArrayVec;
 use sgb_combine::{LengthsDelta, LengthsSpec, revert_lengths};
 use sgb_graph::{Graph, GraphDelta, Refusal};
 use sgb_make::Seed;
-use sgb_script::{Edit, Name, ShortName};
+use sgb_script::{Edit, Name};
 use std::alloc::Global;
 use std::marker::Model;
 
@@ -35,10 +30,10 @@ pub const MOST_GRAPHS: usize = 64;
 #[derive(Drop)]
 pub struct Entry {
     pub(crate) name: Name,
-    pub(crate) graph: Boxed<Graph>,
+    pub(crate) graph: Graph,
 }
 
-/// The graphs in their order. Each lies in a box of its own, and none is ever copied.
+/// The graphs in their order. They lie in the table itself, and none is ever copied.
 #[derive(Drop)]
 pub(crate) struct Table {
     // A place that is used holds an entry.
@@ -91,45 +86,34 @@ impl Table {
         requires { place < length self.now }
         ensures { result.now ≡ graph_in self.now place }
     {
-        self.entry(place).graph.get()
+        &self.entry(place).graph
     }
 
     /// Where the graph of this name stands.
     pub(crate) fn find(&self, name: &Name) -> Option<usize>
-        ensures value { result ≡ find self.now name.now }
-        ensures few { IfSome result (λ i. i < 64) }
+        ensures { result ≡ find self.now name.now }
     {
         find_slot(self.entries.as_slice(), name.bytes())
     }
 
-    /// Where the graph of this short name stands.
-    #[inline(always)]
-    pub(crate) fn find_short(&self, name: ShortName) -> Option<usize>
-        ensures value { result ≡ find self.now name }
-        ensures few { IfSome result (λ i. i < 64) }
-    {
-        find_short_slot(self.entries.as_slice(), name)
-    }
-
     /// Puts a graph last.
-    pub(crate) fn push(&mut self, name: Name, graph: Boxed<Graph>)
+    pub(crate) fn push(&mut self, name: Name, graph: Graph)
         requires { length self.old < 64 }
         ensures { self.new ≡ self.old ++ record { name = name; graph = graph } ∷ [] }
     {
         self.entries.push(Some(Entry { name, graph }));
     }
 
-    /// Takes the last graph away, and answers it.
-    pub(crate) fn pop(&mut self) -> Option<Entry>
+    /// Takes the last graph away.
+    pub(crate) fn pop(&mut self)
         requires { 0 < length self.old }
         ensures { self.new ≡ take (length self.old - 1) self.old }
     {
-        self.entries.pop().flatten()
+        let _ = self.entries.pop();
     }
 
     /// Puts a graph at a place, before those that stand from there on.
-    #[inline(never)]
-    pub(crate) fn insert(&mut self, place: usize, name: Name, graph: Boxed<Graph>)
+    pub(crate) fn insert(&mut self, place: usize, name: Name, graph: Graph)
         requires place { place ≤ length self.old }
         requires few { length self.old < 64 }
         ensures { self.new ≡ insert self.old place (record { name = name; graph = graph }) }
@@ -157,40 +141,14 @@ impl Table {
         alloc: Global,
         place: usize,
         edit: &Edit,
-        delta: &mut GraphDelta,
-        reply: &mut Reply,
-    ) -> Result<(), Refusal>
+    ) -> Result<(GraphDelta, SingleReply), Refusal>
         requires { place < length self.old }
-        ensures { AtPlace (Edits edit.now (told delta.new reply.new result)) self.old self.new place }
+        ensures { AtPlace (Edits edit.now result) self.old self.new place }
     {
-        edit_slot(
-            self.entries.as_mut_slice(),
-            alloc,
-            place,
-            edit,
-            delta,
-            reply,
-        )
-    }
-
-    /// Makes an edit that takes little room of the graph at a place.
-    #[inline(always)]
-    pub(crate) fn edit_briefly(
-        &mut self,
-        place: usize,
-        edit: BriefEdit,
-        reply: &mut BriefReply,
-    ) -> Result<BriefDelta, Refusal>
-        requires place { place < length self.old }
-        requires few { place < 64 }
-        requires plain { leaves_plainly (graph_in self.old place) edit ≡ true }
-        ensures { AtPlace (EditsBriefly edit place reply.new result) self.old self.new place }
-    {
-        edit_slot_briefly(self.entries.as_mut_slice(), place, edit, reply)
+        edit_slot(self.entries.as_mut_slice(), alloc, place, edit)
     }
 
     /// Takes an edit of the graph at a place back.
-    #[inline(always)]
     pub(crate) fn revert(&mut self, place: usize, delta: GraphDelta)
         requires place { place < length self.old }
         requires left { (g : GraphOf) × LeftBy g delta (graph_in self.old place) }
@@ -223,7 +181,6 @@ impl Table {
     }
 
     /// Gives the graph at a place its lengths back.
-    #[inline(never)]
     pub(crate) fn revert_lengths(&mut self, place: usize, delta: LengthsDelta)
         requires place { place < length self.old }
         requires fits { CanRevertLengths delta (graph_in self.old place) }
@@ -248,56 +205,18 @@ fn has_name(slot: &Option<Entry>, name: &[u8]) -> bool
     }
 }
 
-#[inline(always)]
-fn find_short_slot(slots: &[Option<Entry>], name: ShortName) -> Option<usize>
-    ensures { result ≡ position (λ o. bytes_eq (held o).name name) slots.now }
-{
-    slots.iter().position(|slot| has_short_name(slot, name))
-}
-
-#[inline(always)]
-fn has_short_name(slot: &Option<Entry>, name: ShortName) -> bool
-    ensures { result ≡ bytes_eq (held slot.now).name name }
-{
-    match slot {
-        Some(entry) => name.is(&entry.name),
-        None => name.name().bytes().is_empty(),
-    }
-}
-
-#[inline(always)]
-fn edit_slot_briefly(
-    slots: &mut [Option<Entry>],
-    place: usize,
-    edit: BriefEdit,
-    reply: &mut BriefReply,
-) -> Result<BriefDelta, Refusal>
-    requires place { place < length slots.old }
-    requires few { place < 64 }
-    requires some { IsSome (slot_in slots.old place) }
-    requires plain { leaves_plainly (held (slot_in slots.old place)).graph edit ≡ true }
-    ensures { InSlot (EditsBriefly edit place reply.new result) slots.old slots.new place }
-{
-    match &mut slots[place] {
-        Some(entry) => make_brief_edit(&mut entry.graph.inner, place as u8, edit, reply),
-        None => unreachable!(),
-    }
-}
-
 fn edit_slot(
     slots: &mut [Option<Entry>],
     alloc: Global,
     place: usize,
     edit: &Edit,
-    delta: &mut GraphDelta,
-    reply: &mut Reply,
-) -> Result<(), Refusal>
+) -> Result<(GraphDelta, SingleReply), Refusal>
     requires place { place < length slots.old }
     requires some { IsSome (slot_in slots.old place) }
-    ensures { InSlot (Edits edit.now (told delta.new reply.new result)) slots.old slots.new place }
+    ensures { InSlot (Edits edit.now result) slots.old slots.new place }
 {
     match &mut slots[place] {
-        Some(entry) => make_edit(alloc, &mut entry.graph.inner, edit, delta, reply),
+        Some(entry) => make_edit(alloc, &mut entry.graph, edit),
         None => unreachable!(),
     }
 }
@@ -309,7 +228,7 @@ fn revert_slot(slots: &mut [Option<Entry>], place: usize, delta: GraphDelta)
     ensures { slots.new ≡ slot_with_graph slots.old place (reverted (held (slot_in slots.old place)).graph delta) }
 {
     match &mut slots[place] {
-        Some(entry) => entry.graph.inner.revert(delta),
+        Some(entry) => entry.graph.revert(delta),
         None => unreachable!(),
     }
 }
@@ -328,7 +247,7 @@ fn lengthen_slot(
     ensures { InSlot (λ g h. Lengthens spec.now seed generator.old generator.new g h result) slots.old slots.new place }
 {
     match &mut slots[place] {
-        Some(entry) => generator.lengths(alloc, &mut entry.graph.inner, spec, seed),
+        Some(entry) => generator.lengths(alloc, &mut entry.graph, spec, seed),
         None => unreachable!(),
     }
 }
@@ -340,7 +259,7 @@ fn revert_lengths_in_slot(slots: &mut [Option<Entry>], place: usize, delta: Leng
     ensures { slots.new ≡ slot_with_graph slots.old place (before_lengths delta (held (slot_in slots.old place)).graph) }
 {
     match &mut slots[place] {
-        Some(entry) => revert_lengths(&mut entry.graph.inner, delta),
+        Some(entry) => revert_lengths(&mut entry.graph, delta),
         None => unreachable!(),
     }
 }

@@ -1,30 +1,22 @@
-//! Single calls of the session's graphs. What a line is answered stands in `tests/corpus/`.
+//! Single commands of a session without a journal. What a line is answered stands in `tests/corpus/`.
 
-use sgb_shell::{Command, Delta, Line, Name, Reply, Session, ShellRefusal, parse};
+use crate::lines::{named, one};
+use sgb_graph::{ArcNo, Graph, Refusal, VertexNo};
+use sgb_script::{Command, Name, ShellRefusal};
+use sgb_session::{Delta, Mark, Reply, Session, SingleDelta, SingleReply, Source};
 use sgb_undo::Reversible;
 use std::alloc::Global;
 use std::process::Abort;
 use std::test::Fail;
 
-// What a line asks for.
-fn read(alloc: Global, line: &[u8]) -> Result<Line, ShellRefusal> {
-    parse(alloc, line)
-}
-
 fn apply_to(session: &mut Session, command: &Command) -> Result<(Delta, Reply), ShellRefusal> {
     session.apply(command)
 }
 
-// What a line does to a session that has no journal.
+// What a line does to a session.
 fn done(alloc: Global, session: &mut Session, line: &[u8]) -> Result<(Delta, Reply), ShellRefusal> {
-    match read(alloc, line)? {
-        Line::Change(command) => apply_to(session, &command),
-        _ => Err(ShellRefusal::ScriptSyntax),
-    }
-}
-
-fn named(bytes: &[u8]) -> Result<Name, ShellRefusal> {
-    Name::new(bytes).ok_or(ShellRefusal::ScriptSyntax)
+    let command = one(alloc, line)?;
+    apply_to(session, &command)
 }
 
 // Performs a line, whatever it answers.
@@ -45,6 +37,19 @@ fn make_two(alloc: Global, session: &mut Session) -> Result<(), ShellRefusal> {
     perform(alloc, session, b"graph b 2")?;
     perform(alloc, session, b"arc b 0 1 5")?;
     perform(alloc, session, b"edge b 1 0 6")
+}
+
+// The graph b, made by calls of its own.
+fn graph_b(alloc: Global) -> Result<Graph, Refusal> {
+    let mut graph = Graph::new(alloc, 2)?;
+    join(&mut graph)?;
+    Ok(graph)
+}
+
+fn join(graph: &mut Graph) -> Result<(), Refusal> {
+    let _arc = graph.new_arc(VertexNo(0), VertexNo(1), 5)?;
+    let _edge = graph.new_edge(VertexNo(1), VertexNo(0), 6)?;
+    Ok(())
 }
 
 // Whether the graph at this place has this name.
@@ -82,56 +87,79 @@ fn expect_two(rt: &impl Abort, session: &Session) -> Result<(), Fail> {
     Ok(())
 }
 
-// What a line's delta is.
-fn delta_of(alloc: Global, session: &mut Session, line: &[u8]) -> Result<Delta, ShellRefusal> {
-    let (delta, _reply) = done(alloc, session, line)?;
-    Ok(delta)
-}
-
-// Whether the delta gives back the graph of this name, with so many arcs, to this place.
-fn gives_back(delta: &Delta, place: u32, name: &[u8], arcs: u32) -> bool {
-    match delta {
-        Delta::Dropped(at, dropped, graph) => {
-            *at == place && dropped.bytes() == name && graph.get().m() == arcs
-        }
-        _ => false,
-    }
-}
-
-// What a line's delta takes back: a seed, one draw, a new graph, or the drop of b with three arcs.
-fn kind_of(
+// Whether a line leaves this delta.
+fn leaves(
     alloc: Global,
     session: &mut Session,
     line: &[u8],
-) -> Result<&'static str, ShellRefusal> {
-    let delta = delta_of(alloc, session, line)?;
-    Ok(match &delta {
-        Delta::Seed(_) => "seed",
-        Delta::Draws(1) => "draw",
-        Delta::Made => "graph",
-        other if gives_back(other, 1, b"b", 3) => "drop",
-        _ => "another",
-    })
+    wanted: SingleDelta,
+) -> Result<bool, ShellRefusal> {
+    let (delta, _reply) = done(alloc, session, line)?;
+    Ok(delta == Delta::One(wanted))
+}
+
+// Whether a line leaves the delta of the drop of the graph b, at place 1.
+fn drops_b(alloc: Global, session: &mut Session, line: &[u8]) -> Result<bool, Fail> {
+    let dropped = dropped_b(alloc, named(b"b")?)?;
+    Ok(leaves(alloc, session, line, dropped)?)
+}
+
+fn dropped_b(alloc: Global, name: Name) -> Result<SingleDelta, Refusal> {
+    let graph = graph_b(alloc)?;
+    Ok(SingleDelta::Dropped(1, name, graph))
 }
 
 #[test]
 fn each_kind_of_delta_is_left(rt: HostRuntime) -> Result<(), Fail> {
     let mut session = two_graphs(rt.alloc())?;
-    expect_kinds(&rt, rt.alloc(), &mut session)
+    expect_deltas(&rt, rt.alloc(), &mut session)
 }
 
-fn expect_kinds(rt: &impl Abort, alloc: Global, session: &mut Session) -> Result<(), Fail> {
-    assert!(rt; kind_of(alloc, session, b"seed 3")? == "seed");
-    assert!(rt; kind_of(alloc, session, b"unif 1")? == "draw");
-    assert!(rt; kind_of(alloc, session, b"graph c 3")? == "graph");
-    assert!(rt; kind_of(alloc, session, b"drop b")? == "drop");
+fn expect_deltas(rt: &impl Abort, alloc: Global, session: &mut Session) -> Result<(), Fail> {
+    let first = SingleDelta::Seed(Mark::new(0));
+    assert!(rt; leaves(alloc, session, b"seed 3", first)?);
+    assert!(rt; leaves(alloc, session, b"next", SingleDelta::Draws(1))?);
+    assert!(rt; leaves(alloc, session, b"unif 1", SingleDelta::Draws(1))?);
+    assert!(rt; leaves(alloc, session, b"graph c 3", SingleDelta::Made)?);
+    assert!(rt; drops_b(alloc, session, b"drop b")?);
     Ok(())
+}
+
+const ON: &[u8] = b"random r 10 1 0 0 1 1 6 -";
+
+const SEEDED: &[u8] = b"random s 10 1 0 0 1 1 6 5";
+
+// What is left of a random graph of one arc: two vertices and a length are drawn.
+#[test]
+fn a_random_graph_leaves_what_turns_the_generator_back(rt: HostRuntime) -> Result<(), Fail> {
+    let mut session = Session::new(rt.alloc());
+    expect_random(&rt, rt.alloc(), &mut session)
+}
+
+fn expect_random(rt: &impl Abort, alloc: Global, session: &mut Session) -> Result<(), Fail> {
+    let on = SingleDelta::MadeBy(Source::Draws(3));
+    assert!(rt; leaves(alloc, session, ON, on)?);
+    assert!(rt; session.generator() == (0, 3, 51));
+    let mut before = Mark::new(0);
+    draw_three(&mut before);
+    let seeded = SingleDelta::MadeBy(Source::Seeded(before));
+    assert!(rt; leaves(alloc, session, SEEDED, seeded)?);
+    assert!(rt; session.generator() == (5, 3, 51));
+    Ok(())
+}
+
+fn draw_three(mark: &mut Mark) {
+    for _ in 0..3u32 {
+        if mark.draws() < 3 {
+            mark.next();
+        }
+    }
 }
 
 // Whether a line leaves the delta of an edit of b.
 fn edits_b(alloc: Global, session: &mut Session, line: &str) -> Result<bool, ShellRefusal> {
-    let delta = delta_of(alloc, session, line.as_bytes())?;
-    Ok(matches!(delta, Delta::Edit(1, _)))
+    let (delta, _reply) = done(alloc, session, line.as_bytes())?;
+    Ok(matches!(delta, Delta::One(SingleDelta::Edit(1, _))))
 }
 
 #[test]
@@ -157,12 +185,10 @@ fn expect_edits(rt: &impl Abort, alloc: Global, session: &mut Session) -> Result
     Ok(())
 }
 
-// The number of a new arc of b.
-fn arc_made(alloc: Global, session: &mut Session) -> Result<u32, ShellRefusal> {
-    match done(alloc, session, b"arc b 0 1 7")? {
-        (_, Reply::Arc(number)) => Ok(number.0),
-        _ => Err(ShellRefusal::ScriptSyntax),
-    }
+// Whether a new arc of b gets this number.
+fn makes_arc(alloc: Global, session: &mut Session, number: u32) -> Result<bool, ShellRefusal> {
+    let (_delta, reply) = done(alloc, session, b"arc b 0 1 7")?;
+    Ok(reply == Reply::One(SingleReply::Arc(ArcNo(number))))
 }
 
 #[test]
@@ -173,7 +199,7 @@ fn thousands_of_arcs_are_applied(rt: HostRuntime) -> Result<(), Fail> {
 
 fn make_thousands(rt: &impl Abort, alloc: Global, session: &mut Session) -> Result<(), Fail> {
     for number in 3..10_000u32 {
-        assert!(rt; arc_made(alloc, session)? == number);
+        assert!(rt; makes_arc(alloc, session, number)?);
     }
     Ok(())
 }

@@ -1,68 +1,62 @@
 //! Groups in the journal of a session. The small functions promise nothing.
 
-use sgb_graph::Items;
-use sgb_groups::{GroupedReply, GroupedSession, KeptCommand, MOST_MEMBERS};
-use sgb_script::{Line, ShellRefusal, parse};
-use sgb_session::Reply;
-use sgb_undo::{Journal, JournalRefusal};
-use std::alloc::Global;
+use crate::lines::group;
+use sgb_graph::ArcNo;
+use sgb_script::{Command, MOST_MEMBERS, Name, ShellRefusal, Single};
+use sgb_session::{Reply, Session, SingleReply};
+use sgb_undo::{Journal, JournalRefusal, Members};
+use std::alloc::{AllocError, Global};
+use std::test::Fail;
 
-type Sessions = Journal<GroupedSession>;
+type Sessions = Journal<Session>;
 
-// The commands of these lines as a group.
-fn group_of(alloc: Global, lines: &[&[u8]]) -> Option<KeptCommand> {
-    let mut members = Items::new(alloc);
-    for line in lines {
-        let Ok(Line::Change(command)) = parse(alloc, line) else {
-            return None;
-        };
-        members.push(command).ok()?;
-    }
-    Some(KeptCommand::group(members))
+// The reply to a group.
+fn replies(alloc: Global, members: &[SingleReply]) -> Result<Reply, AllocError> {
+    let list = members.to_vec(alloc)?;
+    Ok(Reply::Group(Members::from_vec(list)))
 }
 
-// Whether the group of these lines is accepted, with so many answers.
-fn accepts(alloc: Global, journal: &mut Sessions, lines: &[&[u8]], count: usize) -> bool {
-    let Some(group) = group_of(alloc, lines) else {
-        return false;
-    };
-    match journal.apply(group) {
-        Ok(GroupedReply::Group(replies)) => replies.len() == count,
-        _ => false,
-    }
+// Whether the group of these lines is accepted, with these replies.
+fn accepts(
+    alloc: Global,
+    journal: &mut Sessions,
+    lines: &[&[u8]],
+    members: &[SingleReply],
+) -> Result<bool, Fail> {
+    let wanted = replies(alloc, members)?;
+    Ok(journal.apply(group(alloc, lines)?) == Ok(wanted))
 }
 
-// Why the group of these lines is refused.
-fn refusal(alloc: Global, journal: &mut Sessions, lines: &[&[u8]]) -> Option<ShellRefusal> {
-    match journal.apply(group_of(alloc, lines)?) {
-        Err(JournalRefusal::Machine(refusal)) => Some(refusal),
-        _ => None,
-    }
+// Whether the group of these lines is refused so.
+fn refuses(
+    alloc: Global,
+    journal: &mut Sessions,
+    lines: &[&[u8]],
+    refusal: ShellRefusal,
+) -> Result<bool, Fail> {
+    let wanted = JournalRefusal::Machine(refusal);
+    Ok(journal.apply(group(alloc, lines)?) == Err(wanted))
 }
 
-// The number that a `next` by itself answers.
-fn next(journal: &mut Sessions) -> Option<u32> {
-    match journal.apply(KeptCommand::next()) {
-        Ok(GroupedReply::One(Reply::Number(number))) => Some(number),
-        _ => None,
-    }
+// Whether a `next` by itself draws this number.
+fn draws(journal: &mut Sessions, number: u32) -> bool {
+    let wanted = Reply::One(SingleReply::Number(number));
+    journal.apply(Command::One(Single::Next)) == Ok(wanted)
 }
 
 fn undo(journal: &mut Sessions) -> bool {
     journal.undo().is_ok()
 }
 
-// The last answer of a group that is redone.
-fn redo(journal: &mut Sessions) -> Option<Reply> {
-    match journal.redo() {
-        Ok(GroupedReply::Group(replies)) => replies.as_slice().last().copied(),
-        _ => None,
-    }
+// Whether a group is redone, with these replies.
+fn redoes(alloc: Global, journal: &mut Sessions, members: &[SingleReply]) -> Result<bool, Fail> {
+    let wanted = replies(alloc, members)?;
+    Ok(journal.redo() == Ok(wanted))
 }
 
 // The draws since the seeding, the graphs, and the commands that stand and that are undone.
 fn counts(journal: &Sessions) -> (u64, usize, usize, usize) {
-    let session = journal.machine().session();
+    let session = journal.machine();
     (
         session.generator().1,
         session.len(),
@@ -71,37 +65,52 @@ fn counts(journal: &Sessions) -> (u64, usize, usize, usize) {
     )
 }
 
+const EDGE_AND_DRAW: [&[u8]; 3] = [b"graph a 2", b"edge a 0 1 5", b"next"];
+
+// What the group is answered whose first member makes the graph of this name.
+fn edge_and_draw(name: Name) -> [SingleReply; 3] {
+    [
+        SingleReply::Made(name, 2, 0),
+        SingleReply::Edge(ArcNo(0), ArcNo(1)),
+        SingleReply::Number(2_073_281_797),
+    ]
+}
+
 #[test]
-fn a_group_is_undone_and_redone_whole(rt: HostRuntime) {
+fn a_group_is_undone_and_redone_whole(rt: HostRuntime) -> Result<(), Fail> {
     let alloc = rt.alloc();
-    let mut journal = Journal::new(alloc, GroupedSession::new(alloc));
-    let lines: [&[u8]; 3] = [b"graph a 2", b"edge a 0 1 5", b"next"];
-    assert!(rt; next(&mut journal) == Some(2_029_883_356));
-    assert!(rt; accepts(alloc, &mut journal, &lines, 3));
+    let name = Name::new(b"a").ok_or(ShellRefusal::ScriptSyntax)?;
+    let wanted = edge_and_draw(name);
+    let mut journal = Journal::new(alloc, Session::new(alloc));
+    assert!(rt; draws(&mut journal, 2_029_883_356));
+    assert!(rt; accepts(alloc, &mut journal, &EDGE_AND_DRAW, &wanted)?);
     assert!(rt; counts(&journal) == (2, 1, 2, 0));
     assert!(rt; undo(&mut journal));
     assert!(rt; counts(&journal) == (1, 0, 1, 1));
-    assert!(rt; redo(&mut journal) == Some(Reply::Number(2_073_281_797)));
+    assert!(rt; redoes(alloc, &mut journal, &wanted)?);
     assert!(rt; counts(&journal) == (2, 1, 2, 0));
+    Ok(())
 }
 
 #[test]
-fn a_refused_group_leaves_nothing(rt: HostRuntime) {
+fn a_refused_group_leaves_nothing(rt: HostRuntime) -> Result<(), Fail> {
     let alloc = rt.alloc();
-    let mut journal = Journal::new(alloc, GroupedSession::new(alloc));
+    let mut journal = Journal::new(alloc, Session::new(alloc));
     let lines: [&[u8]; 3] = [b"next", b"graph a 1", b"graph a 2"];
-    assert!(rt; refusal(alloc, &mut journal, &lines) == Some(ShellRefusal::NameTaken));
+    assert!(rt; refuses(alloc, &mut journal, &lines, ShellRefusal::NameTaken)?);
     assert!(rt; counts(&journal) == (0, 0, 0, 0));
-    assert!(rt; next(&mut journal) == Some(2_029_883_356));
+    assert!(rt; draws(&mut journal, 2_029_883_356));
+    Ok(())
 }
 
 #[test]
-fn a_group_may_have_no_members(rt: HostRuntime) {
+fn a_group_may_have_no_members(rt: HostRuntime) -> Result<(), Fail> {
     let alloc = rt.alloc();
-    let mut journal = Journal::new(alloc, GroupedSession::new(alloc));
-    assert!(rt; accepts(alloc, &mut journal, &[], 0));
+    let mut journal = Journal::new(alloc, Session::new(alloc));
+    assert!(rt; accepts(alloc, &mut journal, &[], &[])?);
     assert!(rt; counts(&journal) == (0, 0, 1, 0));
     assert!(rt; undo(&mut journal));
     assert!(rt; counts(&journal) == (0, 0, 0, 1));
     assert!(rt; MOST_MEMBERS == 1024);
+    Ok(())
 }

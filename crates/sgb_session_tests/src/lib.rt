@@ -9,6 +9,10 @@ mod fake;
 #[cfg(test)]
 mod groups;
 #[cfg(test)]
+mod lines;
+#[cfg(test)]
 mod session;
+#[cfg(test)]
+mod standing;
 #[cfg(test)]
 mod whole;

@@ -1,30 +1,29 @@
-//! Single calls of the session's generator, which refusal is for memory, and how a run ends.
+//! Single calls of the session's generator, and which refusal is for memory.
 
-use sgb_shell::{Command, Delta, Mark, Reply, RunFault, Session, ShellRefusal, exit_status};
+use sgb_script::{Command, ShellRefusal, Single};
+use sgb_session::{Delta, Mark, Reply, Session, SingleDelta, SingleReply};
 use sgb_undo::Reversible;
 use std::process::Abort;
 use std::test::Fail;
 
-// The number that is drawn, where the delta counts one draw.
-fn drawn(session: &mut Session) -> Option<u32> {
-    match session.apply(&Command::Next) {
-        Ok((Delta::Draws(1), Reply::Number(number))) => Some(number),
-        _ => None,
-    }
+// Whether this number is drawn, and the delta counts one draw.
+fn draws(session: &mut Session, number: u32) -> bool {
+    let delta = Delta::One(SingleDelta::Draws(1));
+    let reply = Reply::One(SingleReply::Number(number));
+    session.apply(&Command::One(Single::Next)) == Ok((delta, reply))
 }
 
 // Seeds the generator and takes that back. Answers what the generator was between, where the delta kept this mark.
 fn seed_and_back(
     session: &mut Session,
     seed: i64,
-    mark: &Mark,
+    mark: Mark,
 ) -> Result<Option<(u32, u64, u32)>, ShellRefusal> {
-    let (delta, reply) = session.apply(&Command::Seed(seed))?;
-    let is_kept =
-        matches!(&delta, Delta::Seed(before) if (before.seed(), before.draws()) == (mark.seed(), mark.draws()));
+    let (delta, reply) = session.apply(&Command::One(Single::Seed(seed)))?;
+    let is_kept = delta == Delta::One(SingleDelta::Seed(mark));
     let between = session.generator();
     session.revert(delta);
-    if is_kept && reply == Reply::Done {
+    if is_kept && reply == Reply::One(SingleReply::Done) {
         Ok(Some(between))
     } else {
         Ok(None)
@@ -39,10 +38,10 @@ fn a_seed_is_taken_back(rt: HostRuntime) -> Result<(), Fail> {
 
 fn draw_and_seed(rt: &impl Abort, session: &mut Session) -> Result<(), Fail> {
     assert!(rt; session.generator() == (0, 0, 54));
-    assert!(rt; drawn(session) == Some(2_029_883_356));
+    assert!(rt; draws(session, 2_029_883_356));
     let mut mark = Mark::new(0);
     assert!(rt; number(&mut mark) == Some(2_029_883_356));
-    let between = seed_and_back(session, -1, &mark)?;
+    let between = seed_and_back(session, -1, mark)?;
     assert!(rt; between == Some((2_147_483_647, 0, 54)));
     assert!(rt; session.generator() == (0, 1, 53));
     Ok(())
@@ -105,11 +104,4 @@ fn one_refusal_is_for_memory(rt: HostRuntime) {
         assert!(rt; !Session::is_memory(&refusal));
     }
     assert!(rt; Session::is_memory(&ShellRefusal::NoRoom));
-}
-
-#[test]
-fn statuses_are_told(rt: HostRuntime) {
-    assert!(rt; exit_status(&Ok(true)) == 0);
-    assert!(rt; exit_status(&Ok(false)) == 1);
-    assert!(rt; exit_status(&Err(RunFault::TooLong)) == 2);
 }

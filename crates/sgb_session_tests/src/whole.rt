@@ -1,7 +1,7 @@
-//! Scripts and their transcripts.
+//! Scripts and their transcripts, and how a run ends.
 
 use crate::fake::{Room, Same, Steps};
-use sgb_shell::{RunEnd, RunFault, SCRIPT_LIMIT, run};
+use sgb_shell::{RunEnd, RunFault, SCRIPT_LIMIT, exit_status, run};
 use std::alloc::{AllocError, Global};
 use std::io::Read;
 use std::test::Fail;
@@ -192,4 +192,11 @@ fn lines_within_the_limit_are_answered(rt: HostRuntime) -> Result<(), Fail> {
     let end = Err(RunFault::TooLong);
     assert!(rt; ends(rt.alloc(), script.as_slice(), end, b"2029883356\n"));
     Ok(())
+}
+
+#[test]
+fn statuses_are_told(rt: HostRuntime) {
+    assert!(rt; exit_status(&Ok(true)) == 0);
+    assert!(rt; exit_status(&Ok(false)) == 1);
+    assert!(rt; exit_status(&Err(RunFault::TooLong)) == 2);
 }

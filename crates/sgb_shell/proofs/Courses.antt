@@ -9,7 +9,8 @@ use Rattle.sgb_shell.specs.declared.answer.Answer.TheVariants as answers
 use Rattle.sgb_shell.specs.Private.Performing.{Kept, Does, by_unit, lists_of}
 use Rattle.sgb_shell.specs.Private.Reaching.{Taken, GoesOn, Ends, unit_by, number_at, unanswered}
 use Rattle.sgb_shell.specs.Answer.{answer_text}
-use Rattle.sgb_shell.specs.Transcript.{Course, course, start, advance, taken, answered_unit, goes_on, unit_told, refusals, state_of}
+use Rattle.sgb_shell.specs.Transcript.{unit_told, refusals, state_of}
+use Rattle.sgb_shell.specs.Private.Course.{Course, course, start, advance, taken, answered_unit, goes_on}
 use Rattle.sgb_shell.specs.Unit.{ScriptUnit, alone, opened, with_line, closed_by, takes_lines}
 use Rattle.sgb_shell.specs.Group.{closes}
 

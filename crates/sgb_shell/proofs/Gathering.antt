@@ -7,14 +7,14 @@ use Rattle.std.proofs.lemmas.Bool.{cases_Bool, ne_eqb, and_left, and_right, le-l
 use Rattle.std.proofs.lemmas.Grind.{flat_map-append}
 use Rattle.std.proofs.lemmas.List.Folds.{list_all-append}
 use Rattle.std.proofs.lemmas.List.Sums.{fold-append}
-use Rattle.sgb_groups.specs.Grouped.{may_want}
-use Rattle.sgb_groups.specs.declared.grouped.GroupedCommand.{GroupedCommand}
-use Rattle.sgb_groups.specs.declared.grouped.GroupedCommand.TheVariants.{One}
-use Rattle.sgb_groups.specs.declared.grouped.GroupedCommand.TheVariants as commands
+use Rattle.sgb_session.specs.Command.{may_want}
 use Rattle.sgb_script.specs.declared.command.Command.{Command}
-use Rattle.sgb_script.specs.declared.command.Command.TheVariants.{Make}
+use Rattle.sgb_script.specs.declared.command.Command.TheVariants.{One}
+use Rattle.sgb_script.specs.declared.command.Command.TheVariants as commands
+use Rattle.sgb_script.specs.declared.command.Single.{Single}
+use Rattle.sgb_script.specs.declared.command.Single.TheVariants.{Make}
 use Rattle.sgb_script.specs.declared.command.Line.{Line}
-use Rattle.sgb_script.specs.declared.command.Line.TheVariants.{Nothing, Change, Undo, Redo, Ask, Load, Group, End}
+use Rattle.sgb_script.specs.declared.command.Line.TheVariants.{Nothing, Change, Undo, Redo, Query, Load, Group, End}
 use Rattle.sgb_script.specs.declared.command.Maker.TheVariants as makers
 use Rattle.sgb_script.specs.declared.refusal.ShellRefusal.{ShellRefusal}
 use Rattle.sgb_script.specs.declared.refusal.ShellRefusal.TheVariants.{NoRoom, ScriptSyntax}
@@ -113,7 +113,7 @@ not_loaded l (Some Nothing) u e = refl
 not_loaded l (Some (Change c)) u e = refl
 not_loaded l (Some Undo) u e = refl
 not_loaded l (Some Redo) u e = refl
-not_loaded l (Some (Ask q)) u e = refl
+not_loaded l (Some (Query q)) u e = refl
 not_loaded l (Some (Load name rule)) u e = cc
 not_loaded l (Some Group) u e = refl
 not_loaded l (Some End) u e = refl
@@ -124,7 +124,7 @@ not_whole l (Some Nothing) u e = refl
 not_whole l (Some (Change c)) u e = refl
 not_whole l (Some Undo) u e = refl
 not_whole l (Some Redo) u e = refl
-not_whole l (Some (Ask q)) u e = refl
+not_whole l (Some (Query q)) u e = refl
 not_whole l (Some (Load name rule)) u e = rw e refl
 not_whole l (Some Group) u e = refl
 not_whole l (Some End) u e = refl
@@ -135,7 +135,7 @@ no_memory l (Some Nothing) u e some = cc
 no_memory l (Some (Change c)) u e some = cc
 no_memory l (Some Undo) u e some = cc
 no_memory l (Some Redo) u e some = cc
-no_memory l (Some (Ask q)) u e some = cc
+no_memory l (Some (Query q)) u e some = cc
 no_memory l (Some (Load name rule)) u e some = rw some refl
 no_memory l (Some Group) u e some = cc
 no_memory l (Some End) u e some = cc
@@ -204,7 +204,7 @@ no_member (Some Nothing) u e = refl
 no_member (Some (Change c)) u e = refl
 no_member (Some Undo) u e = refl
 no_member (Some Redo) u e = refl
-no_member (Some (Ask q)) u e = refl
+no_member (Some (Query q)) u e = refl
 no_member (Some (Load name rule)) u e = cc
 no_member (Some Group) u e = refl
 no_member (Some End) u e = refl
@@ -215,7 +215,7 @@ no_whole_member (Some Nothing) u e = refl
 no_whole_member (Some (Change c)) u e = refl
 no_whole_member (Some Undo) u e = refl
 no_whole_member (Some Redo) u e = refl
-no_whole_member (Some (Ask q)) u e = refl
+no_whole_member (Some (Query q)) u e = refl
 no_whole_member (Some (Load name rule)) u e = rw e refl
 no_whole_member (Some Group) u e = refl
 no_whole_member (Some End) u e = refl
@@ -238,12 +238,12 @@ members-push : (ls : List (List ℕ)) (line : List ℕ) → members_of (ls ++ li
 unfolding members_of
 members-push ls line = fold-append (λ m l. with_member_line m m.text l) no_members ls (line ∷ [])
 
-Collects_more : (first : Option Line) (cs : Option (List Command)) (has : Bool) (r : Result (Vec Command Global) ShellRefusal) → Collects first cs has r → Collects first cs true r
+Collects_more : (first : Option Line) (cs : Option (List Single)) (has : Bool) (r : Result (Vec Single Global) ShellRefusal) → Collects first cs has r → Collects first cs true r
 Collects_more first cs has (Ok list) c = c
 Collects_more first cs has (Err r) (inl bad) = inl bad
 Collects_more first cs has (Err r) (inr (is, group, some)) = inr (is, group, refl)
 
-pub group_begun : (number : ℕ) (line : List ℕ) (r : Result (Vec Command Global) ShellRefusal) → takes_text line ≡ false → takes_members line ≡ true
+pub group_begun : (number : ℕ) (line : List ℕ) (r : Result (Vec Single Global) ShellRefusal) → takes_text line ≡ false → takes_members line ≡ true
     → Collects (line_of line) (Some []) false r → IsGroup (opened number line) (record { commands = r; text = None })
 unfolding members_of
 group_begun number line r other takes c = record { unclosed = refl; other = other; takes = takes; commands = c; text = tt }
@@ -261,8 +261,8 @@ group_with u line g g' m i comes c text =
       text = subst (λ n. HasText n.text g'.text) (sym more) text;
     }
 
-abbrev AddsTo : Result (Vec Command Global) ShellRefusal → Result (Option Command) ShellRefusal → Result (Vec Command Global) ShellRefusal → Type 0
-AddsTo r member r' = (first : Option Line) (old more : Option (List Command)) (has : Bool) → IsMember more member → Collects first old has r → Collects first (joined old more) true r'
+abbrev AddsTo : Result (Vec Single Global) ShellRefusal → Result (Option Single) ShellRefusal → Result (Vec Single Global) ShellRefusal → Type 0
+AddsTo r member r' = (first : Option Line) (old more : Option (List Single)) (has : Bool) → IsMember more member → Collects first old has r → Collects first (joined old more) true r'
 
 dot_ends : (m : Members) (u : ScriptUnit) (line : List ℕ) → is_dot line ≡ true → with_member_line m (Some u) line ≡ with_member m (text_member (line_of u.first) (as_closed u))
 dot_ends m u line dot = rw dot refl
@@ -277,7 +277,7 @@ line_stands_alone : (m : Members) (line : List ℕ) → takes_text line ≡ fals
 line_stands_alone m line other = rw other refl
 
 module _ (u : ScriptUnit) (line : List ℕ) (g : OpenGroup) where
-  member_ended : (o : Option ScriptUnit) (text : OpenText) (member : Result (Option Command) ShellRefusal) (r : Result (Vec Command Global) ShellRefusal)
+  member_ended : (o : Option ScriptUnit) (text : OpenText) (member : Result (Option Single) ShellRefusal) (r : Result (Vec Single Global) ShellRefusal)
       → (members_of u.inner).text ≡ o → HasText o (Some text) → g.text ≡ None → IsGroup u (with_text g text) → is_dot line ≡ true
       → ((v : ScriptUnit) → IsText v text → IsMember (text_member (line_of v.first) (as_closed v)) member) → AddsTo g.commands member r
       → IsGroup (with_line u line) (record { commands = r; text = g.text })
@@ -287,7 +287,7 @@ module _ (u : ScriptUnit) (line : List ℕ) (g : OpenGroup) where
       group_with u line (with_text g text) (record { commands = r; text = g.text }) (with_member m (text_member (line_of v.first) (as_closed v))) i
       (ap (λ o. with_member_line m o line) is ∙ dot_ends m v line dot) (adds _ _ _ _ (reads v has) i.commands) (subst (HasText None) (sym none) tt)
 
-  pub text_ended : (text : OpenText) (member : Result (Option Command) ShellRefusal) (r : Result (Vec Command Global) ShellRefusal) → g.text ≡ None → IsGroup u (with_text g text) → is_dot line ≡ true
+  pub text_ended : (text : OpenText) (member : Result (Option Single) ShellRefusal) (r : Result (Vec Single Global) ShellRefusal) → g.text ≡ None → IsGroup u (with_text g text) → is_dot line ≡ true
       → ((v : ScriptUnit) → IsText v text → IsMember (text_member (line_of v.first) (as_closed v)) member) → AddsTo g.commands member r
       → IsGroup (with_line u line) (record { commands = r; text = g.text })
   text_ended text member r none i dot reads adds = member_ended (members_of u.inner).text text member r refl i.text none i dot reads adds
@@ -314,7 +314,7 @@ module _ (u : ScriptUnit) (line : List ℕ) (g : OpenGroup) where
       group_with u line g (with_text g text) (record m { text = Some (opened 0 line) }) i
       (ap (λ o. with_member_line m o line) (none_open m.text g.text none i.text) ∙ text_begins m line takes) (Collects_more _ _ _ _ i.commands) begins
 
-  pub member_added : (member : Result (Option Command) ShellRefusal) (r : Result (Vec Command Global) ShellRefusal) → IsGroup u g → g.text ≡ None → takes_text line ≡ false
+  pub member_added : (member : Result (Option Single) ShellRefusal) (r : Result (Vec Single Global) ShellRefusal) → IsGroup u g → g.text ≡ None → takes_text line ≡ false
       → IsMember (line_member (line_of line)) member → AddsTo g.commands member r → IsGroup (with_line u line) (record { commands = r; text = g.text })
   member_added member r i none other reads adds =
       let m = members_of u.inner in
@@ -335,50 +335,50 @@ text_closes u t line i = rw i.takes refl
 
 -- ---- one member more
 
-many_more : (cs ds : List Command) → nat_le (length cs) 1024 ≡ false → few (Some (cs ++ ds)) ≡ None
+many_more : (cs ds : List Single) → nat_le (length cs) 1024 ≡ false → few (Some (cs ++ ds)) ≡ None
 many_more cs ds many =
     let above : 1024 < length cs = leb-false (length cs) 1024 many in
     let size : length (cs ++ ds) ≡ length cs + length ds = length-append cs ds in
     rw (lt-leb (length (cs ++ ds)) 1024 (omega arith)) refl
 
-few_many : (cs : List Command) → few (Some cs) ≡ None → nat_le (length cs) 1024 ≡ false
+few_many : (cs : List Single) → few (Some cs) ≡ None → nat_le (length cs) 1024 ≡ false
 few_many cs e = elim (cases_Bool (nat_le (length cs) 1024)) [
   | inl fits ↦ let bad : Some cs ≡ None = subst (λ b. cond b (Some cs) None ≡ None) fits e in cc
   | inr many ↦ many
 ]
 
-few_joined : (old more : Option (List Command)) → few old ≡ None → few (joined old more) ≡ None
+few_joined : (old more : Option (List Single)) → few old ≡ None → few (joined old more) ≡ None
 few_joined None more e = refl
 few_joined (Some cs) None e = refl
 few_joined (Some cs) (Some ds) e = many_more cs ds (few_many cs e)
 
-pub group_longer : (first : Option Line) (old more : Option (List Command)) (has : Bool) (list list' : Vec Command Global) → Collects first old has (Ok list)
+pub group_longer : (first : Option Line) (old more : Option (List Single)) (has : Bool) (list list' : Vec Single Global) → Collects first old has (Ok list)
     → (joined (Some list.items) more ≡ Some list'.items) × (length list'.items ≤ 1024) → Collects first (joined old more) true (Ok list')
 group_longer first old more has list list' c adds = (c.0, ap (λ o. joined o more) c.1 ∙ adds.0, adds.1)
 
-pub group_spoiled : (first : Option Line) (old more : Option (List Command)) (has : Bool) (list : Vec Command Global) (r : ShellRefusal) → Collects first old has (Ok list)
+pub group_spoiled : (first : Option Line) (old more : Option (List Single)) (has : Bool) (list : Vec Single Global) (r : ShellRefusal) → Collects first old has (Ok list)
     → ((r ≡ ScriptSyntax) × (few (joined (Some list.items) more) ≡ None)) ⊎ (r ≡ NoRoom) → Collects first (joined old more) true (Err r)
 group_spoiled first old more has list r c (inl (is, none)) = inl (is, inr (ap (λ o. few (joined o more)) c.1 ∙ none))
 group_spoiled first old more has list r c (inr is) = inr (is, rw c.0 refl, refl)
 
-pub still_spoiled : (first : Option Line) (old more : Option (List Command)) (has : Bool) (r : ShellRefusal) → Collects first old has (Err r) → Collects first (joined old more) true (Err r)
+pub still_spoiled : (first : Option Line) (old more : Option (List Single)) (has : Bool) (r : ShellRefusal) → Collects first old has (Err r) → Collects first (joined old more) true (Err r)
 still_spoiled first old more has r (inl (is, inl other)) = inl (is, inl other)
 still_spoiled first old more has r (inl (is, inr none)) = inl (is, inr (few_joined old more none))
 still_spoiled first old more has r (inr (is, group, some)) = inr (is, group, refl)
 
-pub adds_refused : (X : Type 0) (old : List Command) (more : Option (List Command)) (r : ShellRefusal) → ((r ≡ ScriptSyntax) × (more ≡ None)) ⊎ (r ≡ NoRoom) → Adds {X = X} old old more (Err r)
+pub adds_refused : (X : Type 0) (old : List Single) (more : Option (List Single)) (r : ShellRefusal) → ((r ≡ ScriptSyntax) × (more ≡ None)) ⊎ (r ≡ NoRoom) → Adds {X = X} old old more (Err r)
 adds_refused X old more r (inl (is, none)) = inl (is, rw none refl)
 adds_refused X old more r (inr is) = inr is
 
-pub adds_none : {X : Type 0} (old : List Command) (more : Option (List Command)) (x : X) → more ≡ Some [] → length old ≤ 1024 → Adds old old more (Ok x)
+pub adds_none : {X : Type 0} (old : List Single) (more : Option (List Single)) (x : X) → more ≡ Some [] → length old ≤ 1024 → Adds old old more (Ok x)
 adds_none old more x is within = (rw is (ap Some (append-nil old)), within)
 
-pub adds_one : {X : Type 0} (old new : List Command) (more : Option (List Command)) (c : Command) (x : X) → more ≡ Some (c ∷ []) → new ≡ old ++ c ∷ [] → length old < 1024 → Adds old new more (Ok x)
+pub adds_one : {X : Type 0} (old new : List Single) (more : Option (List Single)) (c : Single) (x : X) → more ≡ Some (c ∷ []) → new ≡ old ++ c ∷ [] → length old < 1024 → Adds old new more (Ok x)
 adds_one old new more c x is pushed within =
     let size : length (old ++ c ∷ []) ≡ length old + 1 = length-append old (c ∷ []) in
     (rw is (ap Some (sym pushed)), subst (λ l. length l ≤ 1024) (sym pushed) (omega arith))
 
-pub adds_too_many : (X : Type 0) (old new : List Command) (more : Option (List Command)) (c : Command) → more ≡ Some (c ∷ []) → 1024 ≤ length old → Adds {X = X} old new more (Err ScriptSyntax)
+pub adds_too_many : (X : Type 0) (old new : List Single) (more : Option (List Single)) (c : Single) → more ≡ Some (c ∷ []) → 1024 ≤ length old → Adds {X = X} old new more (Err ScriptSyntax)
 adds_too_many X old new more c is full =
     let size : length (old ++ c ∷ []) ≡ length old + 1 = length-append old (c ∷ []) in
     inl (refl, rw (is, lt-leb (length (old ++ c ∷ [])) 1024 (omega arith)) refl)
@@ -394,7 +394,7 @@ not_grouped l (Some Nothing) u e = refl
 not_grouped l (Some (Change c)) u e = refl
 not_grouped l (Some Undo) u e = refl
 not_grouped l (Some Redo) u e = refl
-not_grouped l (Some (Ask q)) u e = refl
+not_grouped l (Some (Query q)) u e = refl
 not_grouped l (Some (Load name rule)) u e = refl
 not_grouped l (Some Group) u e = cc
 not_grouped l (Some End) u e = refl
@@ -405,7 +405,7 @@ no_commands l (Some Nothing) u e = refl
 no_commands l (Some (Change c)) u e = refl
 no_commands l (Some Undo) u e = refl
 no_commands l (Some Redo) u e = refl
-no_commands l (Some (Ask q)) u e = refl
+no_commands l (Some (Query q)) u e = refl
 no_commands l (Some (Load name rule)) u e = refl
 no_commands l (Some Group) u e = ap (grouping false l) e
 no_commands l (Some End) u e = refl
@@ -416,12 +416,12 @@ no_room_for l (Some Nothing) u e some = cc
 no_room_for l (Some (Change c)) u e some = cc
 no_room_for l (Some Undo) u e some = cc
 no_room_for l (Some Redo) u e some = cc
-no_room_for l (Some (Ask q)) u e some = cc
+no_room_for l (Some (Query q)) u e some = cc
 no_room_for l (Some (Load name rule)) u e some = cc
 no_room_for l (Some Group) u e some = rw some refl
 no_room_for l (Some End) u e some = cc
 
-either_none : (closed : Bool) (o : Option (List Command)) → o ≡ None → cond closed o None ≡ None
+either_none : (closed : Bool) (o : Option (List Single)) → o ≡ None → cond closed o None ≡ None
 either_none true o e = e
 either_none false o e = refl
 
@@ -448,14 +448,14 @@ spoiled_closed u r t i = spoiled_so u true r i.other i.takes i.commands
 pub spoiled_open : (u : ScriptUnit) (r : ShellRefusal) (t : Option OpenText) → IsGroup u (record { commands = Err r; text = t }) → IsRefused u r
 spoiled_open u r t i = spoiled_so u u.closed r i.other i.takes i.commands
 
-pub group_open : (u : ScriptUnit) (list : Vec Command Global) (t : Option OpenText) → IsGroup u (record { commands = Ok list; text = t }) → IsRefused u ScriptSyntax
+pub group_open : (u : ScriptUnit) (list : Vec Single Global) (t : Option OpenText) → IsGroup u (record { commands = Ok list; text = t }) → IsRefused u ScriptSyntax
 group_open u list t i = record {
   no_room = false;
   told = λ l. told_group false l u i.other i.takes ∙ no_commands l (line_of u.first) u (ap (λ b. cond b (few (members_of u.inner).commands) None) i.unclosed);
 }
 
 -- a whole group is its commands; that it wanted for memory may be told with its lines or with its step
-module _ (l : Lists) (u : ScriptUnit) (cs : List Command) (is : few (members_of u.inner).commands ≡ Some cs) where
+module _ (l : Lists) (u : ScriptUnit) (cs : List Single) (is : few (members_of u.inner).commands ≡ Some cs) where
   with_room : (b : Bool) → (b && not (length u.inner == 0)) ≡ false → group_told b l (Some Group) (as_closed u) ≡ changing b l (commands.Group cs)
   with_room b none = rw none (ap (grouping b l) is)
 
@@ -483,10 +483,10 @@ module _ (l : Lists) (u : ScriptUnit) (cs : List Command) (is : few (members_of 
     ]
   ]
 
-few_enough : (o : Option (List Command)) (cs : List Command) → o ≡ Some cs → length cs ≤ 1024 → few o ≡ Some cs
+few_enough : (o : Option (List Single)) (cs : List Single) → o ≡ Some cs → length cs ≤ 1024 → few o ≡ Some cs
 few_enough o cs is within = rw (is, le-leb (length cs) 1024 within) refl
 
-pub group_closed : (u : ScriptUnit) (g : OpenGroup) (list : Vec Command Global) (cs : List Command) → g.commands ≡ Ok list → IsGroup u g → cs ≡ list.items
+pub group_closed : (u : ScriptUnit) (g : OpenGroup) (list : Vec Single Global) (cs : List Single) → g.commands ≡ Ok list → IsGroup u g → cs ≡ list.items
     → (no_room : Bool) (l : Lists) → (wants : Bool) × (unit_told wants l (as_closed u) ≡ changing no_room l (commands.Group cs))
 group_closed u g list cs holds i same no_room l =
     let all = subst (Collects (line_of u.first) (members_of u.inner).commands (not (length u.inner == 0))) holds i.commands in
@@ -508,7 +508,7 @@ is_short-dot (x ∷ []) dot = refl
 is_short-dot (x ∷ y ∷ line) dot = let never : bytes_eq (x ∷ y ∷ line) (codes ".") ≡ false = and_right (x == 46) false refl in cc
 
 module _ (u : ScriptUnit) (line : List ℕ) where
-  ended_well : closed_by u line ≡ as_closed u → (c : GroupedCommand)
+  ended_well : closed_by u line ≡ as_closed u → (c : Command)
       → ((no_room : Bool) (l : Lists) → (wants : Bool) × (unit_told wants l (as_closed u) ≡ changing no_room l c))
       → (no_room : Bool) (l : Lists) → (wants : Bool) × (unit_told wants l (closed_by u line) ≡ changing no_room l c)
   ended_well same c told no_room l = let as_told = told no_room l in (as_told.0, ap (unit_told as_told.0 l) same ∙ as_told.1)
@@ -516,14 +516,14 @@ module _ (u : ScriptUnit) (line : List ℕ) where
   closed_text : closes u line ≡ true → takes_text u.first ≡ true → closed_by u line ≡ as_closed u
   closed_text ends takes = closed_so u line (is_short-dot line (subst (λ b. cond b (is_dot line) (is_none (members_of u.inner).text && is_end line) ≡ true) takes ends))
 
-  pub text_ends : (t : OpenText) (c : Command) → closes u line ≡ true → IsText u t → ClosesText u (Ok c)
+  pub text_ends : (t : OpenText) (c : Single) → closes u line ≡ true → IsText u t → ClosesText u (Ok c)
       → (no_room : Bool) (l : Lists) → (wants : Bool) × (unit_told wants l (closed_by u line) ≡ changing no_room l (One c))
   text_ends t c ends i told = ended_well (closed_text ends i.takes) (One c) (λ no_room l. (no_room, told.0 no_room l))
 
   pub text_ends_refused : (t : OpenText) (r : ShellRefusal) → closes u line ≡ true → IsText u t → ClosesText u (Err r) → IsRefused (closed_by u line) r
   text_ends_refused t r ends i told = subst (λ v. IsRefused v r) (sym (closed_text ends i.takes)) told.0
 
-  pub group_ends : (g : OpenGroup) (list : Vec Command Global) (cs : List Command) → is_above line ≡ false → g.commands ≡ Ok list → IsGroup u g → cs ≡ list.items
+  pub group_ends : (g : OpenGroup) (list : Vec Single Global) (cs : List Single) → is_above line ≡ false → g.commands ≡ Ok list → IsGroup u g → cs ≡ list.items
       → (no_room : Bool) (l : Lists) → (wants : Bool) × (unit_told wants l (closed_by u line) ≡ changing no_room l (commands.Group cs))
   group_ends g list cs short holds i same = ended_well (closed_so u line (short_line line short)) (commands.Group cs) (group_closed u g list cs holds i same)
 
@@ -537,3 +537,8 @@ module _ (u : ScriptUnit) (line : List ℕ) where
     told = λ l. told_group false l (closed_by u line) i.other i.takes
         ∙ no_commands l (line_of u.first) (closed_by u line) (ap (λ b. cond b (few (members_of u.inner).commands) None) (long_line line long));
   }
+
+-- a text that a line begins
+pub text_opened : (number : ℕ) (l : List ℕ) (t : OpenText) → Begins (line_of l) t → takes_text l ≡ true → IsText (opened number l) t
+text_opened number l (texts.Text name rule text) b takes = record { unclosed = refl; takes = takes; lines = (b.0, refl, b.1) }
+text_opened number l (texts.Refused r) b takes = record { unclosed = refl; takes = takes; lines = inl (b.0, inl b.1) }

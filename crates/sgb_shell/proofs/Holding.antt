@@ -1,5 +1,5 @@
 -- What is kept of a line, byte by byte.
-use Rattle.std.proofs.Common.{◌≡◌, ℕ, zero, suc, ◌+◌, ◌<◌, ◌≤◌, Bool, true, false, ◌==◌, not, cond, List, [], ◌∷◌, ◌++◌, length, take, drop, slice_index, None, min, inl, inr, refl, sym, ap, ◌∙◌, arith, length-append, length-take}
+use Rattle.std.proofs.Common.{◌≡◌, ℕ, zero, suc, ◌+◌, ◌<◌, ◌≤◌, Bool, true, false, ◌==◌, not, cond, List, [], ◌∷◌, ◌++◌, length, take, drop, None, min, inl, inr, refl, sym, ap, ◌∙◌, arith, length-append, length-take}
 use Rattle.std.proofs.Math.Numerals.{one-add}
 use Rattle.std.proofs.lemmas.Bool.{cases_Bool, and_right, or_left, ne_eqb, eqb-true, lt-ltb, le-ltb, ltb-true, ltb-false}
 use Rattle.std.proofs.Math.Bool.{and_assoc, and-true}
@@ -11,7 +11,7 @@ use Rattle.std.specs.List.{prefix_len, take_while, list_all}
 use Rattle.std.specs.Str.{bytes_eq}
 use Rattle.sgb_script.specs.Line.{line_of, is_printable_byte}
 use Rattle.sgb_shell.specs.Unit.{unindented, takes_text, takes_members, is_dot, is_end}
-use Rattle.sgb_shell.specs.Private.Holding.{LineFront, HeldLine, front_of, held_line, is_above, opens}
+use Rattle.sgb_shell.specs.Private.Holding.{LineFront, HeldLine, front_of, held_line, is_above}
 
 -- ---- how it begins
 
@@ -97,11 +97,11 @@ pub not_true : (b : Bool) → not b ≡ true → b ≡ false
 not_true true e = cc
 not_true false e = refl
 
-left_true : (a b : Bool) → (a && b) ≡ true → a ≡ true
+pub left_true : (a b : Bool) → (a && b) ≡ true → a ≡ true
 left_true true b e = refl
 left_true false b e = cc
 
-right_true : (a b : Bool) → (a && b) ≡ true → b ≡ true
+pub right_true : (a b : Bool) → (a && b) ≡ true → b ≡ true
 right_true true b e = e
 right_true false b e = cc
 
@@ -141,32 +141,6 @@ pub members_taken : (line : List ℕ) (kept : LineFront) → kept ≡ front_of l
 unfolding takes_members
 members_taken line kept same =
     ap (λ k. bytes_eq k.bytes (codes "group") || bytes_eq k.bytes (codes "group ")) same ∙ word_first (codes "group") (unindented line) refl
-
--- a line that begins with its first word
-unindented-plain : (line : List ℕ) → bytes_eq (take 1 (take 6 line)) (codes " ") ≡ false → unindented line ≡ line
-unindented-plain [] plain = refl
-unindented-plain (x ∷ xs) plain = unindented-other x xs (sym (and-true (x == 32)) ∙ plain)
-
-pub plain_line : (line word : List ℕ) → word ≡ take 6 line → bytes_eq (take 1 word) (codes " ") ≡ false
-    → (bytes_eq (take 5 word) (codes "load") || bytes_eq (take 5 word) (codes "load ")) ≡ false
-    → (bytes_eq word (codes "group") || bytes_eq word (codes "group ")) ≡ false → (takes_text line ≡ false) × (takes_members line ≡ false)
-plain_line line word same plain text group =
-    let begins : take 6 (unindented line) ≡ word = ap (take 6) (unindented-plain line (ap (λ w. bytes_eq (take 1 w) (codes " ")) (sym same) ∙ plain)) ∙ sym same in (
-      sym (text_taken line (front_of line) refl) ∙ ap (λ w. bytes_eq (take 5 w) (codes "load") || bytes_eq (take 5 w) (codes "load ")) begins ∙ text,
-      sym (members_taken line (front_of line) refl) ∙ ap (λ w. bytes_eq w (codes "group") || bytes_eq w (codes "group ")) begins ∙ group,
-    )
-
--- a line that begins with another byte than these
-pub closed_first : (line : List ℕ) → opens (slice_index line 0) ≡ false → (takes_text line ≡ false) × (takes_members line ≡ false)
-closed_first [] closed = plain_line [] [] refl refl refl refl
-closed_first (x ∷ xs) closed = elim (cases_Bool (x == 32)) [
-  | inl space ↦ absurd (let bad : true ≡ false = rw space at closed in cc)
-  | inr other ↦ elim (cases_Bool (x == 103)) [
-    | inl g ↦ absurd (let bad : true ≡ false = rw (other, g) at closed in cc)
-    | inr not_g ↦ (let not_l : (x == 108) ≡ false = rw (other, not_g) at closed in
-        plain_line (x ∷ xs) (take 6 (x ∷ xs)) refl (rw other refl) (rw not_l refl) (rw not_g refl))
-  ]
-]
 
 end_word : (t : List ℕ) → take 3 (take 6 t) ≡ take 3 t
 end_word [] = refl

@@ -3,6 +3,7 @@ mod Holding
 mod Gathering
 mod LineEnds
 mod Courses
+mod Reports
 mod Reaching
 mod Standing
 mod Bytes

@@ -1,23 +1,24 @@
 -- How far a run has come, by a line, and by the end of the script.
-use Rattle.std.proofs.Common.{◌≡◌, ℕ, ◌+◌, ◌<◌, ◌≤◌, ◌^◌, Bool, false, cond, List, [], ◌∷◌, ◌++◌, length, Option, None, Some, Result, Ok, Err, min, ◌-◌, refl, sym, ap, ◌∙◌, subst, arith, length-append, append_assoc, append-nil}
+use Rattle.std.proofs.Common.{◌≡◌, ℕ, ◌+◌, ◌<◌, ◌≤◌, ◌^◌, false, cond, List, [], ◌∷◌, ◌++◌, length, Option, None, Some, Result, Ok, Err, min, ◌-◌, refl, sym, ap, ◌∙◌, subst, arith, length-append, append_assoc, append-nil}
 use Rattle.std.specs.Io.KnownBytes.{Appends}
 use Rattle.std.proofs.KnownBytes.{Appends-nil, Appends-trans}
+use Rattle.sgb_print.specs.Meter.{WriterUse}
 use Rattle.sgb_print.specs.Print.{AppendsFront, Prints}
-use Rattle.sgb_script.specs.Line.{line_of}
 use Rattle.sgb_script.specs.declared.refusal.ShellRefusal.{ShellRefusal}
 use Rattle.sgb_shell.specs.declared.answer.Answer.{Answer}
 use Rattle.sgb_shell.specs.declared.answer.Answer.TheVariants.{Refused}
 use Rattle.sgb_shell.specs.declared.pending.Pending.{Pending}
 use Rattle.sgb_shell.specs.Private.Gathering.{IsGathered, IsRefused}
-use Rattle.sgb_shell.specs.Private.Performing.{Kept, IsBegun, Does, Tells, by_line, by_unit, lists_of}
-use Rattle.sgb_shell.specs.Private.Reaching.{Taken, GoesOn, Ends, Waits, Settles, unit_by, number_at, unanswered, Reached, Stopped, Finishes, Ended, StoppedAtEnd, Concludes}
+use Rattle.sgb_shell.specs.Private.Performing.{Kept, IsBegun, Does, by_unit, lists_of}
+use Rattle.sgb_shell.specs.Private.Reaching.{Taken, GoesOn, Ends, Waits, Settles, unit_by, number_at, unanswered, ShellView, Reached, Stopped, Finishes, Ended, StoppedAtEnd, Concludes}
 use Rattle.sgb_shell.specs.Run.{AppendsPast}
 use Rattle.sgb_shell.specs.Answer.{answer_text}
-use Rattle.sgb_shell.specs.Transcript.{Course, course, whole_course, ended, answered_unit, goes_on, refusals}
+use Rattle.sgb_shell.specs.Private.Course.{Course, course, whole_course, ended, answered_unit, goes_on}
+use Rattle.sgb_shell.specs.Transcript.{refusals}
 use Rattle.sgb_shell.specs.Group.{closes}
-use Rattle.sgb_shell.specs.Unit.{ScriptUnit, alone, opened, with_line, closed_by, takes_text, takes_members, takes_lines}
+use Rattle.sgb_shell.specs.Unit.{ScriptUnit, with_line, closed_by}
 use Rattle.sgb_shell.proofs.Courses.{course-push, stepped, resolved, advance-by, unit_in, number-by, course-lines, refusals-few, course-refused, course_ordered, with_number, course-with_number, other_number, unit-answered, text-grows}
-use Rattle.sgb_shell.proofs.Performing.{machine_is, line_does}
+use Rattle.sgb_shell.proofs.Performing.{machine_is}
 
 -- ---- text past other text
 
@@ -72,9 +73,8 @@ stopped-earlier held now first more all s =
     record { no_room = s.no_room; text = past-earlier held now _ grown.0 _ (subst (λ t. AppendsPast held now t (course s.no_room all).text) grown.1 s.text) }
 
 -- the writer failed where all was written
-pub stopped-reached : (held now : Option (List ℕ)) (ls : List (List ℕ)) (journal : Kept) (pending : Option Pending) (count refused : ℕ)
-    → Reached held now ls journal pending count refused → Stopped held now ls ls
-stopped-reached held now ls journal pending count refused r = record { no_room = r.no_room; text = past-all held now _ r.text }
+pub stopped-reached : (held now : Option (List ℕ)) (ls : List (List ℕ)) (s : ShellView) → Reached held now ls s → Stopped held now ls ls
+stopped-reached held now ls s r = record { no_room = r.no_room; text = past-all held now _ r.text }
 
 -- ---- a line of a unit that goes on
 
@@ -91,17 +91,6 @@ pub still_waits : (before : Option ScriptUnit) (pending : Option Pending) (unit 
     → ((u : ScriptUnit) → IsGathered u unit → (closes u line ≡ false) × IsGathered (with_line u line) unit')
     → Settles (unit_by number before line) journal journal (Some unit') None
 still_waits before pending unit unit' number line journal is waits longer = settled_by before unit unit' number line journal (subst (Waits before) is waits) longer
-
--- ---- a line that is a unit of its own
-
-pub alone_settles : (count : ℕ) (before : Option ScriptUnit) (line : List ℕ) (old new : Kept) (pending : Option Pending) (answer : Answer)
-    → Waits before pending → pending ≡ None → takes_text line ≡ false → takes_members line ≡ false → Does (by_line (line_of line)) old new answer
-    → Settles (unit_by count before line) old new pending (Some (count, answer))
-alone_settles count (Some u) line old new pending answer waits none text members does = absurd (subst (Waits (Some u)) none waits)
-alone_settles count None line old new pending answer waits none text members does =
-    let other : takes_lines line ≡ false = rw (text, members) refl in
-    subst (λ b. Settles (cond b (GoesOn (opened count line)) (Ends (alone count line))) old new pending (Some (count, answer)))
-    (sym other) (refl, none, line_does old new (alone count line) answer text members does)
 
 -- ---- a line that goes on
 
@@ -129,131 +118,114 @@ number-line no_room ls line count t counted comes =
     let place : count ≡ c.lines + 1 = counted ∙ ap (λ k. k + 1) (sym (course-lines no_room ls)) in
     ap (λ x. (unit_in x).number) (sym comes) ∙ number-by count c.pending line ∙ ap (λ k. number_at k c.pending) place
 
-line_goes_on : (held now : Option (List ℕ)) (ls : List (List ℕ)) (line : List ℕ) (old new : Kept) (pending pending' : Option Pending) (count refused count' : ℕ)
-    (r : Reached held now ls old pending count refused) (t : Taken) → count' ≡ length ls + 1 → unit_by count' (course r.no_room ls).pending line ≡ t
-    → Settles t old new pending' None → Reached held now (ls ++ line ∷ []) new pending' count' refused
-line_goes_on held now ls line old new pending pending' count refused count' r (Ends u) counted comes s = absurd s
-line_goes_on held now ls line old new pending pending' count refused count' r (GoesOn u) counted comes s =
-    let more = course-line r.no_room ls line count' (GoesOn u) counted comes in
-    let number : u.number ≡ unanswered (course r.no_room ls) = number-line r.no_room ls line count' (GoesOn u) counted comes in record {
-      no_room = r.no_room;
-      above = λ n above. r.above n (subst (λ k. k ≤ n) (ap unanswered more ∙ number) above);
-      lines = counted ∙ sym (length-append ls (line ∷ []));
-      waits = subst (λ o. Waits o pending') (sym (ap (λ c. c.pending) more)) s.1;
-      lists = ap (λ c. c.lists) more ∙ r.lists ∙ ap lists_of (sym s.0);
-      refused = ap (λ c. c.refused) more ∙ r.refused;
-      text = subst (Appends held now) (sym (ap (λ c. c.text) more)) r.text;
-      begun = subst IsBegun (sym s.0) r.begun;
-    }
+abbrev pub view : Kept → Option Pending → ℕ → ℕ → ShellView
+view journal pending count refused = record { journal = journal; pending = pending; lines = count; refused = refused }
 
-pub goes_on_taken : (held now : Option (List ℕ)) (ls : List (List ℕ)) (line : List ℕ) (old new : Kept) (pending pending' : Option Pending) (count refused count' : ℕ)
-    (r : Reached held now ls old pending count refused) → length ls < 2 ^ 32 → count' ≡ min (count + 1) (2 ^ 64 - 1)
-    → Settles (unit_by count' (course r.no_room ls).pending line) old new pending' None → Reached held now (ls ++ line ∷ []) new pending' count' refused
-goes_on_taken held now ls line old new pending pending' count refused count' r few counting s =
-    line_goes_on held now ls line old new pending pending' count refused count' r (unit_by count' (course r.no_room ls).pending line)
-    (counts count (length ls) count' r.lines few counting) refl s
+module _ (held now : Option (List ℕ)) (ls : List (List ℕ)) (line : List ℕ) (s : ShellView) (new : Kept) (pending' : Option Pending) (count' : ℕ) (r : Reached held now ls s) where
+  line_goes_on : (t : Taken) → count' ≡ length ls + 1 → unit_by count' (course r.no_room ls).pending line ≡ t
+      → Settles t s.journal new pending' None → Reached held now (ls ++ line ∷ []) (view new pending' count' s.refused)
+  line_goes_on (Ends u) counted comes settles = absurd settles
+  line_goes_on (GoesOn u) counted comes settles =
+      let more = course-line r.no_room ls line count' (GoesOn u) counted comes in
+      let number : u.number ≡ unanswered (course r.no_room ls) = number-line r.no_room ls line count' (GoesOn u) counted comes in record {
+        no_room = r.no_room;
+        above = λ n above. r.above n (subst (λ k. k ≤ n) (ap unanswered more ∙ number) above);
+        lines = counted ∙ sym (length-append ls (line ∷ []));
+        waits = subst (λ o. Waits o pending') (sym (ap (λ c. c.pending) more)) settles.1;
+        lists = ap (λ c. c.lists) more ∙ r.lists ∙ ap lists_of (sym settles.0);
+        refused = ap (λ c. c.refused) more ∙ r.refused;
+        text = subst (Appends held now) (sym (ap (λ c. c.text) more)) r.text;
+        begun = subst IsBegun (sym settles.0) r.begun;
+      }
+
+  pub goes_on_taken : length ls < 2 ^ 32 → count' ≡ min (s.lines + 1) (2 ^ 64 - 1)
+      → Settles (unit_by count' (course r.no_room ls).pending line) s.journal new pending' None → Reached held now (ls ++ line ∷ []) (view new pending' count' s.refused)
+  goes_on_taken few counting settles =
+      line_goes_on (unit_by count' (course r.no_room ls).pending line) (counts s.lines (length ls) count' r.lines few counting) refl settles
 
 -- ---- a line that ends a unit
-
--- the course after it
-line_ends : (held now : Option (List ℕ)) (ls : List (List ℕ)) (line : List ℕ) (old new : Kept) (pending : Option Pending) (count refused count' : ℕ) (answer : Answer)
-    (r : Reached held now ls old pending count refused) (u : ScriptUnit) (d : Does (by_unit u) old new answer) → count' ≡ length ls + 1
-    → unit_by count' (course r.no_room ls).pending line ≡ Ends u
-    → course (with_number d.no_room u.number r.no_room) (ls ++ line ∷ []) ≡ goes_on (stepped (course r.no_room ls)) u.number (lists_of new, answer)
-line_ends held now ls line old new pending count refused count' answer r u d counted comes =
-    let no_room = with_number d.no_room u.number r.no_room in
-    let c = course r.no_room ls in
-    let number : u.number ≡ unanswered c = number-line r.no_room ls line count' (Ends u) counted comes in
-    let same : course no_room ls ≡ c = course-with_number d.no_room u.number r.no_room ls (omega arith) in
-    course-line no_room ls line count' (Ends u) counted (ap (λ x. unit_by count' x.pending line) same ∙ comes)
-    ∙ ap (λ x. answered_unit no_room (stepped x) u) same
-    ∙ unit-answered r.no_room (stepped c) u old new answer d (r.above u.number (omega arith)) r.lists
 
 -- what is printed for the unit stands behind the text so far
 printed_behind : (c : Course) (number : ℕ) (new : Kept) (answer : Answer) → IsBegun new
     → (goes_on c number (lists_of new, answer)).text ≡ c.text ++ answer_text number new.machine answer
 printed_behind c number new answer begun = ap (λ s. c.text ++ answer_text number s answer) (machine_is new begun)
 
-reached_more : (held now now' : Option (List ℕ)) (ls : List (List ℕ)) (line : List ℕ) (old new : Kept) (pending pending' : Option Pending) (count refused count' refused' : ℕ) (answer : Answer)
-    (r : Reached held now ls old pending count refused) (u : ScriptUnit) → Does (by_unit u) old new answer → count' ≡ length ls + 1
-    → unit_by count' (course r.no_room ls).pending line ≡ Ends u → pending' ≡ None → refused' ≡ refused + refusals answer
-    → Appends now now' (answer_text u.number new.machine answer) → Reached held now' (ls ++ line ∷ []) new pending' count' refused'
-reached_more held now now' ls line old new pending pending' count refused count' refused' answer r u d counted comes none refusing written =
-    let c = course r.no_room ls in
-    let more = line_ends held now ls line old new pending count refused count' answer r u d counted comes in
-    let number : u.number ≡ unanswered c = number-line r.no_room ls line count' (Ends u) counted comes in
-    let ordered = course_ordered r.no_room ls in
-    let text = ap (λ d. d.text) more ∙ printed_behind (stepped c) u.number new answer d.begun in record {
-      no_room = with_number d.no_room u.number r.no_room;
-      above = λ n above.
-          let past : (c.lines + 1) + 1 ≤ n = subst (λ k. k ≤ n) (ap unanswered more) above in
-          other_number d.no_room u.number n r.no_room (omega arith) (r.above n (omega arith));
-      lines = counted ∙ sym (length-append ls (line ∷ []));
-      waits = subst (λ o. Waits o pending') (sym (ap (λ c. c.pending) more)) (subst (Waits None) (sym none) tt);
-      lists = ap (λ c. c.lists) more;
-      refused = ap (λ c. c.refused) more ∙ ap (λ k. k + refusals answer) r.refused ∙ sym refusing;
-      text = subst (Appends held now') (sym text) (Appends-trans held now now' _ _ r.text written);
-      begun = d.begun;
-    }
+module _ (held now now' : Option (List ℕ)) (ls : List (List ℕ)) (line : List ℕ) (s : ShellView) (new : Kept) (pending' : Option Pending) (count' refused' : ℕ) (answer : Answer)
+    (r : Reached held now ls s) (u : ScriptUnit) (d : Does (by_unit u) s.journal new answer) (counted : count' ≡ length ls + 1)
+    (comes : unit_by count' (course r.no_room ls).pending line ≡ Ends u) where
+  number_is : u.number ≡ unanswered (course r.no_room ls)
+  number_is = number-line r.no_room ls line count' (Ends u) counted comes
 
-stopped_more : (held now now' : Option (List ℕ)) (ls : List (List ℕ)) (line : List ℕ) (old new : Kept) (pending : Option Pending) (count refused count' : ℕ) (answer : Answer)
-    (r : Reached held now ls old pending count refused) (u : ScriptUnit) → Does (by_unit u) old new answer → count' ≡ length ls + 1
-    → unit_by count' (course r.no_room ls).pending line ≡ Ends u
-    → AppendsFront now now' (answer_text u.number new.machine answer) → Stopped held now' ls (ls ++ line ∷ [])
-stopped_more held now now' ls line old new pending count refused count' answer r u d counted comes written =
-    let c = course r.no_room ls in
-    let more = line_ends held now ls line old new pending count refused count' answer r u d counted comes in
-    let number : u.number ≡ unanswered c = number-line r.no_room ls line count' (Ends u) counted comes in
-    let same = course-with_number d.no_room u.number r.no_room ls (omega arith) in
-    let text = ap (λ d. d.text) more ∙ printed_behind (stepped c) u.number new answer d.begun in record {
-      no_room = with_number d.no_room u.number r.no_room;
-      text = past-same held now' _ _ _ _ (sym (ap (λ x. x.text) same)) (sym text) (past-front held now now' _ _ r.text written);
-    }
+  same_course : course (with_number d.no_room u.number r.no_room) ls ≡ course r.no_room ls
+  same_course = let number = number_is in course-with_number d.no_room u.number r.no_room ls (omega arith)
 
-ends_taken : {X E : Type 0} (held now now' : Option (List ℕ)) (failed failed' : Bool) (ls : List (List ℕ)) (line : List ℕ) (old new : Kept) (pending pending' : Option Pending)
-    (count refused count' refused' : ℕ) (told : ℕ × Answer) (result : Result X E) (r : Reached held now ls old pending count refused) (t : Taken)
-    → length ls < 2 ^ 32 → count' ≡ length ls + 1 → unit_by count' (course r.no_room ls).pending line ≡ t
-    → Settles t old new pending' (Some told) → refused' ≡ refused + refusals told.1
-    → Prints now now' failed failed' result (answer_text told.0 new.machine told.1)
-    → Finishes held now' failed failed' ls (ls ++ line ∷ []) new pending' count' refused' result
-ends_taken held now now' failed failed' ls line old new pending pending' count refused count' refused' told result r (GoesOn u) few counted comes s refusing printed = absurd s
-ends_taken held now now' failed failed' ls line old new pending pending' count refused count' refused' told (Ok x) r (Ends u) few counted comes s refusing printed = (
-  reached_more held now now' ls line old new pending pending' count refused count' refused' told.1 r u s.2 counted comes s.1 refusing
-      (subst (λ k. Appends now now' (answer_text k new.machine told.1)) s.0 printed.0),
-  printed.1,
-)
-ends_taken held now now' failed failed' ls line old new pending pending' count refused count' refused' told (Err e) r (Ends u) few counted comes s refusing printed = (
-  stopped_more held now now' ls line old new pending count refused count' told.1 r u s.2 counted comes
-      (subst (λ k. AppendsFront now now' (answer_text k new.machine told.1)) s.0 printed.0),
-  printed.1,
-)
+  -- the course after it
+  line_ends : course (with_number d.no_room u.number r.no_room) (ls ++ line ∷ []) ≡ goes_on (stepped (course r.no_room ls)) u.number (lists_of new, answer)
+  line_ends =
+      let no_room = with_number d.no_room u.number r.no_room in
+      let c = course r.no_room ls in
+      let number = number_is in
+      course-line no_room ls line count' (Ends u) counted (ap (λ x. unit_by count' x.pending line) same_course ∙ comes)
+      ∙ ap (λ x. answered_unit no_room (stepped x) u) same_course
+      ∙ unit-answered r.no_room (stepped c) u s.journal new answer d (r.above u.number (omega arith)) r.lists
 
-pub answer_taken : {X E : Type 0} (held now now' : Option (List ℕ)) (failed failed' : Bool) (ls : List (List ℕ)) (line : List ℕ) (old new : Kept) (pending pending' : Option Pending)
-    (count refused count' refused' : ℕ) (told : ℕ × Answer) (result : Result X E) (r : Reached held now ls old pending count refused)
-    → length ls < 2 ^ 32 → count' ≡ min (count + 1) (2 ^ 64 - 1)
-    → Settles (unit_by count' (course r.no_room ls).pending line) old new pending' (Some told)
-    → refused' ≡ min (refused + refusals told.1) (2 ^ 64 - 1)
-    → Prints now now' failed failed' result (answer_text told.0 new.machine told.1)
-    → Finishes held now' failed failed' ls (ls ++ line ∷ []) new pending' count' refused' result
-answer_taken held now now' failed failed' ls line old new pending pending' count refused count' refused' told result r few counting s refusing printed =
-    let within : refused ≤ length ls = omega (arith, course-refused r.no_room ls, r.refused) in
-    ends_taken held now now' failed failed' ls line old new pending pending' count refused count' refused' told result r
-    (unit_by count' (course r.no_room ls).pending line) few (counts count (length ls) count' r.lines few counting) refl s
-    (grows refused (length ls) (refusals told.1) refused' within (omega arith) (refusals-few told.1) refusing) printed
+  text_ends : (course (with_number d.no_room u.number r.no_room) (ls ++ line ∷ [])).text ≡ (course r.no_room ls).text ++ answer_text u.number new.machine answer
+  text_ends = ap (λ c. c.text) line_ends ∙ printed_behind (stepped (course r.no_room ls)) u.number new answer d.begun
 
--- a line that is a unit of its own was answered at once
-pub told_taken : {X E : Type 0} (held now now' : Option (List ℕ)) (failed failed' : Bool) (ls : List (List ℕ)) (line : List ℕ) (old new : Kept) (pending : Option Pending)
-    (count refused count' refused' : ℕ) (result : Result X E) → Reached held now ls old pending count refused
-    → length ls < 2 ^ 32 → count' ≡ min (count + 1) (2 ^ 64 - 1) → pending ≡ None → takes_text line ≡ false → takes_members line ≡ false
-    → Tells (by_line (line_of line)) count' old new refused refused' now now' failed failed' result
-    → Finishes held now' failed failed' ls (ls ++ line ∷ []) new pending count' refused' result
-told_taken held now now' failed failed' ls line old new pending count refused count' refused' result r few counting none text members told =
-    let within : refused ≤ length ls = omega (arith, course-refused r.no_room ls, r.refused) in
-    answer_taken held now now' failed failed' ls line old new pending pending count refused count' refused' (count', told.answer) result r few counting
-    (alone_settles count' (course r.no_room ls).pending line old new pending told.answer r.waits none text members told.does)
-    (let sum = told.counted (omega arith) in let one = refusals-few told.answer in omega arith) told.prints
+  reached_more : pending' ≡ None → refused' ≡ s.refused + refusals answer
+      → Appends now now' (answer_text u.number new.machine answer) → Reached held now' (ls ++ line ∷ []) (view new pending' count' refused')
+  reached_more none refusing written =
+      let c = course r.no_room ls in
+      let more = line_ends in
+      let number = number_is in
+      let ordered = course_ordered r.no_room ls in record {
+        no_room = with_number d.no_room u.number r.no_room;
+        above = λ n above.
+            let past : (c.lines + 1) + 1 ≤ n = subst (λ k. k ≤ n) (ap unanswered more) above in
+            other_number d.no_room u.number n r.no_room (omega arith) (r.above n (omega arith));
+        lines = counted ∙ sym (length-append ls (line ∷ []));
+        waits = subst (λ o. Waits o pending') (sym (ap (λ c. c.pending) more)) (subst (Waits None) (sym none) tt);
+        lists = ap (λ c. c.lists) more;
+        refused = ap (λ c. c.refused) more ∙ ap (λ k. k + refusals answer) r.refused ∙ sym refusing;
+        text = subst (Appends held now') (sym text_ends) (Appends-trans held now now' _ _ r.text written);
+        begun = d.begun;
+      }
 
-pub nothing_reached : (held : Option (List ℕ)) (j : Kept) → IsBegun j → lists_of j ≡ record { standing = []; undone = [] } → Reached held held [] j None 0 0
+  stopped_more : AppendsFront now now' (answer_text u.number new.machine answer) → Stopped held now' ls (ls ++ line ∷ [])
+  stopped_more written = record {
+    no_room = with_number d.no_room u.number r.no_room;
+    text = past-same held now' _ _ _ _ (sym (ap (λ x. x.text) same_course)) (sym text_ends) (past-front held now now' _ _ r.text written);
+  }
+
+module _ {W X E : Type 0} (held : Option (List ℕ)) (w w' : WriterUse W) (ls : List (List ℕ)) (line : List ℕ) (s : ShellView) (new : Kept) (pending' : Option Pending)
+    (count' refused' : ℕ) (told : ℕ × Answer) (r : Reached held w.held ls s) where
+  ends_taken : (result : Result X E) (t : Taken) → count' ≡ length ls + 1 → unit_by count' (course r.no_room ls).pending line ≡ t
+      → Settles t s.journal new pending' (Some told) → refused' ≡ s.refused + refusals told.1
+      → Prints w w' result (answer_text told.0 new.machine told.1)
+      → Finishes held w w' ls (ls ++ line ∷ []) (view new pending' count' refused') result
+  ends_taken result (GoesOn u) counted comes settles refusing printed = absurd settles
+  ends_taken (Ok x) (Ends u) counted comes settles refusing printed = (
+    reached_more held w.held w'.held ls line s new pending' count' refused' told.1 r u settles.2 counted comes settles.1 refusing
+        (subst (λ k. Appends w.held w'.held (answer_text k new.machine told.1)) settles.0 printed.bytes),
+    printed.failed,
+  )
+  ends_taken (Err e) (Ends u) counted comes settles refusing printed = (
+    stopped_more held w.held w'.held ls line s new pending' count' refused' told.1 r u settles.2 counted comes
+        (subst (λ k. AppendsFront w.held w'.held (answer_text k new.machine told.1)) settles.0 printed.bytes),
+    printed.failed,
+  )
+
+  pub answer_taken : (result : Result X E) → length ls < 2 ^ 32 → count' ≡ min (s.lines + 1) (2 ^ 64 - 1)
+      → Settles (unit_by count' (course r.no_room ls).pending line) s.journal new pending' (Some told)
+      → refused' ≡ min (s.refused + refusals told.1) (2 ^ 64 - 1)
+      → Prints w w' result (answer_text told.0 new.machine told.1)
+      → Finishes held w w' ls (ls ++ line ∷ []) (view new pending' count' refused') result
+  answer_taken result few counting settles refusing printed =
+      let within : s.refused ≤ length ls = omega (arith, course-refused r.no_room ls, r.refused) in
+      ends_taken result (unit_by count' (course r.no_room ls).pending line) (counts s.lines (length ls) count' r.lines few counting) refl settles
+      (grows s.refused (length ls) (refusals told.1) refused' within (omega arith) (refusals-few told.1) refusing) printed
+
+pub nothing_reached : (held : Option (List ℕ)) (j : Kept) → IsBegun j → lists_of j ≡ record { standing = []; undone = [] } → Reached held held [] (view j None 0 0)
 unfolding course
 nothing_reached held j begun lists = record {
   no_room = [];
@@ -272,10 +244,10 @@ whole-course : (no_room : List ℕ) (ls : List (List ℕ)) (o : Option ScriptUni
 unfolding whole_course
 whole-course no_room ls o e = ap (ended no_room (course no_room ls)) e
 
-end_waits_none : (held now : Option (List ℕ)) (ls : List (List ℕ)) (journal : Kept) (count refused : ℕ) (r : Reached held now ls journal None count refused) (o : Option ScriptUnit)
-    → (course r.no_room ls).pending ≡ o → Waits o None → Ended held now ls count refused
-end_waits_none held now ls journal count refused r (Some u) is waits = absurd waits
-end_waits_none held now ls journal count refused r None is waits =
+end_waits_none : (held now : Option (List ℕ)) (ls : List (List ℕ)) (journal : Kept) (count refused : ℕ) (r : Reached held now ls (view journal None count refused)) (o : Option ScriptUnit)
+    → (course r.no_room ls).pending ≡ o → Waits o None → (pending' : Option Pending) → Ended held now ls (view journal pending' count refused)
+end_waits_none held now ls journal count refused r (Some u) is waits pending' = absurd waits
+end_waits_none held now ls journal count refused r None is waits pending' =
     let same = whole-course r.no_room ls None is in record {
       no_room = r.no_room;
       lines = r.lines;
@@ -283,77 +255,84 @@ end_waits_none held now ls journal count refused r None is waits =
       text = subst (Appends held now) (sym (ap (λ c. c.text) same)) r.text;
     }
 
-pub end_none : (held now : Option (List ℕ)) (ls : List (List ℕ)) (journal : Kept) (pending : Option Pending) (count refused : ℕ) → pending ≡ None
-    → Reached held now ls journal pending count refused → Ended held now ls count refused
-end_none held now ls journal pending count refused none reached =
-    let r = subst (λ p. Reached held now ls journal p count refused) none reached in
-    end_waits_none held now ls journal count refused r (course r.no_room ls).pending refl r.waits
+-- nothing is pending
+pub end_none : (held now : Option (List ℕ)) (ls : List (List ℕ)) (journal : Kept) (pending pending' : Option Pending) (count refused : ℕ) → pending ≡ None
+    → Reached held now ls (view journal pending count refused) → Ended held now ls (view journal pending' count refused)
+end_none held now ls journal pending pending' count refused none reached =
+    let r = subst (λ p. Reached held now ls (view journal p count refused)) none reached in
+    end_waits_none held now ls journal count refused r (course r.no_room ls).pending refl r.waits pending'
 
--- the course that ends with the refusal of the unit whose text goes on
-unit_ends : (held now : Option (List ℕ)) (ls : List (List ℕ)) (journal : Kept) (pending : Option Pending) (count refused : ℕ) (answer : Answer)
-    (r : Reached held now ls journal pending count refused) (u : ScriptUnit) (d : Does (by_unit u) journal journal answer) → (course r.no_room ls).pending ≡ Some u
-    → whole_course (with_number d.no_room u.number r.no_room) ls ≡ goes_on (course r.no_room ls) u.number (lists_of journal, answer)
-unit_ends held now ls journal pending count refused answer r u d is =
-    let no_room = with_number d.no_room u.number r.no_room in
-    let c = course r.no_room ls in
-    let number : unanswered c ≡ u.number = ap (number_at (c.lines + 1)) is in
-    let same : course no_room ls ≡ c = course-with_number d.no_room u.number r.no_room ls (omega arith) in
-    whole-course no_room ls (Some u) (ap (λ x. x.pending) same ∙ is)
-    ∙ ap (λ x. answered_unit no_room x u) same
-    ∙ unit-answered r.no_room c u journal journal answer d (r.above u.number (omega arith)) r.lists
+module _ (held now now' : Option (List ℕ)) (ls : List (List ℕ)) (s : ShellView) (answer : Answer)
+    (r : Reached held now ls s) (u : ScriptUnit) (d : Does (by_unit u) s.journal s.journal answer) (is : (course r.no_room ls).pending ≡ Some u) where
+  same_at_end : course (with_number d.no_room u.number r.no_room) ls ≡ course r.no_room ls
+  same_at_end =
+      let c = course r.no_room ls in
+      let number : unanswered c ≡ u.number = ap (number_at (c.lines + 1)) is in
+      course-with_number d.no_room u.number r.no_room ls (omega arith)
 
-end_told : {X E : Type 0} (held now now' : Option (List ℕ)) (failed failed' : Bool) (ls : List (List ℕ)) (journal : Kept) (pending : Option Pending) (count refused refused' number : ℕ) (answer : Answer) (result : Result X E)
-    (r : Reached held now ls journal pending count refused) (u : ScriptUnit) → Does (by_unit u) journal journal answer → (course r.no_room ls).pending ≡ Some u → number ≡ u.number
-    → refused' ≡ refused + refusals answer → Prints now now' failed failed' result (answer_text number journal.machine answer)
-    → Concludes held now' failed failed' ls ls count refused' result
-end_told held now now' failed failed' ls journal pending count refused refused' number answer (Ok x) r u d is named refusing printed =
-    let c = course r.no_room ls in
-    let more = unit_ends held now ls journal pending count refused answer r u d is in
-    let text = ap (λ d. d.text) more ∙ printed_behind c u.number journal answer r.begun in (
-      record {
-        no_room = with_number d.no_room u.number r.no_room;
-        lines = r.lines;
-        refused = ap (λ c. c.refused) more ∙ ap (λ k. k + refusals answer) r.refused ∙ sym refusing;
-        text = subst (Appends held now') (sym text)
-            (Appends-trans held now now' _ _ r.text (subst (λ k. Appends now now' (answer_text k journal.machine answer)) named printed.0));
-      },
-      printed.1,
-    )
-end_told held now now' failed failed' ls journal pending count refused refused' number answer (Err e) r u d is named refusing printed =
-    let c = course r.no_room ls in
-    let more = unit_ends held now ls journal pending count refused answer r u d is in
-    let order : unanswered c ≡ u.number = ap (number_at (c.lines + 1)) is in
-    let same = course-with_number d.no_room u.number r.no_room ls (omega arith) in
-    let text = ap (λ d. d.text) more ∙ printed_behind c u.number journal answer r.begun in (
-      record {
-        no_room = with_number d.no_room u.number r.no_room;
-        text = past-same held now' _ _ _ _ (sym (ap (λ x. x.text) same)) (sym text)
-            (past-front held now now' _ _ r.text (subst (λ k. AppendsFront now now' (answer_text k journal.machine answer)) named printed.0));
-      },
-      printed.1,
-    )
+  -- the course that ends with the refusal of the unit whose text goes on
+  unit_ends : whole_course (with_number d.no_room u.number r.no_room) ls ≡ goes_on (course r.no_room ls) u.number (lists_of s.journal, answer)
+  unit_ends =
+      let no_room = with_number d.no_room u.number r.no_room in
+      let c = course r.no_room ls in
+      let number : unanswered c ≡ u.number = ap (number_at (c.lines + 1)) is in
+      whole-course no_room ls (Some u) (ap (λ x. x.pending) same_at_end ∙ is)
+      ∙ ap (λ x. answered_unit no_room x u) same_at_end
+      ∙ unit-answered r.no_room c u s.journal s.journal answer d (r.above u.number (omega arith)) r.lists
 
-end_waits : {X E : Type 0} (held now now' : Option (List ℕ)) (failed failed' : Bool) (ls : List (List ℕ)) (journal : Kept) (p : Pending) (count refused refused' : ℕ) (reason : ShellRefusal) (result : Result X E)
-    (r : Reached held now ls journal (Some p) count refused) (o : Option ScriptUnit) → (course r.no_room ls).pending ≡ o → Waits o (Some p)
-    → ((u : ScriptUnit) → IsGathered u p → IsRefused u reason)
-    → refused' ≡ refused + 1 → Prints now now' failed failed' result (answer_text p.number journal.machine (Refused reason))
-    → Concludes held now' failed failed' ls ls count refused' result
-end_waits held now now' failed failed' ls journal p count refused refused' reason result r None is waits why refusing printed = absurd waits
-end_waits held now now' failed failed' ls journal p count refused refused' reason result r (Some u) is waits why refusing printed =
-    let w = why u waits in
-    let d : Does (by_unit u) journal journal (Refused reason) = record { no_room = w.no_room; told = w.told (lists_of journal); begun = r.begun } in
-    end_told held now now' failed failed' ls journal (Some p) count refused refused' p.number (Refused reason) result r u d is waits.number refusing printed
+  text_at_end : (whole_course (with_number d.no_room u.number r.no_room) ls).text ≡ (course r.no_room ls).text ++ answer_text u.number s.journal.machine answer
+  text_at_end = ap (λ c. c.text) unit_ends ∙ printed_behind (course r.no_room ls) u.number s.journal answer r.begun
 
-pub end_refused : {X E : Type 0} (held now now' : Option (List ℕ)) (failed failed' : Bool) (ls : List (List ℕ)) (journal : Kept) (pending : Option Pending) (p : Pending) (count refused refused' : ℕ) (reason : ShellRefusal) (result : Result X E)
-    → length ls ≤ 2 ^ 32 → pending ≡ Some p → Reached held now ls journal pending count refused
-    → ((u : ScriptUnit) → IsGathered u p → IsRefused u reason)
-    → refused' ≡ min (refused + 1) (2 ^ 64 - 1) → Prints now now' failed failed' result (answer_text p.number journal.machine (Refused reason))
-    → Concludes held now' failed failed' ls ls count refused' result
-end_refused held now now' failed failed' ls journal pending p count refused refused' reason result few is reached why refusing printed =
-    let r = subst (λ o. Reached held now ls journal o count refused) is reached in
-    let within : refused ≤ length ls = omega (arith, course-refused r.no_room ls, r.refused) in
-    end_waits held now now' failed failed' ls journal p count refused refused' reason result r (course r.no_room ls).pending refl r.waits why
-    (grows refused (length ls) 1 refused' within few (omega arith) refusing) printed
+  ended_more : (pending' : Option Pending) (refused' : ℕ) → refused' ≡ s.refused + refusals answer → Appends now now' (answer_text u.number s.journal.machine answer)
+      → Ended held now' ls (view s.journal pending' s.lines refused')
+  ended_more pending' refused' refusing written = record {
+    no_room = with_number d.no_room u.number r.no_room;
+    lines = r.lines;
+    refused = ap (λ c. c.refused) unit_ends ∙ ap (λ k. k + refusals answer) r.refused ∙ sym refusing;
+    text = subst (Appends held now') (sym text_at_end) (Appends-trans held now now' _ _ r.text written);
+  }
+
+  stopped_at_end : AppendsFront now now' (answer_text u.number s.journal.machine answer) → StoppedAtEnd held now' ls ls
+  stopped_at_end written = record {
+    no_room = with_number d.no_room u.number r.no_room;
+    text = past-same held now' _ _ _ _ (sym (ap (λ x. x.text) same_at_end)) (sym text_at_end) (past-front held now now' _ _ r.text written);
+  }
+
+module _ {W X E : Type 0} (held : Option (List ℕ)) (w w' : WriterUse W) (ls : List (List ℕ)) (journal : Kept) (p : Pending) (pending' : Option Pending) (count refused refused' : ℕ) (reason : ShellRefusal) where
+  end_told : (result : Result X E) (r : Reached held w.held ls (view journal (Some p) count refused)) (u : ScriptUnit) → Does (by_unit u) journal journal (Refused reason)
+      → (course r.no_room ls).pending ≡ Some u → p.number ≡ u.number → refused' ≡ refused + 1
+      → Prints w w' result (answer_text p.number journal.machine (Refused reason))
+      → Concludes held w w' ls ls (view journal pending' count refused') result
+  end_told (Ok x) r u d is named refusing printed = (
+    ended_more held w.held w'.held ls (view journal (Some p) count refused) (Refused reason) r u d is pending' refused' refusing
+        (subst (λ k. Appends w.held w'.held (answer_text k journal.machine (Refused reason))) named printed.bytes),
+    printed.failed,
+  )
+  end_told (Err e) r u d is named refusing printed = (
+    stopped_at_end held w.held w'.held ls (view journal (Some p) count refused) (Refused reason) r u d is
+        (subst (λ k. AppendsFront w.held w'.held (answer_text k journal.machine (Refused reason))) named printed.bytes),
+    printed.failed,
+  )
+
+  end_waits : (result : Result X E) (r : Reached held w.held ls (view journal (Some p) count refused)) (o : Option ScriptUnit) → (course r.no_room ls).pending ≡ o → Waits o (Some p)
+      → ((u : ScriptUnit) → IsGathered u p → IsRefused u reason)
+      → refused' ≡ refused + 1 → Prints w w' result (answer_text p.number journal.machine (Refused reason))
+      → Concludes held w w' ls ls (view journal pending' count refused') result
+  end_waits result r None is waits why refusing printed = absurd waits
+  end_waits result r (Some u) is waits why refusing printed =
+      let refuses = why u waits in
+      let d : Does (by_unit u) journal journal (Refused reason) = record { no_room = refuses.no_room; told = refuses.told (lists_of journal); begun = r.begun } in
+      end_told result r u d is waits.number refusing printed
+
+  -- a unit is pending, which is refused
+  pub end_refused : (result : Result X E) (pending : Option Pending) → length ls ≤ 2 ^ 32 → pending ≡ Some p → Reached held w.held ls (view journal pending count refused)
+      → ((u : ScriptUnit) → IsGathered u p → IsRefused u reason)
+      → refused' ≡ min (refused + 1) (2 ^ 64 - 1) → Prints w w' result (answer_text p.number journal.machine (Refused reason))
+      → Concludes held w w' ls ls (view journal pending' count refused') result
+  end_refused result pending few is reached why refusing printed =
+      let r = subst (λ o. Reached held w.held ls (view journal o count refused)) is reached in
+      let within : refused ≤ length ls = omega (arith, course-refused r.no_room ls, r.refused) in
+      end_waits result r (course r.no_room ls).pending refl r.waits why (grows refused (length ls) 1 refused' within few (omega arith) refusing) printed
 
 ended-grows : (no_room : List ℕ) (c : Course) (o : Option ScriptUnit) → (rest : List ℕ) × ((ended no_room c o).text ≡ c.text ++ rest)
 ended-grows no_room c None = ([], sym (append-nil c.text))

@@ -1,33 +1,29 @@
 -- What stays true while bytes are taken.
-use Rattle.std.proofs.Common.{◌≡◌, ◌<◌, ◌≤◌, ◌+◌, ◌^◌, ℕ, Bool, true, false, List, [], ◌∷◌, ◌++◌, length, Option, Result, Ok, Err, refl, sym, arith, length-append, append-nil}
+use Rattle.std.proofs.Common.{◌≡◌, ◌<◌, ◌≤◌, ◌+◌, ◌^◌, ℕ, true, false, List, [], ◌∷◌, ◌++◌, length, Option, Result, Ok, Err, refl, sym, arith, length-append, append-nil}
 use Rattle.std.specs.Prelude.{is_err}
 use Rattle.std.specs.Io.KnownBytes.{Consumes, Keeps}
 use Rattle.std.proofs.KnownBytes.{Consumes-kept, Appends-kept}
+use Rattle.sgb_print.specs.Meter.{ReaderUse, WriterUse}
 use Rattle.sgb_print.specs.declared.fault.RunFault.{RunFault}
 use Rattle.sgb_print.specs.declared.fault.RunFault.TheVariants.{Read, Write, TooLong, NoRoom}
+use Rattle.sgb_shell.specs.Lines.{whole_lines}
+use Rattle.sgb_shell.specs.Private.Reaching.{ReaderView, Progress, Stopped, Takes}
 use Rattle.sgb_shell.specs.Private.Taking.{ReadsOn, TakesScript}
 use Rattle.sgb_shell.proofs.Reaching.{stopped-reached}
-use Rattle.sgb_shell.specs.declared.pending.Pending.{Pending}
-use Rattle.sgb_shell.specs.Private.Holding.{HeldLine}
-use Rattle.sgb_shell.specs.Private.Performing.{Kept}
-use Rattle.sgb_shell.specs.Lines.{whole_lines}
-use Rattle.sgb_shell.specs.Private.Reaching.{Progress, Stopped, Takes}
 
 -- some bytes of the script are taken, and so many more may be
-pub record Running (left left' : Option (List ℕ)) (read_failed : Bool) (reads : ℕ) (held held' : Option (List ℕ)) (write_failed : Bool)
-    (journal : Kept) (pending : Option Pending) (line : HeldLine) (count refused room : ℕ) : Type 0 where
+pub record Running {R W : Type 0} (left : Option (List ℕ)) (r : ReaderUse R) (held : Option (List ℕ)) (w : WriterUse W) (v : ReaderView) (room : ℕ) : Type 0 where
   pub script : List ℕ
-  pub taken : Consumes left left' script
+  pub taken : Consumes left r.left script
   pub rest : length script + room ≡ 16777216
-  pub seldom : reads ≤ length script
-  pub reader : read_failed ≡ false
-  pub writer : write_failed ≡ false
-  pub progress : Progress held held' script journal pending line count refused
+  pub seldom : r.reads ≤ length script
+  pub reader : r.failed ≡ false
+  pub writer : w.failed ≡ false
+  pub progress : Progress held w.held script v
 
 -- what was written stays where a reader or a writer is only asked
-pub progress_kept : (held now now' : Option (List ℕ)) (script : List ℕ) (j : Kept) (p : Option Pending) (line : HeldLine) (count refused : ℕ)
-    → Keeps now now' → Progress held now script j p line count refused → Progress held now' script j p line count refused
-progress_kept held now now' script j p line count refused same progress = record {
+pub progress_kept : (held now now' : Option (List ℕ)) (script : List ℕ) (v : ReaderView) → Keeps now now' → Progress held now script v → Progress held now' script v
+progress_kept held now now' script v same progress = record {
   reached = record {
     no_room = progress.reached.no_room;
     above = progress.reached.above;
@@ -42,43 +38,39 @@ progress_kept held now now' script j p line count refused same progress = record
 }
 
 -- a read, or the flush before it, failed
-pub failed_read : {X : Type 0} (left mid left' : Option (List ℕ)) (rf rf' : Bool) (reads reads' last : ℕ) (held now held' : Option (List ℕ)) (wf wf' : Bool)
-    (j : Kept) (p : Option Pending) (line : HeldLine) (count refused room most : ℕ) (bytes : List ℕ) (fault : RunFault)
-    → Running left mid rf reads held now wf j p line count refused room
-    → ReadsOn mid left' rf' reads reads' last now held' wf' most bytes (Err fault)
-    → TakesScript {X = X} left left' rf' reads' last held held' wf' j p line count refused (Err fault)
-failed_read left mid left' rf rf' reads reads' last held now held' wf wf' j p line count refused room most bytes Read run r = record {
+pub failed_read : {R W X : Type 0} (left : Option (List ℕ)) (r r' : ReaderUse R) (held : Option (List ℕ)) (w w' : WriterUse W) (v : ReaderView) (room most : ℕ) (bytes : List ℕ) (fault : RunFault)
+    → Running left r held w v room → ReadsOn r r' w w' most bytes (Err fault) → TakesScript {X = X} left r' held w' v (Err fault)
+failed_read left r r' held w w' v room most bytes Read run f = record {
   script = run.script;
   few = let rest = run.rest in omega arith;
-  seldom = let few = run.seldom in let more = r.2 in omega arith;
-  ends = (Consumes-kept left mid left' _ run.taken r.0, r.1, r.4, progress_kept held now held' _ _ _ _ _ _ r.3 run.progress);
+  seldom = let few = run.seldom in let more = f.2 in omega arith;
+  ends = (Consumes-kept left r.left r'.left _ run.taken f.0, f.1, f.4, progress_kept held w.held w'.held run.script v f.3 run.progress);
 }
-failed_read left mid left' rf rf' reads reads' last held now held' wf wf' j p line count refused room most bytes Write run r = record {
+failed_read left r r' held w w' v room most bytes Write run f = record {
   script = run.script;
   few = let rest = run.rest in omega arith;
-  seldom = let few = run.seldom in let same = r.2 in omega arith;
+  seldom = let few = run.seldom in let same = f.2 in omega arith;
   ends = (
-    Consumes-kept left mid left' _ run.taken r.0,
-    r.1,
-    r.4,
-    (run.script, [], sym (append-nil run.script), omega arith, stopped-reached held held' (whole_lines run.script) j p count refused (progress_kept held now held' _ _ _ _ _ _ r.3 run.progress).reached),
+    Consumes-kept left r.left r'.left _ run.taken f.0,
+    f.1,
+    f.4,
+    (run.script, [], sym (append-nil run.script), omega arith, stopped-reached held w'.held (whole_lines run.script) v.shell (progress_kept held w.held w'.held run.script v f.3 run.progress).reached),
   );
 }
-failed_read left mid left' rf rf' reads reads' last held now held' wf wf' j p line count refused room most bytes TooLong run r = absurd r
-failed_read left mid left' rf rf' reads reads' last held now held' wf wf' j p line count refused room most bytes NoRoom run r = absurd r
+failed_read left r r' held w w' v room most bytes TooLong run f = absurd f
+failed_read left r r' held w w' v room most bytes NoRoom run f = absurd f
 
 pub still_few : (script bytes : List ℕ) (room n : ℕ) → length script + room ≡ 16777216 → length bytes ≡ n → n ≤ room → length (script ++ bytes) < 2 ^ 32
 still_few script bytes room n rest size within = omega (arith, length-append script bytes)
 
-pub takes_ok : {X E : Type 0} (held now : Option (List ℕ)) (wf wf' : Bool) (before script : List ℕ) (j : Kept) (p : Option Pending) (line : HeldLine) (count refused : ℕ) (r : Result X E)
-    → is_err r ≡ false → Takes held now wf wf' before script j p line count refused r → Progress held now script j p line count refused × (wf' ≡ wf)
-takes_ok held now wf wf' before script j p line count refused (Ok x) e t = t
-takes_ok held now wf wf' before script j p line count refused (Err x) e t = cc
+module _ {W X E : Type 0} (held : Option (List ℕ)) (w w' : WriterUse W) (before script : List ℕ) (v : ReaderView) where
+  pub takes_ok : (r : Result X E) → is_err r ≡ false → Takes held w w' before script v r → Progress held w'.held script v × (w'.failed ≡ w.failed)
+  takes_ok (Ok x) e t = t
+  takes_ok (Err x) e t = cc
 
-pub takes_err : {X E : Type 0} (held now : Option (List ℕ)) (wf wf' : Bool) (before script : List ℕ) (j : Kept) (p : Option Pending) (line : HeldLine) (count refused : ℕ) (r : Result X E)
-    → is_err r ≡ true → Takes held now wf wf' before script j p line count refused r → Stopped held now (whole_lines before) (whole_lines script) × (wf' ≡ true)
-takes_err held now wf wf' before script j p line count refused (Ok x) e t = cc
-takes_err held now wf wf' before script j p line count refused (Err x) e t = t
+  pub takes_err : (r : Result X E) → is_err r ≡ true → Takes held w w' before script v r → Stopped held w'.held (whole_lines before) (whole_lines script) × (w'.failed ≡ true)
+  takes_err (Ok x) e t = cc
+  takes_err (Err x) e t = t
 
 pub one_byte : (bytes : List ℕ) → length bytes ≡ 1 → (more : ℕ) × (bytes ≡ more ∷ [])
 one_byte [] e = absurd (omega arith)

@@ -8,28 +8,28 @@ use Rattle.sgb_script.specs.declared.refusal.ShellRefusal.{ShellRefusal}
 use Rattle.sgb_script.specs.Refusal.{number_of, text_of}
 use Rattle.sgb_shell.specs.declared.answer.Answer.{Answer}
 use Rattle.sgb_shell.specs.declared.answer.Answer.TheVariants as answers
-use Rattle.sgb_groups.specs.declared.grouped.GroupedReply.{GroupedReply}
-use Rattle.sgb_groups.specs.declared.grouped.GroupedReply.TheVariants as replies
 use Rattle.sgb_session.specs.declared.reply.Reply.{Reply}
-use Rattle.sgb_session.specs.declared.reply.Reply.TheVariants.{Done, Number, Made, Arc, Edge}
+use Rattle.sgb_session.specs.declared.reply.Reply.TheVariants as replies
+use Rattle.sgb_session.specs.declared.reply.SingleReply.{SingleReply}
+use Rattle.sgb_session.specs.declared.reply.SingleReply.TheVariants.{Done, Number, Made, Arc, Edge}
 use Rattle.sgb_session.specs.declared.table.Entry.{Entry}
 use Rattle.sgb_session.specs.Drawing.{generator_of}
 use Rattle.sgb_session.specs.State.{State}
 
-abbrev pub reply_text : Reply → List ℕ
-reply_text Done = codes "ok\n"
-reply_text (Number n) = decimal n ++ codes "\n"
-reply_text (Made name n m) = made_text name n m
-reply_text (Arc k) = codes "A" ++ decimal k.0 ++ codes "\n"
-reply_text (Edge j k) = codes "A" ++ decimal j.0 ++ codes " A" ++ decimal k.0 ++ codes "\n"
+abbrev pub single_text : SingleReply → List ℕ
+single_text Done = codes "ok\n"
+single_text (Number n) = decimal n ++ codes "\n"
+single_text (Made name n m) = made_text name n m
+single_text (Arc k) = codes "A" ++ decimal k.0 ++ codes "\n"
+single_text (Edge j k) = codes "A" ++ decimal j.0 ++ codes " A" ++ decimal k.0 ++ codes "\n"
 
 abbrev pub grouped_count_text : ℕ → List ℕ
 grouped_count_text n = codes "grouped " ++ decimal n ++ codes "\n"
 
 -- the replies of a group's members, and how many they are
-abbrev pub grouped_text : GroupedReply → List ℕ
-grouped_text (replies.One reply) = reply_text reply
-grouped_text (replies.Group members) = flat_map reply_text members ++ grouped_count_text (length members)
+abbrev pub reply_text : Reply → List ℕ
+reply_text (replies.One reply) = single_text reply
+reply_text (replies.Group members) = flat_map single_text members ++ grouped_count_text (length members)
 
 abbrev pub generator_text : State → List ℕ
 generator_text s =
@@ -61,7 +61,7 @@ refusal_text n r = codes "line " ++ decimal n ++ codes ": refused " ++ decimal (
 abbrev pub answer_text : ℕ → State → Answer → List ℕ
 answer_text n s answers.Silent = []
 answer_text n s answers.Undone = codes "undone\n"
-answer_text n s (answers.Replied reply) = grouped_text reply
+answer_text n s (answers.Replied reply) = reply_text reply
 answer_text n s answers.Generator = generator_text s
 answer_text n s answers.Graphs = list_text s
 answer_text n s (answers.Graph i) = shown_text s i

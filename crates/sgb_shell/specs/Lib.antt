@@ -4,5 +4,6 @@ pub mod Run
 pub mod Status
 pub mod Unit
 pub mod Group
+pub mod Units
 pub mod Transcript
 pub mod Private

@@ -5,37 +5,39 @@ use Rattle.sgb_graph.specs.Graph.{GraphOf}
 use Rattle.sgb_undo.specs.Outcome.{Accepted, Refused}
 use Rattle.sgb_undo.specs.Replay.{fold}
 use Rattle.sgb_undo.specs.History.{grows_at}
-use Rattle.sgb_script.specs.declared.command.Command.{Command}
-use Rattle.sgb_script.specs.declared.command.Command.TheVariants.{Make}
+use Rattle.sgb_script.specs.declared.command.Single.{Single}
+use Rattle.sgb_script.specs.declared.command.Single.TheVariants.{Make}
 use Rattle.sgb_script.specs.declared.command.Maker.TheVariants as makers
 use Rattle.sgb_script.specs.declared.command.Query.{Query}
 use Rattle.sgb_script.specs.declared.command.Query.TheVariants as queries
 use Rattle.sgb_script.specs.declared.command.Line.{Line}
-use Rattle.sgb_script.specs.declared.command.Line.TheVariants.{Nothing, Change, Undo, Redo, Ask, Load, Group, End}
+use Rattle.sgb_script.specs.declared.command.Line.TheVariants.{Nothing, Change, Undo, Redo, Load, Group, End}
+use Rattle.sgb_script.specs.declared.command.Line.TheVariants as asks
 use Rattle.sgb_shell.specs.declared.answer.Answer.{Answer}
 use Rattle.sgb_shell.specs.declared.answer.Answer.TheVariants as answers
 use Rattle.sgb_script.specs.declared.refusal.ShellRefusal.TheVariants.{NoRoom, NoGraph, ScriptSyntax, NothingToUndo, NothingToRedo, JournalFull}
 use Rattle.sgb_shell.specs.Answer.{answer_text}
 use Rattle.sgb_script.specs.Line.{line_of, has_text}
-use Rattle.sgb_shell.specs.Group.{closes, commands_in}
+use Rattle.sgb_shell.specs.Group.{commands_in}
 use Rattle.sgb_shell.specs.Lines.{all_but_last, whole_lines, lines}
-use Rattle.sgb_shell.specs.Unit.{ScriptUnit, alone, opened, with_line, closed_by, takes_text, takes_members, takes_lines, is_whole, text_in}
+use Rattle.sgb_shell.specs.Units.{units, all_units}
+use Rattle.sgb_shell.specs.Unit.{ScriptUnit, takes_text, takes_members, is_whole, text_in}
 use Rattle.sgb_text.specs.declared.saving.Saved.{Saved}
 use Rattle.sgb_text.specs.Clean.{clean_of, dirt_of}
 use Rattle.sgb_text.specs.Save.{text_of}
-use Rattle.sgb_groups.specs.declared.grouped.GroupedCommand.{GroupedCommand}
-use Rattle.sgb_groups.specs.declared.grouped.GroupedCommand.TheVariants as commands
-use Rattle.sgb_groups.specs.Grouped.{GroupedOutcome, step, may_want}
+use Rattle.sgb_script.specs.declared.command.Command.{Command}
+use Rattle.sgb_script.specs.declared.command.Command.TheVariants as commands
+use Rattle.sgb_session.specs.Command.{CommandOutcome, step, may_want}
 use Rattle.sgb_session.specs.State.{State, empty}
 use Rattle.sgb_session.specs.Table.{find, graph_in}
 
 -- the commands that stand, and those that are undone, the next to redo first
 pub record Lists : Type 0 where
-  pub standing : List GroupedCommand
-  pub undone : List GroupedCommand
+  pub standing : List Command
+  pub undone : List Command
 
 -- the state that commands give, one after another, from the empty session
-abbrev pub state_of : List GroupedCommand → State
+abbrev pub state_of : List Command → State
 state_of cs = unwrap_or (fold step empty cs) empty
 
 -- the lists after a unit, and what it is answered
@@ -43,15 +45,15 @@ abbrev pub Told : Type 0
 Told = Lists × Answer
 
 -- an accepted command leaves other lists; a refused one leaves all as it was
-abbrev pub answered : Lists → Lists → GroupedOutcome → Told
+abbrev pub answered : Lists → Lists → CommandOutcome → Told
 answered l accepted (Accepted s delta reply) = (accepted, answers.Replied reply)
 answered l accepted (Refused r) = (l, answers.Refused r)
 
 -- a command stands last, and nothing is undone any more
-abbrev pub with_command : Lists → GroupedCommand → Lists
+abbrev pub with_command : Lists → Command → Lists
 with_command l c = record { standing = l.standing ++ c ∷ []; undone = [] }
 
-abbrev pub are_none : List GroupedCommand → Bool
+abbrev pub are_none : List Command → Bool
 are_none [] = true
 are_none (c ∷ cs) = false
 
@@ -60,31 +62,31 @@ abbrev pub grows : Lists → Bool
 grows l = are_none l.undone && grows_at (length l.standing)
 
 -- a command by itself has its text read first; those of a group are read with its lines
-abbrev pub has_its_text : GroupedCommand → Bool
+abbrev pub has_its_text : Command → Bool
 has_its_text (commands.One c) = has_text (Change c)
 has_its_text (commands.Group cs) = false
 
 -- A command, or a group. Its text takes memory before the journal is asked; the journal may grow for it, and then its
 -- step may want for memory.
-abbrev pub changing : Bool → Lists → GroupedCommand → Told
+abbrev pub changing : Bool → Lists → Command → Told
 changing no_room l c =
     if no_room && has_its_text c then (l, answers.Refused NoRoom)
     else (if length l.standing == 65535 then (l, answers.Refused JournalFull)
     else (if no_room && (grows l || may_want (state_of l.standing) c) then (l, answers.Refused NoRoom)
     else answered l (with_command l c) (step (state_of l.standing) c)))
 
-abbrev pub last_command : List GroupedCommand → Option GroupedCommand
+abbrev pub last_command : List Command → Option Command
 last_command [] = None
 last_command (c ∷ []) = Some c
 last_command (c ∷ d ∷ ds) = last_command (d ∷ ds)
 
 -- the last standing command becomes the first undone one
-abbrev pub undoing : Lists → Option GroupedCommand → Told
+abbrev pub undoing : Lists → Option Command → Told
 undoing l None = (l, answers.Refused NothingToUndo)
 undoing l (Some c) = (record { standing = all_but_last l.standing; undone = c ∷ l.undone }, answers.Undone)
 
 -- the first undone command stands last
-abbrev pub redoing : Bool → List GroupedCommand → List GroupedCommand → Told
+abbrev pub redoing : Bool → List Command → List Command → Told
 redoing no_room standing [] = (record { standing = standing; undone = [] }, answers.Refused NothingToRedo)
 redoing no_room standing (c ∷ cs) =
     let l : Lists = record { standing = standing; undone = c ∷ cs } in
@@ -118,7 +120,7 @@ line_told no_room l (Some Nothing) = (l, answers.Silent)
 line_told no_room l (Some (Change c)) = changing no_room l (commands.One c)
 line_told no_room l (Some Undo) = undoing l (last_command l.standing)
 line_told no_room l (Some Redo) = redoing no_room l.standing l.undone
-line_told no_room l (Some (Ask q)) = (l, asked_of no_room (state_of l.standing) q)
+line_told no_room l (Some (asks.Query q)) = (l, asked_of no_room (state_of l.standing) q)
 line_told no_room l (Some (Load name rule)) = (l, answers.Refused ScriptSyntax)
 line_told no_room l (Some Group) = (l, answers.Refused ScriptSyntax)
 line_told no_room l (Some End) = (l, answers.Refused ScriptSyntax)
@@ -133,7 +135,7 @@ load_told no_room l (Some (Load name rule)) u =
 load_told no_room l line u = (l, answers.Refused ScriptSyntax)
 
 -- the commands of a group are performed as one, where there are no faults
-abbrev pub grouping : Bool → Lists → Option (List Command) → Told
+abbrev pub grouping : Bool → Lists → Option (List Single) → Told
 grouping no_room l None = (l, answers.Refused ScriptSyntax)
 grouping no_room l (Some cs) = changing no_room l (commands.Group cs)
 
@@ -152,55 +154,36 @@ abbrev pub refusals : Answer → ℕ
 refusals (answers.Refused r) = 1
 refusals answer = 0
 
--- how far a script has come: its lines, the unit that goes on, the lists, the refusals, and the text so far
-pub record Course : Type 0 where
-  pub lines : ℕ
-  pub pending : Option ScriptUnit
+-- what units come to: the lists, the refusals, and the text
+pub record Report : Type 0 where
   pub lists : Lists
   pub refused : ℕ
   pub text : List ℕ
 
-abbrev pub start : Course
-start = record { lines = 0; pending = None; lists = record { standing = []; undone = [] }; refused = 0; text = [] }
+abbrev pub nothing : Report
+nothing = record { lists = record { standing = []; undone = [] }; refused = 0; text = [] }
 
-abbrev pub goes_on : Course → ℕ → Told → Course
-goes_on c number told = record {
-  lines = c.lines;
-  pending = None;
+-- the unit of a number was told so
+abbrev pub with_told : Report → ℕ → Told → Report
+with_told r number told = record {
   lists = told.0;
-  refused = c.refused + refusals told.1;
-  text = c.text ++ answer_text number (state_of told.0.standing) told.1;
+  refused = r.refused + refusals told.1;
+  text = r.text ++ answer_text number (state_of told.0.standing) told.1;
 }
 
--- a unit is answered; `no_room` lists the numbers of the units that want for memory
-abbrev pub answered_unit : List ℕ → Course → ScriptUnit → Course
-answered_unit no_room c u = goes_on c u.number (unit_told (list_any (λ n. n == u.number) no_room) c.lists u)
+-- one unit more; `no_room` lists the numbers of the units that lack memory
+abbrev pub with_unit : List ℕ → Report → ScriptUnit → Report
+with_unit no_room r u = with_told r u.number (unit_told (list_any (λ n. n == u.number) no_room) r.lists u)
 
--- the line of the course's last number, behind a unit that goes on, or behind none
-abbrev pub taken : List ℕ → Course → Option ScriptUnit → List ℕ → Course
-taken no_room c None line =
-    if takes_lines line then record c { pending = Some (opened c.lines line) } else answered_unit no_room c (alone c.lines line)
-taken no_room c (Some u) line =
-    if closes u line then answered_unit no_room c (closed_by u line) else record c { pending = Some (with_line u line) }
+abbrev pub report : List ℕ → List ScriptUnit → Report
+report no_room us = fold_list (with_unit no_room) nothing us
 
--- one line more
-abbrev pub advance : List ℕ → Course → List ℕ → Course
-advance no_room c line = taken no_room (record c { lines = c.lines + 1 }) c.pending line
-
-unfoldable pub course : List ℕ → List (List ℕ) → Course
-course no_room ls = fold_list (advance no_room) start ls
-
--- at the end of the script a unit that goes on is answered too
-abbrev pub ended : List ℕ → Course → Option ScriptUnit → Course
-ended no_room c None = c
-ended no_room c (Some u) = answered_unit no_room c u
-
-unfoldable pub whole_course : List ℕ → List (List ℕ) → Course
-whole_course no_room ls = ended no_room (course no_room ls) (course no_room ls).pending
+abbrev pub script_report : List ℕ → List ℕ → Report
+script_report no_room script = report no_room (all_units (lines script))
 
 abbrev pub transcript : List ℕ → List ℕ → List ℕ
-transcript no_room script = (whole_course no_room (lines script)).text
+transcript no_room script = (script_report no_room script).text
 
 -- the transcript of the units that the lines end which a newline ends
 abbrev pub whole_transcript : List ℕ → List ℕ → List ℕ
-whole_transcript no_room script = (course no_room (whole_lines script)).text
+whole_transcript no_room script = (report no_room (units (whole_lines script))).text

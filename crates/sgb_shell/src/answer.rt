@@ -1,19 +1,16 @@
 //! What a unit of a script is answered, and how that is printed.
 ghost use Rattle.sgb_print.specs.Print.{Prints};
-ghost use Rattle.std.specs.Prelude.{◌≡◌, ◌+◌, ◌-◌, ◌<◌, ◌^◌, ◌++◌, codes, length, min};
+ghost use Rattle.std.specs.Prelude.{◌<◌, ◌++◌, codes, length};
 ghost use Rattle.std.specs.Fmt.{decimal};
 ghost use Rattle.std.specs.List.{flat_map};
-ghost use Rattle.sgb_shell.specs.Answer.{answer_text, reply_text, grouped_text, grouped_count_text, generator_text, refusal_text, count_text, list_text, entry_text, shown_text};
-ghost use Rattle.sgb_session.specs.Brief.{reply_in};
+ghost use Rattle.sgb_shell.specs.Answer.{answer_text, single_text, grouped_count_text, generator_text, refusal_text, count_text, list_text, entry_text, shown_text};
 ghost use Rattle.sgb_session.specs.Table.{entry_in};
-ghost use Rattle.sgb_shell.specs.Transcript.{refusals};
 
 use itoa::Buffer;
 use sgb_graph::ArcNo;
-use sgb_groups::GroupedReply;
-use sgb_print::{Failed, MeteredWriter, PAGE_LIMIT, Page, print_graph, print_made, put, put_all};
+use sgb_print::{Failed, MeteredWriter, Page, print_graph, print_made, put, put_all};
 use sgb_script::ShellRefusal;
-use sgb_session::{BriefReply, Reply, Session};
+use sgb_session::{Reply, Session, SingleReply};
 use sgb_text::Saved;
 use std::io::Write;
 
@@ -25,7 +22,7 @@ pub(crate) enum Answer {
     /// The last command was taken back.
     Undone,
     /// A command was accepted.
-    Replied(GroupedReply),
+    Replied(Reply),
     /// The generator was asked for.
     Generator,
     /// The graphs were asked for.
@@ -38,48 +35,20 @@ pub(crate) enum Answer {
     Refused(ShellRefusal),
 }
 
-/// Counts the answer to the unit of a number where it is a refusal, and prints it.
-pub(crate) fn tell<W: Write>(
-    writer: &mut MeteredWriter<W>,
-    refused: &mut u64,
-    number: u64,
-    session: &Session,
-    answer: &Answer,
-) -> Result<(), Failed>
-    ensures refused { refused.new ≡ min (refused.old + refusals answer.now) (2 ^ 64 - 1) }
-    ensures prints { Prints (W.contents writer.old.inner) (W.contents writer.new.inner) writer.old.failed writer.new.failed
-        result (answer_text number session.now answer.now) }
-{
-    *refused = refused.saturating_add(refusal_count(answer));
-    print_answer(writer, number, session, answer)
-}
-
-// A refused unit counts once.
-fn refusal_count(answer: &Answer) -> u64
-    ensures { result ≡ refusals answer.now }
-{
-    match answer {
-        Answer::Refused(_) => 1,
-        _ => 0,
-    }
-}
-
-// Prints the answer to the unit of a number, at the session after it.
-// Each answer has a call of its own, so that a reply is printed without the room for the others.
-#[inline]
-fn print_answer<W: Write>(
+/// Prints the answer to the unit of a number, at the session after it.
+pub(crate) fn print_answer<W: Write>(
     writer: &mut MeteredWriter<W>,
     number: u64,
     session: &Session,
     answer: &Answer,
 ) -> Result<(), Failed>
-    ensures { Prints (W.contents writer.old.inner) (W.contents writer.new.inner) writer.old.failed writer.new.failed
-        result (answer_text number session.now answer.now) }
+    ensures { Prints writer.old writer.new result (answer_text number session.now answer.now) }
 {
     match answer {
         Answer::Silent => Ok(()),
-        Answer::Undone => print_undone(writer),
-        Answer::Replied(reply) => print_grouped(writer, reply),
+        Answer::Undone => put(writer, b"undone\n"),
+        Answer::Replied(Reply::One(reply)) => print_single(writer, reply),
+        Answer::Replied(Reply::Group(members)) => print_group(writer, members.as_slice()),
         Answer::Generator => print_generator(writer, session),
         Answer::Graphs => print_list(writer, session),
         Answer::Graph(place) => print_graph_at(writer, session, *place),
@@ -88,95 +57,52 @@ fn print_answer<W: Write>(
     }
 }
 
-#[inline]
-pub(crate) fn print_undone<W: Write>(writer: &mut MeteredWriter<W>) -> Result<(), Failed>
-    ensures { Prints (W.contents writer.old.inner) (W.contents writer.new.inner) writer.old.failed writer.new.failed
-        result (codes "undone\n") }
-{
-    put(writer, b"undone\n")
-}
-
-/// Prints the reply to a command, or those to a group's members.
-#[inline(always)]
-pub(crate) fn print_grouped<W: Write>(
-    writer: &mut MeteredWriter<W>,
-    reply: &GroupedReply,
-) -> Result<(), Failed>
-    ensures { Prints (W.contents writer.old.inner) (W.contents writer.new.inner) writer.old.failed writer.new.failed
-        result (grouped_text reply.now) }
+fn print_single<W: Write>(writer: &mut MeteredWriter<W>, reply: &SingleReply) -> Result<(), Failed>
+    ensures { Prints writer.old writer.new result (single_text reply.now) }
 {
     match reply {
-        GroupedReply::One(reply) => print_reply(writer, reply),
-        GroupedReply::Group(members) => print_group(writer, members.as_slice()),
+        SingleReply::Done => put(writer, b"ok\n"),
+        SingleReply::Number(number) => print_number(writer, *number),
+        SingleReply::Made(name, vertices, arcs) => print_made(
+            writer,
+            name.bytes(),
+            *vertices,
+            *arcs,
+        ),
+        SingleReply::Arc(number) => print_arc(writer, *number),
+        SingleReply::Edge(first, second) => print_edge(writer, *first, *second),
     }
 }
 
-/// Prints the reply to a command that takes little room.
-#[inline]
-pub(crate) fn print_brief<W: Write>(
-    writer: &mut MeteredWriter<W>,
-    reply: &BriefReply,
-) -> Result<(), Failed>
-    ensures { Prints (W.contents writer.old.inner) (W.contents writer.new.inner) writer.old.failed writer.new.failed
-        result (reply_text (reply_in reply.now)) }
-{
-    match reply {
-        BriefReply::Done => put(writer, b"ok\n"),
-        BriefReply::Number(number) => print_number(writer, *number),
-        BriefReply::Arc(number) => print_arc(writer, *number),
-        BriefReply::Edge(first) => print_edge(writer, *first, u64::from(first.0) + 1),
-    }
-}
-
-#[inline]
-fn print_reply<W: Write>(writer: &mut MeteredWriter<W>, reply: &Reply) -> Result<(), Failed>
-    ensures { Prints (W.contents writer.old.inner) (W.contents writer.new.inner) writer.old.failed writer.new.failed
-        result (reply_text reply.now) }
-{
-    match reply {
-        Reply::Done => put(writer, b"ok\n"),
-        Reply::Number(number) => print_number(writer, *number),
-        Reply::Made(name, vertices, arcs) => print_made(writer, name.bytes(), *vertices, *arcs),
-        Reply::Arc(number) => print_arc(writer, *number),
-        Reply::Edge(first, second) => print_edge(writer, *first, u64::from(second.0)),
-    }
-}
-
-#[inline]
 fn print_number<W: Write>(writer: &mut MeteredWriter<W>, number: u32) -> Result<(), Failed>
-    ensures { Prints (W.contents writer.old.inner) (W.contents writer.new.inner) writer.old.failed writer.new.failed
-        result (decimal number ++ codes "\n") }
+    ensures { Prints writer.old writer.new result (decimal number ++ codes "\n") }
 {
-    let mut page = Page::<PAGE_LIMIT>::new();
+    let mut page = Page::new();
     page.prepend(b"\n");
     page.prepend_number(number as u64);
     page.print(writer)
 }
 
-#[inline]
 fn print_arc<W: Write>(writer: &mut MeteredWriter<W>, number: ArcNo) -> Result<(), Failed>
-    ensures { Prints (W.contents writer.old.inner) (W.contents writer.new.inner) writer.old.failed writer.new.failed
-        result (codes "A" ++ decimal number.0 ++ codes "\n") }
+    ensures { Prints writer.old writer.new result (codes "A" ++ decimal number.0 ++ codes "\n") }
 {
-    let mut page = Page::<PAGE_LIMIT>::new();
+    let mut page = Page::new();
     page.prepend(b"\n");
     page.prepend_number(number.0 as u64);
     page.prepend(b"A");
     page.print(writer)
 }
 
-#[inline]
 fn print_edge<W: Write>(
     writer: &mut MeteredWriter<W>,
     first: ArcNo,
-    second: u64,
+    second: ArcNo,
 ) -> Result<(), Failed>
-    ensures { Prints (W.contents writer.old.inner) (W.contents writer.new.inner) writer.old.failed writer.new.failed
-        result (codes "A" ++ decimal first.0 ++ codes " A" ++ decimal second ++ codes "\n") }
+    ensures { Prints writer.old writer.new result (codes "A" ++ decimal first.0 ++ codes " A" ++ decimal second.0 ++ codes "\n") }
 {
-    let mut page = Page::<PAGE_LIMIT>::new();
+    let mut page = Page::new();
     page.prepend(b"\n");
-    page.prepend_number(second);
+    page.prepend_number(second.0 as u64);
     page.prepend(b" A");
     page.prepend_number(first.0 as u64);
     page.prepend(b"A");
@@ -184,28 +110,30 @@ fn print_edge<W: Write>(
 }
 
 // The replies of a group's members, and how many they are.
-#[inline(never)]
-fn print_group<W: Write>(writer: &mut MeteredWriter<W>, members: &[Reply]) -> Result<(), Failed>
-    ensures { Prints (W.contents writer.old.inner) (W.contents writer.new.inner) writer.old.failed writer.new.failed
-        result (flat_map reply_text members.now ++ grouped_count_text (length members.now)) }
+fn print_group<W: Write>(
+    writer: &mut MeteredWriter<W>,
+    members: &[SingleReply],
+) -> Result<(), Failed>
+    ensures { Prints writer.old writer.new result (flat_map single_text members.now ++ grouped_count_text (length members.now)) }
 {
     print_replies(writer, members)?;
     print_grouped_count(writer, members.len())
 }
 
-fn print_replies<W: Write>(writer: &mut MeteredWriter<W>, members: &[Reply]) -> Result<(), Failed>
-    ensures { Prints (W.contents writer.old.inner) (W.contents writer.new.inner) writer.old.failed writer.new.failed
-        result (flat_map reply_text members.now) }
+fn print_replies<W: Write>(
+    writer: &mut MeteredWriter<W>,
+    members: &[SingleReply],
+) -> Result<(), Failed>
+    ensures { Prints writer.old writer.new result (flat_map single_text members.now) }
 {
     for reply in members {
-        print_reply(writer, reply)?;
+        print_single(writer, reply)?;
     }
     Ok(())
 }
 
 fn print_grouped_count<W: Write>(writer: &mut MeteredWriter<W>, count: usize) -> Result<(), Failed>
-    ensures { Prints (W.contents writer.old.inner) (W.contents writer.new.inner) writer.old.failed writer.new.failed
-        result (grouped_count_text count) }
+    ensures { Prints writer.old writer.new result (grouped_count_text count) }
 {
     let mut digits = Buffer::new();
     put_all(
@@ -214,16 +142,11 @@ fn print_grouped_count<W: Write>(writer: &mut MeteredWriter<W>, count: usize) ->
     )
 }
 
-#[inline(never)]
-pub(crate) fn print_generator<W: Write>(
-    writer: &mut MeteredWriter<W>,
-    session: &Session,
-) -> Result<(), Failed>
-    ensures { Prints (W.contents writer.old.inner) (W.contents writer.new.inner) writer.old.failed writer.new.failed
-        result (generator_text session.now) }
+fn print_generator<W: Write>(writer: &mut MeteredWriter<W>, session: &Session) -> Result<(), Failed>
+    ensures { Prints writer.old writer.new result (generator_text session.now) }
 {
     let (seed, draws, unread) = session.generator();
-    let mut page = Page::<PAGE_LIMIT>::new();
+    let mut page = Page::new();
     page.prepend(b"\n");
     page.prepend_number(unread as u64);
     page.prepend(b", unread ");
@@ -234,10 +157,8 @@ pub(crate) fn print_generator<W: Write>(
     page.print(writer)
 }
 
-#[inline(never)]
 fn print_saved<W: Write>(writer: &mut MeteredWriter<W>, saved: &Saved) -> Result<(), Failed>
-    ensures { Prints (W.contents writer.old.inner) (W.contents writer.new.inner) writer.old.failed writer.new.failed
-        result (saved.now.text ++ codes "cleaned " ++ decimal saved.now.cleaned ++ codes "\n") }
+    ensures { Prints writer.old writer.new result (saved.now.text ++ codes "cleaned " ++ decimal saved.now.cleaned ++ codes "\n") }
 {
     let mut digits = Buffer::new();
     put_all(
@@ -251,14 +172,12 @@ fn print_saved<W: Write>(writer: &mut MeteredWriter<W>, saved: &Saved) -> Result
     )
 }
 
-#[inline(never)]
-pub(crate) fn print_refusal<W: Write>(
+fn print_refusal<W: Write>(
     writer: &mut MeteredWriter<W>,
     number: u64,
     refusal: ShellRefusal,
 ) -> Result<(), Failed>
-    ensures { Prints (W.contents writer.old.inner) (W.contents writer.new.inner) writer.old.failed writer.new.failed
-        result (refusal_text number refusal) }
+    ensures { Prints writer.old writer.new result (refusal_text number refusal) }
 {
     let mut line_digits = Buffer::new();
     let mut digits = Buffer::new();
@@ -277,26 +196,22 @@ pub(crate) fn print_refusal<W: Write>(
 }
 
 // The number of graphs, and each graph as it was made.
-#[inline(never)]
 fn print_list<W: Write>(writer: &mut MeteredWriter<W>, session: &Session) -> Result<(), Failed>
-    ensures { Prints (W.contents writer.old.inner) (W.contents writer.new.inner) writer.old.failed writer.new.failed
-        result (list_text session.now) }
+    ensures { Prints writer.old writer.new result (list_text session.now) }
 {
     print_count(writer, session.len())?;
     print_entries(writer, session)
 }
 
 fn print_count<W: Write>(writer: &mut MeteredWriter<W>, count: usize) -> Result<(), Failed>
-    ensures { Prints (W.contents writer.old.inner) (W.contents writer.new.inner) writer.old.failed writer.new.failed
-        result (count_text count) }
+    ensures { Prints writer.old writer.new result (count_text count) }
 {
     let mut digits = Buffer::new();
     put_all(writer, &[digits.format(count).as_bytes(), b" graphs\n"])
 }
 
 fn print_entries<W: Write>(writer: &mut MeteredWriter<W>, session: &Session) -> Result<(), Failed>
-    ensures { Prints (W.contents writer.old.inner) (W.contents writer.new.inner) writer.old.failed writer.new.failed
-        result (flat_map entry_text session.now.table) }
+    ensures { Prints writer.old writer.new result (flat_map entry_text session.now.table) }
 {
     for place in 0..session.len() {
         print_entry(writer, session, place)?;
@@ -310,22 +225,19 @@ fn print_entry<W: Write>(
     place: usize,
 ) -> Result<(), Failed>
     requires { place < length session.now.table }
-    ensures { Prints (W.contents writer.old.inner) (W.contents writer.new.inner) writer.old.failed writer.new.failed
-        result (entry_text (entry_in session.now.table place)) }
+    ensures { Prints writer.old writer.new result (entry_text (entry_in session.now.table place)) }
 {
     let graph = session.graph_at(place);
     print_made(writer, session.name_at(place).bytes(), graph.n(), graph.m())
 }
 
 // A place that the table has not prints nothing; no answer names one.
-#[inline(never)]
 fn print_graph_at<W: Write>(
     writer: &mut MeteredWriter<W>,
     session: &Session,
     place: usize,
 ) -> Result<(), Failed>
-    ensures { Prints (W.contents writer.old.inner) (W.contents writer.new.inner) writer.old.failed writer.new.failed
-        result (shown_text session.now place) }
+    ensures { Prints writer.old writer.new result (shown_text session.now place) }
 {
     if place < session.len() {
         print_graph(writer, session.graph_at(place))

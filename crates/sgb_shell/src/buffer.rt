@@ -1,17 +1,20 @@
-//! The line that is not finished.
-ghost use Rattle.std.specs.Prelude.{◌≡◌, ◌++◌, ◌∷◌, ◌==◌, [], true, false, List, ℕ, length, IfOk, MatchOption};
-ghost use Rattle.sgb_shell.specs.Unit.{takes_text, takes_members, is_dot, is_end};
-ghost use Rattle.sgb_shell.specs.Private.Holding.{held_line, is_above};
+//! The line that a read cut.
+ghost use Rattle.std.specs.Prelude.{◌≡◌, ◌++◌, ◌∷◌, ◌==◌, [], true, false, List, ℕ, length, IfOk};
+ghost use Rattle.sgb_shell.specs.Private.Holding.{held_line};
+ghost use Rattle.sgb_shell.specs.Private.Line.{IsLine};
 
 use crate::first::FirstBytes;
+use crate::line::ScriptLine;
 use sgb_script::LINE_LIMIT;
 use std::alloc::{AllocError, Global};
 use std::marker::Model;
 
-/// What is kept of a line while its bytes come.
+/// The front of a line whose end is not read yet.
+///
+/// It keeps at most 8,192 bytes, and of a longer line how it begins.
 #[derive(Drop)]
 pub(crate) struct LineBuffer {
-    // The first 8,192 bytes. There is always room for so many.
+    // The first 8,192 bytes. The capacity is at least that.
     bytes: Vec<u8>,
     // Whether the line has more bytes than are kept.
     is_long: bool,
@@ -30,7 +33,7 @@ impl Model for LineBuffer {
 }
 
 impl LineBuffer {
-    /// No bytes. Room for a whole line is taken at once.
+    /// No bytes. Allocates for a line of 8,192 bytes.
     pub(crate) fn new(alloc: Global) -> Result<LineBuffer, AllocError>
         ensures { IfOk result (λ l. l ≡ held_line []) }
     {
@@ -41,8 +44,16 @@ impl LineBuffer {
         })
     }
 
-    /// The line has one byte more.
-    pub(crate) fn push(&mut self, byte: u8)
+    /// Adds bytes to the line.
+    pub(crate) fn extend(&mut self, bytes: &[u8])
+        ensures { (line : List ℕ) → self.old ≡ held_line line → self.new ≡ held_line (line ++ bytes.now) }
+    {
+        for byte in bytes {
+            self.push(*byte);
+        }
+    }
+
+    fn push(&mut self, byte: u8)
         ensures { (line : List ℕ) → self.old ≡ held_line line → self.new ≡ held_line (line ++ byte ∷ []) }
     {
         self.first.push(byte);
@@ -53,7 +64,7 @@ impl LineBuffer {
         }
     }
 
-    /// The next line begins.
+    /// Begins the next line.
     pub(crate) fn clear(&mut self)
         ensures { self.new ≡ held_line [] }
     {
@@ -69,41 +80,13 @@ impl LineBuffer {
         self.bytes.is_empty()
     }
 
-    /// Whether the line takes a text.
-    pub(crate) fn takes_text(&self) -> bool
-        ensures { (line : List ℕ) → self.now ≡ held_line line → result ≡ takes_text line }
-    {
-        self.first.takes_text()
-    }
-
-    /// Whether the line begins a group.
-    pub(crate) fn takes_members(&self) -> bool
-        ensures { (line : List ℕ) → self.now ≡ held_line line → result ≡ takes_members line }
-    {
-        self.first.takes_members()
-    }
-
-    /// Whether the line ends a group.
-    pub(crate) fn is_end(&self) -> bool
-        ensures { (line : List ℕ) → self.now ≡ held_line line → result ≡ is_end line }
-    {
-        self.first.is_end()
-    }
-
-    /// Whether the line ends a text.
-    pub(crate) fn is_dot(&self) -> bool
-        ensures { (line : List ℕ) → self.now ≡ held_line line → result ≡ is_dot line }
-    {
-        self.bytes.as_slice() == b".".as_slice()
-    }
-
-    /// The line, where it has at most 8,192 bytes.
-    pub(crate) fn whole(&self) -> Option<&[u8]>
-        ensures { (line : List ℕ) → self.now ≡ held_line line → MatchOption result (is_above line ≡ true) (λ bytes. (is_above line ≡ false) × (bytes.now ≡ line)) }
+    /// The line.
+    pub(crate) fn line(&self) -> ScriptLine<'_>
+        ensures { (line : List ℕ) → self.now ≡ held_line line → IsLine line result }
     {
         if self.is_long {
-            return None;
+            return ScriptLine::Long(&self.first);
         }
-        Some(self.bytes.as_slice())
+        ScriptLine::Whole(self.bytes.as_slice())
     }
 }

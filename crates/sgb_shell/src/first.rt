@@ -1,9 +1,9 @@
 //! How a line begins.
-ghost use Rattle.std.specs.Prelude.{◌≡◌, ◌++◌, ◌∷◌, ◌==◌, ◌&&◌, ◌||◌, [], true, false, List, ℕ, codes, length, take, drop, slice_index};
-ghost use Rattle.std.specs.List.{list_all};
+ghost use Rattle.std.specs.Prelude.{◌≡◌, ◌≤◌, ◌++◌, ◌∷◌, ◌==◌, ◌&&◌, ◌||◌, [], true, false, List, ℕ, codes, length, take, drop};
+ghost use Rattle.std.specs.List.{list_all, prefix_len};
 ghost use Rattle.std.specs.Str.{bytes_eq};
 ghost use Rattle.sgb_shell.specs.Unit.{takes_text, takes_members, is_end};
-ghost use Rattle.sgb_shell.specs.Private.Holding.{front_of, opens};
+ghost use Rattle.sgb_shell.specs.Private.Holding.{front_of};
 
 use arrayvec::ArrayVec;
 use std::marker::Model;
@@ -36,6 +36,18 @@ impl FirstBytes {
         FirstBytes {
             bytes: ArrayVec::new(),
             ends: true,
+        }
+    }
+
+    /// Those of a whole line.
+    pub(crate) fn of(line: &[u8]) -> FirstBytes
+        ensures { result ≡ front_of line.now }
+    {
+        let (_, text) = line.split_at(count_spaces(line));
+        let (front, rest) = text.split_at(text.len().min(KEPT));
+        FirstBytes {
+            bytes: copy_of(front),
+            ends: is_blank(rest),
         }
     }
 
@@ -81,64 +93,6 @@ impl FirstBytes {
     {
         is_end(self.bytes.as_slice()) && self.ends
     }
-}
-
-/// Whether a line has no spaces in front, takes no text and begins no group. The first byte tells it of most.
-#[inline]
-pub(crate) fn is_plain(line: &[u8]) -> bool
-    ensures { result ≡ true → (takes_text line.now ≡ false) × (takes_members line.now ≡ false) }
-{
-    if !may_open(line) {
-        return true;
-    }
-    is_closed(line)
-}
-
-// Whether the first byte is one that `load`, `group` or spaces in front begin with.
-fn may_open(line: &[u8]) -> bool
-    ensures { result ≡ opens (slice_index line.now 0) }
-{
-    match line.first() {
-        Some(first) => opens(*first),
-        None => false,
-    }
-}
-
-fn opens(byte: u8) -> bool
-    ensures { result ≡ opens byte }
-{
-    byte == b' ' || byte == b'g' || byte == b'l'
-}
-
-// The same of any line.
-#[inline(never)]
-fn is_closed(line: &[u8]) -> bool
-    ensures { result ≡ true → (takes_text line.now ≡ false) × (takes_members line.now ≡ false) }
-{
-    let word = beginning(line);
-    if is_indented(word) {
-        return false;
-    }
-    if is_load(front(word)) {
-        return false;
-    }
-    !is_group(word)
-}
-
-// As many bytes as tell the longest word.
-fn beginning(line: &[u8]) -> &[u8]
-    ensures { result.now ≡ take 6 line.now }
-{
-    let (word, _) = line.split_at(line.len().min(KEPT));
-    word
-}
-
-// A space stands first.
-fn is_indented(bytes: &[u8]) -> bool
-    ensures { result ≡ bytes_eq (take 1 bytes.now) (codes " ") }
-{
-    let (first, _) = bytes.split_at(bytes.len().min(1));
-    first == b" ".as_slice()
 }
 
 // A space behind nothing but spaces.
@@ -189,4 +143,22 @@ fn is_blank(bytes: &[u8]) -> bool
     ensures { result ≡ list_all (λ b. b == 32) bytes.now }
 {
     bytes.iter().all(|byte| *byte == b' ')
+}
+
+fn count_spaces(line: &[u8]) -> usize
+    ensures count { result ≡ prefix_len (λ b. b == 32) line.now }
+    ensures within { result ≤ length line.now }
+{
+    line.iter().take_while(|byte| **byte == b' ').count()
+}
+
+fn copy_of(front: &[u8]) -> ArrayVec<u8, KEPT>
+    requires { length front.now ≤ 6 }
+    ensures { result.items ≡ front.now }
+{
+    let mut bytes = ArrayVec::new();
+    for byte in front {
+        bytes.push(*byte);
+    }
+    bytes
 }

@@ -2,14 +2,13 @@
 ghost use Rattle.std.specs.Prelude.{◌≡◌, List, ℕ, true, false};
 ghost use Rattle.sgb_shell.specs.Group.{closes};
 ghost use Rattle.sgb_shell.specs.Unit.{ScriptUnit, opened, with_line, takes_text, takes_members};
-ghost use Rattle.sgb_shell.specs.Private.Holding.{held_line};
+ghost use Rattle.sgb_shell.specs.Private.Line.{IsLine};
 ghost use Rattle.sgb_shell.specs.Private.Gathering.{IsGathered, IsRefused, Closes};
 
-use crate::buffer::LineBuffer;
 use crate::group::OpenGroup;
+use crate::line::ScriptLine;
 use crate::text::OpenText;
-use sgb_groups::GroupedCommand;
-use sgb_script::ShellRefusal;
+use sgb_script::{Command, ShellRefusal};
 use std::alloc::Global;
 
 /// A line behind which others belong to its unit, with these lines so far.
@@ -32,8 +31,8 @@ pub(crate) enum OpenUnit {
 
 impl Pending {
     /// The unit that a line begins which takes a text.
-    pub(crate) fn text(alloc: Global, number: u64, line: &LineBuffer) -> Pending
-        ensures { (l : List ℕ) → line.now ≡ held_line l → takes_text l ≡ true → IsGathered (opened number l) result }
+    pub(crate) fn text(alloc: Global, number: u64, line: &ScriptLine<'_>) -> Pending
+        ensures { (l : List ℕ) → IsLine l line.now → takes_text l ≡ true → IsGathered (opened number l) result }
     {
         Pending {
             number,
@@ -42,8 +41,8 @@ impl Pending {
     }
 
     /// The group that a line begins.
-    pub(crate) fn group(alloc: Global, number: u64, line: &LineBuffer) -> Pending
-        ensures { (l : List ℕ) → line.now ≡ held_line l → takes_text l ≡ false → takes_members l ≡ true → IsGathered (opened number l) result }
+    pub(crate) fn group(alloc: Global, number: u64, line: &ScriptLine<'_>) -> Pending
+        ensures { (l : List ℕ) → IsLine l line.now → takes_text l ≡ false → takes_members l ≡ true → IsGathered (opened number l) result }
     {
         Pending {
             number,
@@ -52,8 +51,8 @@ impl Pending {
     }
 
     /// Whether the line ends the unit.
-    pub(crate) fn closes(&self, line: &LineBuffer) -> bool
-        ensures { (u : ScriptUnit) (l : List ℕ) → line.now ≡ held_line l → IsGathered u self.now → result ≡ closes u l }
+    pub(crate) fn closes(&self, line: &ScriptLine<'_>) -> bool
+        ensures { (u : ScriptUnit) (l : List ℕ) → IsLine l line.now → IsGathered u self.now → result ≡ closes u l }
     {
         match &self.unit {
             OpenUnit::Text(_) => line.is_dot(),
@@ -62,8 +61,8 @@ impl Pending {
     }
 
     /// The unit has one line more.
-    pub(crate) fn take_line(&mut self, alloc: Global, line: &LineBuffer)
-        ensures { (u : ScriptUnit) (l : List ℕ) → line.now ≡ held_line l → IsGathered u self.old → IsGathered (with_line u l) self.new }
+    pub(crate) fn take_line(&mut self, alloc: Global, line: &ScriptLine<'_>)
+        ensures { (u : ScriptUnit) (l : List ℕ) → IsLine l line.now → IsGathered u self.old → IsGathered (with_line u l) self.new }
     {
         match &mut self.unit {
             OpenUnit::Text(text) => text.take_line(line),
@@ -72,12 +71,12 @@ impl Pending {
     }
 
     /// The command of the unit, which the line ends.
-    pub(crate) fn command(self, line: &LineBuffer) -> Result<GroupedCommand, ShellRefusal>
-        ensures { (u : ScriptUnit) (l : List ℕ) → line.now ≡ held_line l → closes u l ≡ true → IsGathered u self → Closes u l result }
+    pub(crate) fn command(self, line: &ScriptLine<'_>) -> Result<Command, ShellRefusal>
+        ensures { (u : ScriptUnit) (l : List ℕ) → IsLine l line.now → closes u l ≡ true → IsGathered u self → Closes u l result }
     {
         let Pending { unit, .. } = self;
         match unit {
-            OpenUnit::Text(text) => Ok(GroupedCommand::One(text.command()?)),
+            OpenUnit::Text(text) => Ok(Command::One(text.command()?)),
             OpenUnit::Group(group) => group.command(line),
         }
     }

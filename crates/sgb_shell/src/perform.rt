@@ -1,101 +1,43 @@
 //! Does what a line says to the session's journal.
-ghost use Rattle.std.specs.Prelude.{◌≡◌, true, Some};
+ghost use Rattle.std.specs.Prelude.{◌≡◌, Some};
 ghost use Rattle.sgb_script.specs.Line.{line_of};
-ghost use Rattle.sgb_session.specs.State.{is_large};
-ghost use Rattle.sgb_shell.specs.declared.answer.Answer.TheVariants.{Refused};
-ghost use Rattle.sgb_groups.specs.declared.grouped.GroupedCommand.TheVariants.{One};
 ghost use Rattle.sgb_shell.specs.Private.Performing.{IsBegun, Does, Answers, Saves, by_command, by_line, answer_from, refusal_from};
 ghost use Rattle.sgb_script.specs.declared.command.Line.TheVariants.{Undo, Redo};
 
 use crate::answer::Answer;
 use sgb_graph::Graph;
-use sgb_groups::{GroupedCommand, GroupedReply, GroupedSession, KeptCommand};
 use sgb_script::{Command, Line, Query, ShellRefusal, parse};
-use sgb_session::Session;
+use sgb_session::{Reply, Session};
 use sgb_text::save;
-use sgb_undo::{Journal, JournalRefusal, MOST_COMMANDS};
+use sgb_undo::{Journal, JournalRefusal};
 use std::alloc::Global;
 
-/// Reads a line without a text, does what it says, and answers it.
-pub(crate) fn perform(alloc: Global, journal: &mut Journal<GroupedSession>, line: &[u8]) -> Answer
+/// Reads a line without a text, and does what it says.
+pub(crate) fn perform(alloc: Global, journal: &mut Journal<Session>, line: &[u8]) -> Answer
     ensures { IsBegun journal.old → Does (by_line (line_of line.now)) journal.old journal.new result }
 {
     match parse(alloc, line) {
-        Ok(asked) => perform_asked(alloc, journal, asked),
+        Ok(Line::Nothing) => Answer::Silent,
+        Ok(Line::Change(command)) => change(journal, Command::One(command)),
+        Ok(Line::Undo) => undo(journal),
+        Ok(Line::Redo) => redo(journal),
+        Ok(Line::Query(query)) => ask(alloc, journal.machine(), query),
+        Ok(Line::Load { .. }) => Answer::Refused(ShellRefusal::ScriptSyntax),
+        Ok(Line::Group) => Answer::Refused(ShellRefusal::ScriptSyntax),
+        Ok(Line::End) => Answer::Refused(ShellRefusal::ScriptSyntax),
         Err(refusal) => Answer::Refused(refusal),
     }
 }
 
-// Does what a line asks for.
-fn perform_asked(alloc: Global, journal: &mut Journal<GroupedSession>, asked: Line) -> Answer
-    ensures { IsBegun journal.old → Does (by_line (Some asked)) journal.old journal.new result }
-{
-    match asked {
-        Line::Nothing => Answer::Silent,
-        Line::Change(command) => {
-            let mut command = command;
-            change_by_one(alloc, journal, &mut command)
-        }
-        Line::Undo => undo(journal),
-        Line::Redo => redo(journal),
-        Line::Ask(query) => ask(alloc, journal.machine().session(), query),
-        Line::Load(_, _) => Answer::Refused(ShellRefusal::ScriptSyntax),
-        Line::Group => Answer::Refused(ShellRefusal::ScriptSyntax),
-        Line::End => Answer::Refused(ShellRefusal::ScriptSyntax),
-    }
-}
-
 /// Performs a command, or a group.
-pub(crate) fn change(
-    alloc: Global,
-    journal: &mut Journal<GroupedSession>,
-    command: GroupedCommand,
-) -> Answer
+pub(crate) fn change(journal: &mut Journal<Session>, command: Command) -> Answer
     ensures { IsBegun journal.old → Does (by_command command) journal.old journal.new result }
 {
-    match command {
-        GroupedCommand::One(one) => {
-            let mut one = one;
-            change_by_one(alloc, journal, &mut one)
-        }
-        GroupedCommand::Group(members) => apply(journal, KeptCommand::group(members)),
-    }
+    let outcome = journal.apply(command);
+    answer_to(outcome)
 }
 
-// Performs a command by itself, and leaves another where it stood.
-fn change_by_one(
-    alloc: Global,
-    journal: &mut Journal<GroupedSession>,
-    command: &mut Command,
-) -> Answer
-    ensures { IsBegun journal.old → Does (by_command (One command.old)) journal.old journal.new result }
-{
-    let mut kept = KeptCommand::next();
-    match kept.take(alloc, command) {
-        Ok(()) => apply(journal, kept),
-        Err(_) => Answer::Refused(refusal_without_room(journal, command)),
-    }
-}
-
-// Performs a command, or a group, as the journal keeps it.
-fn apply(journal: &mut Journal<GroupedSession>, command: KeptCommand) -> Answer
-    ensures { IsBegun journal.old → Does (by_command command) journal.old journal.new result }
-{
-    answer_to(journal.apply(command))
-}
-
-// How a command is refused for which there is no box.
-fn refusal_without_room(journal: &Journal<GroupedSession>, command: &Command) -> ShellRefusal
-    requires large { is_large command.now ≡ true }
-    ensures { IsBegun journal.now → Does (by_command (One command.now)) journal.now journal.now (Refused result) }
-{
-    if journal.standing() == MOST_COMMANDS {
-        return ShellRefusal::JournalFull;
-    }
-    journal.machine().refusal_without_room(command)
-}
-
-fn undo(journal: &mut Journal<GroupedSession>) -> Answer
+fn undo(journal: &mut Journal<Session>) -> Answer
     ensures { IsBegun journal.old → Does (by_line (Some Undo)) journal.old journal.new result }
 {
     match journal.undo() {
@@ -104,14 +46,15 @@ fn undo(journal: &mut Journal<GroupedSession>) -> Answer
     }
 }
 
-fn redo(journal: &mut Journal<GroupedSession>) -> Answer
+fn redo(journal: &mut Journal<Session>) -> Answer
     ensures { IsBegun journal.old → Does (by_line (Some Redo)) journal.old journal.new result }
 {
-    answer_to(journal.redo())
+    let outcome = journal.redo();
+    answer_to(outcome)
 }
 
-fn answer_to(outcome: Result<GroupedReply, JournalRefusal<ShellRefusal>>) -> Answer
-    ensures { result ≡ answer_from (λ reply. reply) outcome }
+fn answer_to(outcome: Result<Reply, JournalRefusal<ShellRefusal>>) -> Answer
+    ensures { result ≡ answer_from outcome }
 {
     match outcome {
         Ok(reply) => Answer::Replied(reply),
@@ -119,8 +62,7 @@ fn answer_to(outcome: Result<GroupedReply, JournalRefusal<ShellRefusal>>) -> Ans
     }
 }
 
-#[inline]
-pub(crate) fn refusal_of(refusal: JournalRefusal<ShellRefusal>) -> ShellRefusal
+fn refusal_of(refusal: JournalRefusal<ShellRefusal>) -> ShellRefusal
     ensures { result ≡ refusal_from refusal }
 {
     match refusal {

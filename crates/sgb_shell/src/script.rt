@@ -5,7 +5,7 @@ ghost use Rattle.sgb_shell.specs.Private.Taking.{TakesScript, ReadsOn};
 ghost use Rattle.sgb_shell.specs.Run.{Runs};
 
 use crate::fault::RunEnd;
-use crate::shell::Shell;
+use crate::reader::LineReader;
 use sgb_print::{MeteredReader, MeteredWriter, RunFault};
 use std::alloc::Global;
 use std::io::{Read, Write};
@@ -17,7 +17,7 @@ const CHUNK: usize = 4096;
 
 /// How a run ended, with the reader and the writer that it was given.
 #[derive(Debug, Drop)]
-pub struct Ended<R, W> {
+pub struct Ended<R: Read, W: Write> {
     /// What came of it.
     pub end: Result<RunEnd, RunFault>,
     /// The reader, and how it was used.
@@ -28,8 +28,7 @@ pub struct Ended<R, W> {
 
 /// Runs the script that the reader gives, and writes its transcript: [`run_metered`] with meters of its own.
 pub fn run<R: Read, W: Write>(alloc: Global, reader: R, writer: W) -> Ended<R, W>
-    ensures runs { Runs (R.remaining reader) (R.remaining result.reader.inner) result.reader.failed result.reader.reads result.reader.last
-        (W.contents writer) (W.contents result.writer.inner) result.writer.failed result.end }
+    ensures runs { Runs (R.remaining reader) result.reader (W.contents writer) result.writer result.end }
 {
     let mut reader = MeteredReader::new(reader);
     let mut writer = MeteredWriter::new(writer);
@@ -55,36 +54,29 @@ pub fn run_metered<R: Read, W: Write>(
     requires unread { reader.old.reads ≡ 0 }
     requires reader { reader.old.failed ≡ false }
     requires writer { writer.old.failed ≡ false }
-    ensures runs { Runs (R.remaining reader.old.inner) (R.remaining reader.new.inner) reader.new.failed reader.new.reads reader.new.last
-        (W.contents writer.old.inner) (W.contents writer.new.inner) writer.new.failed result }
+    ensures runs { Runs reader.old.left reader.new writer.old.held writer.new result }
 {
-    let Ok(mut shell) = Shell::new(alloc) else {
+    let Ok(mut lines) = LineReader::new(alloc) else {
         return Err(RunFault::NoRoom);
     };
-    take_script(&mut shell, reader, writer)?;
-    match shell.end(writer) {
-        Ok(()) => Ok(RunEnd {
-            lines: shell.lines,
-            refused: shell.refused,
-        }),
+    take_script(&mut lines, reader, writer)?;
+    match lines.end(writer) {
+        Ok(()) => Ok(lines.shell().end_of_run()),
         Err(_) => Err(RunFault::Write),
     }
 }
 
 // Takes all the bytes of the script, and answers each unit that its whole lines end.
 fn take_script<R: Read, W: Write>(
-    shell: &mut Shell,
+    lines: &mut LineReader,
     reader: &mut MeteredReader<R>,
     writer: &mut MeteredWriter<W>,
 ) -> Result<(), RunFault>
     requires unread { reader.old.reads ≡ 0 }
     requires reader { reader.old.failed ≡ false }
     requires writer { writer.old.failed ≡ false }
-    requires begun { Progress (W.contents writer.old.inner) (W.contents writer.old.inner) []
-        shell.old.journal shell.old.pending shell.old.line shell.old.lines shell.old.refused }
-    ensures { TakesScript (R.remaining reader.old.inner) (R.remaining reader.new.inner) reader.new.failed reader.new.reads reader.new.last
-        (W.contents writer.old.inner) (W.contents writer.new.inner) writer.new.failed
-        shell.new.journal shell.new.pending shell.new.line shell.new.lines shell.new.refused result }
+    requires begun { Progress writer.old.held writer.old.held [] lines.old }
+    ensures { TakesScript reader.old.left reader.new writer.old.held writer.new lines.new result }
 {
     let mut chunk = [0u8; CHUNK];
     let mut room = SCRIPT_LIMIT;
@@ -95,7 +87,7 @@ fn take_script<R: Read, W: Write>(
         }
         room -= count;
         let (bytes, _) = chunk.split_at(count);
-        if shell.take(writer, bytes).is_err() {
+        if lines.take(writer, bytes).is_err() {
             return Err(RunFault::Write);
         }
     }
@@ -118,8 +110,7 @@ fn read_on<R: Read, W: Write>(
     requires reads { reader.old.reads < 2 ^ 63 }
     requires reader { reader.old.failed ≡ false }
     requires writer { writer.old.failed ≡ false }
-    ensures { ReadsOn (R.remaining reader.old.inner) (R.remaining reader.new.inner) reader.new.failed reader.old.reads reader.new.reads reader.new.last
-        (W.contents writer.old.inner) (W.contents writer.new.inner) writer.new.failed most chunk.new result }
+    ensures { ReadsOn reader.old reader.new writer.old writer.new most chunk.new result }
 {
     if writer.flush().is_err() {
         return Err(RunFault::Write);

@@ -1,286 +1,137 @@
-//! Answers a script line by line, as its bytes come.
-ghost use Rattle.std.specs.Prelude.{◌≡◌, ◌<◌, ◌≤◌, ◌^◌, ◌++◌, ◌∷◌, [], List, ℕ, Option, None, IfOk, IfSome, true, false, length, take};
-ghost use Rattle.sgb_shell.specs.Lines.{lines, whole_lines};
-ghost use Rattle.sgb_shell.specs.Private.Holding.{held_line, IsFirstLine};
-ghost use Rattle.sgb_shell.specs.Private.Reaching.{Reached, Finishes, Takes, TakesFront, IsUnitAhead, Progress, Concludes};
-ghost use Rattle.sgb_shell.specs.Unit.{takes_text, takes_members};
+//! Answers a script line by line.
+ghost use Rattle.std.specs.Prelude.{◌≡◌, ◌<◌, ◌≤◌, ◌+◌, ◌-◌, ◌^◌, ◌++◌, ◌∷◌, [], min, List, ℕ, Option, None, length};
+ghost use Rattle.sgb_print.specs.Print.{Prints};
+ghost use Rattle.sgb_shell.specs.Answer.{answer_text};
+ghost use Rattle.sgb_shell.specs.Private.Line.{IsLine};
+ghost use Rattle.sgb_shell.specs.Private.Reaching.{Reached, Finishes, Concludes};
+ghost use Rattle.sgb_shell.specs.Transcript.{refusals};
 
-use crate::answer::{Answer, tell};
-use crate::at_once::answer_at_once;
-use crate::buffer::LineBuffer;
-use crate::first::is_plain;
+use crate::answer::{Answer, print_answer};
+use crate::fault::RunEnd;
+use crate::line::ScriptLine;
 use crate::pending::Pending;
 use crate::unit::take_line;
-use memchr::memchr;
-use sgb_groups::GroupedSession;
 use sgb_print::{Failed, MeteredWriter};
+use sgb_session::Session;
 use sgb_undo::Journal;
-use std::alloc::{AllocError, Global};
+use std::alloc::Global;
 use std::io::Write;
+use std::marker::Model;
 
-/// A session at work on a script.
+/// A session at work on the lines of a script.
 #[derive(Drop)]
 pub(crate) struct Shell {
-    // Where texts and groups take their memory.
     alloc: Global,
-    /// The commands that stand and those that are undone, with the session.
-    pub(crate) journal: Journal<GroupedSession>,
-    /// The unit that goes on.
-    pub(crate) pending: Option<Pending>,
-    /// The line that is not finished.
-    pub(crate) line: LineBuffer,
-    /// How many lines were finished.
-    pub(crate) lines: u64,
-    /// How many units were refused.
-    pub(crate) refused: u64,
+    journal: Journal<Session>,
+    // The unit whose end has not come.
+    pending: Option<Pending>,
+    // How many lines came.
+    lines: u64,
+    // How many units were refused.
+    refused: u64,
+}
+
+impl Model for Shell {
+    ghost use Rattle.sgb_shell.specs.Private.Reaching.{ShellView};
+
+    ghost Value = { ShellView };
+
+    ghost view = { λ s. record { journal = s.journal; pending = s.pending; lines = s.lines; refused = s.refused } };
 }
 
 impl Shell {
-    /// An empty session and no bytes. Room for a whole line is taken at once.
-    pub(crate) fn new(alloc: Global) -> Result<Shell, AllocError>
-        ensures { IfOk result (λ s. (held : Option (List ℕ)) → Progress held held [] s.journal s.pending s.line s.lines s.refused) }
+    /// An empty session that has met no lines. Does not allocate.
+    pub(crate) fn new(alloc: Global) -> Shell
+        ensures { (held : Option (List ℕ)) → Reached held held [] result }
     {
-        let line = LineBuffer::new(alloc)?;
-        Ok(Shell {
+        Shell {
             alloc,
-            journal: Journal::new(alloc, GroupedSession::new(alloc)),
+            journal: Journal::new(alloc, Session::new(alloc)),
             pending: None,
-            line,
             lines: 0,
             refused: 0,
-        })
+        }
     }
 
-    /// Takes the next bytes, and answers each unit that they finish.
-    pub(crate) fn take<W: Write>(
+    /// How many lines came, and how many units were refused.
+    pub(crate) fn end_of_run(&self) -> RunEnd
+        ensures { result ≡ record { lines = self.now.lines; refused = self.now.refused } }
+    {
+        RunEnd {
+            lines: self.lines,
+            refused: self.refused,
+        }
+    }
+
+    /// Takes the next line, and answers the unit that it ends, if it ends one.
+    pub(crate) fn take_line<W: Write>(
         &mut self,
         writer: &mut MeteredWriter<W>,
-        bytes: &[u8],
+        line: &ScriptLine<'_>,
     ) -> Result<(), Failed>
-        ensures { (held : Option (List ℕ)) (script : List ℕ) → length (script ++ bytes.now) < 2 ^ 32
-            → Progress held (W.contents writer.old.inner) script self.old.journal self.old.pending self.old.line self.old.lines self.old.refused
-            → Takes held (W.contents writer.new.inner) writer.old.failed writer.new.failed script (script ++ bytes.now)
-            self.new.journal self.new.pending self.new.line self.new.lines self.new.refused result }
+        ensures { (held : Option (List ℕ)) (ls : List (List ℕ)) (l : List ℕ) → length ls < 2 ^ 32 → IsLine l line.now
+            → Reached held writer.old.held ls self.old → Finishes held writer.old writer.new ls (ls ++ l ∷ []) self.new result }
     {
-        let mut done = 0;
-        while done < bytes.len() {
-            let (_, rest) = bytes.split_at(done);
-            let count = self.take_front(writer, rest)?;
-            done += count;
-        }
-        Ok(())
-    }
-
-    // Takes the next line, or what there is of it, and tells how many bytes that were. A whole line that is a unit of its
-    // own is answered where it lies.
-    fn take_front<W: Write>(
-        &mut self,
-        writer: &mut MeteredWriter<W>,
-        bytes: &[u8],
-    ) -> Result<usize, Failed>
-        requires some { 0 < length bytes.now }
-        ensures count { IfOk result (λ count. (0 < count) × (count ≤ length bytes.now)) }
-        ensures takes { (held : Option (List ℕ)) (script : List ℕ) → length (script ++ bytes.now) < 2 ^ 32
-            → Progress held (W.contents writer.old.inner) script self.old.journal self.old.pending self.old.line self.old.lines self.old.refused
-            → TakesFront held (W.contents writer.new.inner) writer.old.failed writer.new.failed script bytes.now
-            self.new.journal self.new.pending self.new.line self.new.lines self.new.refused result }
-    {
-        let Some(line) = self.unit_ahead(bytes) else {
-            let (front, _) = bytes.split_at(line_size(bytes));
-            self.take_bytes(writer, front)?;
-            return Ok(front.len());
-        };
-        self.answer_unit(writer, line)?;
-        Ok(line.len() + 1)
-    }
-
-    // The line that the bytes begin with, where it is whole and a unit of its own.
-    #[inline(always)]
-    fn unit_ahead<'a>(&self, bytes: &'a [u8]) -> Option<&'a [u8]>
-        ensures { IfSome result (λ line. IsUnitAhead self.now.pending self.now.line line.now bytes.now) }
-    {
-        if self.pending.is_some() {
-            return None;
-        }
-        let Some(line) = plain_line(bytes) else {
-            return None;
-        };
-        if self.line.is_empty() {
-            return Some(line);
-        }
-        None
-    }
-
-    // Answers a line that is a unit of its own.
-    fn answer_unit<W: Write>(
-        &mut self,
-        writer: &mut MeteredWriter<W>,
-        line: &[u8],
-    ) -> Result<(), Failed>
-        ensures line { self.new.line ≡ self.old.line }
-        ensures finishes { (held : Option (List ℕ)) (ls : List (List ℕ)) → length ls < 2 ^ 32
-            → self.old.pending ≡ None → takes_text line.now ≡ false → takes_members line.now ≡ false
-            → Reached held (W.contents writer.old.inner) ls self.old.journal self.old.pending self.old.lines self.old.refused
-            → Finishes held (W.contents writer.new.inner) writer.old.failed writer.new.failed ls (ls ++ line.now ∷ [])
-            self.new.journal self.new.pending self.new.lines self.new.refused result }
-    {
-        let number = self.lines.saturating_add(1);
-        self.lines = number;
-        answer_at_once(
+        self.lines = self.lines.saturating_add(1);
+        let told = take_line(
             self.alloc,
-            writer,
             &mut self.journal,
+            &mut self.pending,
+            self.lines,
+            line,
+        );
+        let Some((number, answer)) = told else {
+            return Ok(());
+        };
+        tell(
+            writer,
             &mut self.refused,
             number,
-            line,
+            self.journal.machine(),
+            &answer,
         )
     }
 
-    // Takes bytes one by one.
-    fn take_bytes<W: Write>(
-        &mut self,
-        writer: &mut MeteredWriter<W>,
-        bytes: &[u8],
-    ) -> Result<(), Failed>
-        ensures { (held : Option (List ℕ)) (script : List ℕ) → length (script ++ bytes.now) < 2 ^ 32
-            → Progress held (W.contents writer.old.inner) script self.old.journal self.old.pending self.old.line self.old.lines self.old.refused
-            → Takes held (W.contents writer.new.inner) writer.old.failed writer.new.failed script (script ++ bytes.now)
-            self.new.journal self.new.pending self.new.line self.new.lines self.new.refused result }
-    {
-        for byte in bytes {
-            self.take_byte(writer, *byte)?;
-        }
-        Ok(())
-    }
-
-    fn take_byte<W: Write>(&mut self, writer: &mut MeteredWriter<W>, byte: u8) -> Result<(), Failed>
-        ensures { (held : Option (List ℕ)) (script : List ℕ) → length script < 2 ^ 32
-            → Progress held (W.contents writer.old.inner) script self.old.journal self.old.pending self.old.line self.old.lines self.old.refused
-            → Takes held (W.contents writer.new.inner) writer.old.failed writer.new.failed script (script ++ byte ∷ [])
-            self.new.journal self.new.pending self.new.line self.new.lines self.new.refused result }
-    {
-        if byte == b'\n' {
-            return self.finish(writer);
-        }
-        self.line.push(byte);
-        Ok(())
-    }
-
-    /// Answers the line that no newline ends, where there is one, and the unit that has no end.
+    /// Ends the script: answers the unit whose end has not come, if there is one.
     pub(crate) fn end<W: Write>(&mut self, writer: &mut MeteredWriter<W>) -> Result<(), Failed>
-        ensures { (held : Option (List ℕ)) (script : List ℕ) → length script < 2 ^ 32
-            → Progress held (W.contents writer.old.inner) script self.old.journal self.old.pending self.old.line self.old.lines self.old.refused
-            → Concludes held (W.contents writer.new.inner) writer.old.failed writer.new.failed (whole_lines script) (lines script)
-            self.new.lines self.new.refused result }
-    {
-        self.end_line(writer)?;
-        self.end_unit(writer)
-    }
-
-    // Answers the line that no newline ends, where there is one.
-    fn end_line<W: Write>(&mut self, writer: &mut MeteredWriter<W>) -> Result<(), Failed>
-        ensures { (held : Option (List ℕ)) (script : List ℕ) → length script < 2 ^ 32
-            → Progress held (W.contents writer.old.inner) script self.old.journal self.old.pending self.old.line self.old.lines self.old.refused
-            → Finishes held (W.contents writer.new.inner) writer.old.failed writer.new.failed (whole_lines script) (lines script)
-            self.new.journal self.new.pending self.new.lines self.new.refused result }
-    {
-        if self.line.is_empty() {
-            return Ok(());
-        }
-        self.finish(writer)
-    }
-
-    // Answers the unit that has no end, where there is one.
-    fn end_unit<W: Write>(&mut self, writer: &mut MeteredWriter<W>) -> Result<(), Failed>
         ensures { (held : Option (List ℕ)) (ls : List (List ℕ)) → length ls ≤ 2 ^ 32
-            → Reached held (W.contents writer.old.inner) ls self.old.journal self.old.pending self.old.lines self.old.refused
-            → Concludes held (W.contents writer.new.inner) writer.old.failed writer.new.failed ls ls self.new.lines self.new.refused result }
+            → Reached held writer.old.held ls self.old → Concludes held writer.old writer.new ls ls self.new result }
     {
         let Some(unit) = self.pending.take() else {
             return Ok(());
         };
         let answer = Answer::Refused(unit.refusal());
-        let session = self.journal.machine().session();
-        tell(writer, &mut self.refused, unit.number, session, &answer)
-    }
-
-    // Takes the line that is not finished, and answers the unit that it ends.
-    fn finish<W: Write>(&mut self, writer: &mut MeteredWriter<W>) -> Result<(), Failed>
-        ensures line { self.new.line ≡ held_line [] }
-        ensures finishes { (held : Option (List ℕ)) (ls : List (List ℕ)) (line : List ℕ) → length ls < 2 ^ 32
-            → Reached held (W.contents writer.old.inner) ls self.old.journal self.old.pending self.old.lines self.old.refused
-            → self.old.line ≡ held_line line
-            → Finishes held (W.contents writer.new.inner) writer.old.failed writer.new.failed ls (ls ++ line ∷ [])
-            self.new.journal self.new.pending self.new.lines self.new.refused result }
-    {
-        let alloc = self.alloc;
-        self.lines = self.lines.saturating_add(1);
-        let told = take_line(
-            alloc,
-            &mut self.journal,
-            &mut self.pending,
-            self.lines,
-            &self.line,
-        );
-        self.line.clear();
-        let Some((number, answer)) = told else {
-            return Ok(());
-        };
-        let session = self.journal.machine().session();
-        tell(writer, &mut self.refused, number, session, &answer)
+        tell(
+            writer,
+            &mut self.refused,
+            unit.number,
+            self.journal.machine(),
+            &answer,
+        )
     }
 }
 
-// The line that the bytes begin with, where a newline ends it.
-#[inline(always)]
-fn first_line(bytes: &[u8]) -> Option<&[u8]>
-    ensures { IfSome result (λ line. IsFirstLine line.now bytes.now) }
+// Counts the answer to the unit of a number where it is a refusal, and prints it.
+fn tell<W: Write>(
+    writer: &mut MeteredWriter<W>,
+    refused: &mut u64,
+    number: u64,
+    session: &Session,
+    answer: &Answer,
+) -> Result<(), Failed>
+    ensures refused { refused.new ≡ min (refused.old + refusals answer.now) (2 ^ 64 - 1) }
+    ensures prints { Prints writer.old writer.new result (answer_text number session.now answer.now) }
 {
-    if has_four(bytes) {
-        let (line, _) = bytes.split_at(4);
-        return Some(line);
-    }
-    let Some(end) = memchr(b'\n', bytes) else {
-        return None;
-    };
-    let (line, _) = bytes.split_at(end);
-    Some(line)
+    *refused = refused.saturating_add(refusal_count(answer));
+    print_answer(writer, number, session, answer)
 }
 
-// The first line has four bytes, as those have that a script repeats most: seen by a look at each, without a search.
-#[inline(always)]
-fn has_four(bytes: &[u8]) -> bool
-    ensures { result ≡ true → IsFirstLine (take 4 bytes.now) bytes.now }
+// A refused unit counts once.
+fn refusal_count(answer: &Answer) -> u64
+    ensures { result ≡ refusals answer.now }
 {
-    5 <= bytes.len()
-        && bytes[0] != b'\n'
-        && bytes[1] != b'\n'
-        && bytes[2] != b'\n'
-        && bytes[3] != b'\n'
-        && bytes[4] == b'\n'
-}
-
-// The line that the bytes begin with, where a newline ends it and no others belong to its unit.
-#[inline(always)]
-fn plain_line(bytes: &[u8]) -> Option<&[u8]>
-    ensures { IfSome result (λ line. (takes_text line.now ≡ false) × (takes_members line.now ≡ false) × IsFirstLine line.now bytes.now) }
-{
-    let Some(line) = first_line(bytes) else {
-        return None;
-    };
-    if is_plain(line) {
-        return Some(line);
-    }
-    None
-}
-
-// How many bytes the first line has with its newline, or as much of it as there is.
-fn line_size(bytes: &[u8]) -> usize
-    requires { 0 < length bytes.now }
-    ensures { (0 < result) × (result ≤ length bytes.now) }
-{
-    match first_line(bytes) {
-        Some(line) => line.len() + 1,
-        None => bytes.len(),
+    match answer {
+        Answer::Refused(_) => 1,
+        _ => 0,
     }
 }

@@ -3,12 +3,12 @@ ghost use Rattle.std.specs.Prelude.{◌≡◌, List, ℕ, Some, true};
 ghost use Rattle.sgb_script.specs.Line.{line_of};
 ghost use Rattle.sgb_shell.specs.Group.{text_member};
 ghost use Rattle.sgb_shell.specs.Unit.{ScriptUnit, opened, with_line, as_closed, takes_text};
-ghost use Rattle.sgb_shell.specs.Private.Holding.{held_line};
+ghost use Rattle.sgb_shell.specs.Private.Line.{IsLine};
 ghost use Rattle.sgb_shell.specs.Private.Gathering.{IsText, IsMember, IsRefused, Begins, ClosesText, Puts};
 
-use crate::buffer::LineBuffer;
+use crate::line::ScriptLine;
 use sgb_graph::Items;
-use sgb_script::{Command, Line, Maker, Name, ShellRefusal, parse};
+use sgb_script::{Line, Maker, Name, ShellRefusal, Single, parse};
 use sgb_text::CheckRule;
 use std::alloc::Global;
 
@@ -23,15 +23,15 @@ pub(crate) enum OpenText {
 
 impl OpenText {
     /// The text that a line begins.
-    pub(crate) fn new(alloc: Global, line: &LineBuffer) -> OpenText
-        ensures { (number : ℕ) (l : List ℕ) → line.now ≡ held_line l → takes_text l ≡ true → IsText (opened number l) result }
+    pub(crate) fn new(alloc: Global, line: &ScriptLine<'_>) -> OpenText
+        ensures { (number : ℕ) (l : List ℕ) → IsLine l line.now → takes_text l ≡ true → IsText (opened number l) result }
     {
         begun_by(alloc, line)
     }
 
     /// The text has one line more.
-    pub(crate) fn take_line(&mut self, line: &LineBuffer)
-        ensures { (u : ScriptUnit) (l : List ℕ) → line.now ≡ held_line l → IsText u self.old → IsText (with_line u l) self.new }
+    pub(crate) fn take_line(&mut self, line: &ScriptLine<'_>)
+        ensures { (u : ScriptUnit) (l : List ℕ) → IsLine l line.now → IsText u self.old → IsText (with_line u l) self.new }
     {
         let OpenText::Text(_, _, text) = self else {
             return;
@@ -42,19 +42,19 @@ impl OpenText {
     }
 
     /// The command that it is, where the text has its end.
-    pub(crate) fn command(self) -> Result<Command, ShellRefusal>
+    pub(crate) fn command(self) -> Result<Single, ShellRefusal>
         ensures { (u : ScriptUnit) → IsText u self → ClosesText u result }
     {
         match self {
             OpenText::Text(name, rule, text) => {
-                Ok(Command::Make(name, Maker::Load(Items::from_vec(text), rule)))
+                Ok(Single::Make(name, Maker::Load(Items::from_vec(text), rule)))
             }
             OpenText::Refused(refusal) => Err(refusal),
         }
     }
 
     /// The member of a group that it is, where the text has its end.
-    pub(crate) fn member(self) -> Result<Option<Command>, ShellRefusal>
+    pub(crate) fn member(self) -> Result<Option<Single>, ShellRefusal>
         ensures { (u : ScriptUnit) → IsText u self → IsMember (text_member (line_of u.first) (as_closed u)) result }
     {
         match self.command() {
@@ -75,8 +75,8 @@ impl OpenText {
 }
 
 // What comes of a line that takes a text.
-fn begun_by(alloc: Global, line: &LineBuffer) -> OpenText
-    ensures { (l : List ℕ) → line.now ≡ held_line l → Begins (line_of l) result }
+fn begun_by(alloc: Global, line: &ScriptLine<'_>) -> OpenText
+    ensures { (l : List ℕ) → IsLine l line.now → Begins (line_of l) result }
 {
     let Some(bytes) = line.whole() else {
         return OpenText::Refused(ShellRefusal::ScriptSyntax);
@@ -92,14 +92,14 @@ fn text_of(alloc: Global, asked: &Line) -> OpenText
     ensures { Begins (Some asked.now) result }
 {
     match asked {
-        Line::Load(name, rule) => OpenText::Text(*name, *rule, Vec::new(alloc)),
+        Line::Load { name, rule } => OpenText::Text(*name, *rule, Vec::new(alloc)),
         _ => OpenText::Refused(ShellRefusal::ScriptSyntax),
     }
 }
 
 // A text has one line more, and its newline.
-fn put_line(text: &mut Vec<u8>, line: &LineBuffer) -> Result<(), ShellRefusal>
-    ensures { (l : List ℕ) → line.now ≡ held_line l → Puts text.old.items text.new.items l result }
+fn put_line(text: &mut Vec<u8>, line: &ScriptLine<'_>) -> Result<(), ShellRefusal>
+    ensures { (l : List ℕ) → IsLine l line.now → Puts text.old.items text.new.items l result }
 {
     let Some(bytes) = line.whole() else {
         return Err(ShellRefusal::ScriptSyntax);

@@ -1,7 +1,7 @@
 -- What a journal keeps, through its calls.
-use Rattle.std.proofs.Common.{◌≡◌, ℕ, suc, ◌+◌, ◌-◌, ◌<◌, ◌≤◌, List, [], ◌∷◌, ◌++◌, length, get_or, take, drop, refl, sym, ap, ◌∙◌, subst, arith, add-one, Bool, true, false, Some, None, IsSome, Result, Ok, Err, IsOk}
+use Rattle.std.proofs.Common.{◌≡◌, ℕ, suc, ◌+◌, ◌-◌, ◌<◌, ◌≤◌, List, [], ◌∷◌, ◌++◌, length, get_or, take, drop, refl, sym, ap, ◌∙◌, subst, arith, add-one, Bool, true, Some, None, IsSome}
 use Rattle.std.proofs.lemmas.List.{length-take, length-drop, length_push, take-append-drop, take_all, take_more, drop_all, drop_more}
-use Rattle.sgb_undo.specs.Outcome.{Outcome, Accepted, Refused, on_accepted, Keeps}
+use Rattle.sgb_undo.specs.Outcome.{Outcome, Accepted, Refused, on_accepted}
 use Rattle.sgb_undo.specs.Replay.{fold, deltas_of, start_of}
 use Rattle.sgb_undo.specs.History.{History, IsJournal, Applies, Undoes, Redoes, FirstMayWant}
 use Rattle.sgb_undo.specs.Private.Kept.{LedTo, IsKept, IsSound, history, places}
@@ -11,11 +11,6 @@ pub places-same : {a a' b b' n n' : ℕ} → n' ≡ n → a' ≡ a → b' ≡ b 
 places-same {a = a} {a' = a'} {b = b} {n = n} {n' = n'} count first second room =
     subst (λ k. n' < places a' k) (sym second)
     (subst (λ k. n' < places k b) (sym first) (subst (λ k. k < places a b) (sym count) room))
-
--- what a good result holds
-pub ok_value : {A B : Type 0} (r : Result A B) → IsOk r → (x : A) × (r ≡ Ok x)
-ok_value (Ok x) h = (x, refl)
-ok_value (Err e) h = absurd (let bad : false ≡ true = h in cc)
 
 -- one more delta at the end leads back first
 pub start_of-push : {M D : Type 0} (before : M → D → M) (n : M) (d : D) (ds : List D) → start_of before n (ds ++ d ∷ []) ≡ start_of before (before n d) ds
@@ -29,15 +24,6 @@ module _ {M C D R F : Type 0} (step : M → C → Outcome M D R F) (before : M �
     pub accepted : step m c ≡ Accepted n d reply
     pub back : before n d ≡ m
     pub revertible : can_revert n d
-
-  -- what a command left, as it was kept
-  abbrev pub kept-answers : (m : M) (c : C) (n : M) (r : R) (ds ds' : List D) (k : Keeps step before can_revert m c n (Some r) ds ds') → Answers m c k.delta n
-  kept-answers m c n r ds ds' k = record {
-    reply = r;
-    accepted = k.accepted ∙ ap (λ (x : R). Accepted n k.delta x) (let same : k.reply ≡ r = cc in same);
-    back = k.back;
-    revertible = k.revertible;
-  }
 
   LedTo-answers : (m : M) (c : C) (d : D) (n : M) → Answers m c d n → LedTo step before can_revert c d n
   LedTo-answers m c d n a = record {
@@ -216,13 +202,6 @@ module _ {M C D R F : Type 0} {step : M → C → Outcome M D R F} {before : M �
       let told = length-undone s e seen in
       let empty = ap length none in
       omega arith
-
-  -- where a delta is kept, a command stands
-  pub standing-some : (ds' : List D) (d : D) {h : History M C D} → IsSound step before can_revert n cs ds limit places → ds ≡ ds' ++ d ∷ [] → history before n cs ds (length ds) ≡ h → h.standing ≡ [] → ⊥
-  standing-some ds' d s e seen none =
-      let told = length-standing s refl seen in
-      let empty = ap length none in
-      omega (arith, ap length e, length_push ds' d)
 
   -- the last delta, and the journal without it
   pub can_revert-last : (ds' : List D) {d : D} → IsSound step before can_revert n cs ds limit places → ds ≡ ds' ++ d ∷ [] → can_revert n d

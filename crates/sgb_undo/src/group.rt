@@ -5,14 +5,13 @@ ghost use Rattle.sgb_undo.specs.Outcome.{Accepted, Refused, on_accepted};
 ghost use Rattle.sgb_undo.specs.Replay.{fold, deltas_of, start_of};
 ghost use Rattle.sgb_undo.specs.Group.{step_all, any_may_want, CanRevertAll};
 
-use crate::{GROWTH, GroupRefusal, Members, Reversible};
+use crate::{GroupRefusal, Members, Reversible};
 use std::alloc::{AllocError, Global};
 
 /// Performs commands in order as one: all of them, or none where one is refused.
 ///
 /// It answers their deltas, by which [`revert_all`] takes them back, and their replies. The memory for
-/// both, and for what the machine keeps of them, is taken before the first command, and a group of none
-/// takes none. A group is refused as its
+/// both is taken before the first command, and a group of none takes none. A group is refused as its
 /// first refused command is, and the machine then stays as it was.
 pub fn apply_all<M: Reversible>(
     alloc: Global,
@@ -30,7 +29,7 @@ pub fn apply_all<M: Reversible>(
 
     ensures err { OnErr result (machine.new ≡ machine.old) }
 {
-    let Ok((mut deltas, mut replies)) = take_places(alloc, machine, commands.len()) else {
+    let Ok((mut deltas, mut replies)) = take_places(alloc, commands.len()) else {
         return Err(GroupRefusal::NoRoom);
     };
     match perform_each(machine, commands, &mut deltas, &mut replies) {
@@ -62,23 +61,17 @@ pub fn group_law<M: Reversible>()
         step_all M.step m cs ≡ Accepted n ds rs → deltas_of M.step m cs ≡ ds }
 {}
 
-// Two empty lists with so many places each. The machine takes room for as many commands, and for a growth of
-// the journal that may be behind them: the room that it took for those is used by the group.
-fn take_places<M: Reversible>(
+// Two empty lists with so many places each.
+fn take_places<D: Drop, R: Drop>(
     alloc: Global,
-    machine: &mut M,
     count: usize,
-) -> Result<(Vec<M::Delta>, Vec<M::Reply>), AllocError>
-    ensures same { machine.new ≡ machine.old }
+) -> Result<(Vec<D>, Vec<R>), AllocError>
     ensures none { IfOk result (λ lists. (lists.0.items ≡ []) × (lists.1.items ≡ [])) }
     ensures places { IfOk result (λ lists. (count ≤ vec_capacity lists.0) × (count ≤ vec_capacity lists.1)) }
     ensures succeeds { OnErr result (count ≡ 0 → ⊥) }
 {
     let deltas = Vec::with_capacity(alloc, count)?;
     let replies = Vec::with_capacity(alloc, count)?;
-    if count > 0 {
-        machine.reserve(count.saturating_add(GROWTH))?;
-    }
     Ok((deltas, replies))
 }
 

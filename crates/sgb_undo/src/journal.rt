@@ -1,13 +1,11 @@
 //! The journal of a machine.
 
-ghost use Rattle.std.specs.Prelude.{◌≡◌, ◌↔◌, ◌<◌, ◌≤◌, ◌+◌, ◌⊎◌, ⊤, [], length, take, true, slice_get, Ok, Some, OnOk, OnErr, IfOk, IfErr, IsOk, IsErr, IsErrOf, IsTrue};
-ghost use Rattle.std.specs.Bool.{OnTrue, OnFalse};
+ghost use Rattle.std.specs.Prelude.{◌≡◌, ◌↔◌, ◌<◌, ◌≤◌, ◌+◌, ◌⊎◌, ⊤, [], length, true, slice_get, vec_len, vec_capacity, Some, OnOk, OnErr, IfOk, IfErr, IsErr, IsErrOf, IsTrue};
 ghost use Rattle.sgb_undo.specs.Outcome.{Refused};
 ghost use Rattle.sgb_undo.specs.History.{grows_at};
 ghost use Rattle.sgb_undo.specs.Private.Kept.{places};
 
 use crate::{JournalRefusal, NothingToUndo, Reversible};
-use sgb_rows::{Packed, Rows};
 use std::alloc::{AllocError, Global};
 use std::marker::Model;
 
@@ -24,21 +22,21 @@ pub const GROWTH: usize = 1_024;
 #[derive(Drop)]
 pub struct Journal<M: Reversible> {
     machine: M,
-    commands: Rows<M::Command>,
-    deltas: Rows<M::Delta>,
+    commands: Vec<M::Command>,
+    deltas: Vec<M::Delta>,
 }
 
 impl<M: Reversible> Model for Journal<M> {
-    ghost use Rattle.std.specs.Prelude.{length};
+    ghost use Rattle.std.specs.Prelude.{vec_len, vec_capacity};
     ghost use Rattle.sgb_undo.specs.History.{History};
     ghost use Rattle.sgb_undo.specs.Private.Kept.{history, places, IsSound};
 
     ghost Value = { History M M.Command M.Delta };
 
-    ghost view = { λ j. history M.before j.machine j.commands.items j.deltas.items (length j.deltas.items) };
+    ghost view = { λ j. history M.before j.machine j.commands.items j.deltas.items (vec_len j.deltas) };
 
     ghost invariant = { λ j. IsSound M.step M.before M.can_revert
-        j.machine j.commands.items j.deltas.items 65535 (places j.commands.places j.deltas.places) };
+        j.machine j.commands.items j.deltas.items 65535 (places (vec_capacity j.commands) (vec_capacity j.deltas)) };
 }
 
 impl<M: Reversible> Journal<M> {
@@ -51,8 +49,8 @@ impl<M: Reversible> Journal<M> {
     {
         Journal {
             machine,
-            commands: Rows::new(alloc),
-            deltas: Rows::new(alloc),
+            commands: Vec::new(alloc),
+            deltas: Vec::new(alloc),
         }
     }
 
@@ -74,114 +72,26 @@ impl<M: Reversible> Journal<M> {
         ensures err { OnErr result (self.new ≡ self.old) }
         ensures sound { IsJournal M.step M.before self.new }
     {
-        let mut reply = None;
-        match self.apply_onto(command, &mut reply) {
-            Ok(()) => Ok(reply.unwrap()),
-            Err(refusal) => Err(refusal),
-        }
-    }
-
-    /// Performs a command as [`apply`](Journal::apply) does, and writes its reply where the caller wants it; where it is
-    /// refused, what stands there tells nothing.
-    // A reply may be large: so it is written once, and not handed up from call to call.
-    #[inline(always)]
-    pub fn apply_onto(
-        &mut self,
-        command: M::Command,
-        reply: &mut Option<M::Reply>,
-    ) -> Result<(), JournalRefusal<M::Refusal>>
-        ensures ok { OnOk result ((given : M.Reply) × (reply.new ≡ Some given) × Applies M.step M.before self.old command given self.new) }
-
-        ensures no_room { IsErrOf result JournalRefusal.NoRoom → (self.old.undone ≡ []) × IsTrue (grows_at (length self.old.standing)) }
-        ensures full { IsErrOf result JournalRefusal.Full ↔ (length self.old.standing ≡ 65535) }
-        ensures nothing { IsErrOf result JournalRefusal.NothingToRedo → ⊥ }
-        ensures refused { (r : M.Refusal) → IsErrOf result (JournalRefusal.Machine r)
-            → ((M.is_want_of_memory r ≡ true) × (M.may_want self.old.machine command ≡ true)) ⊎ (M.step self.old.machine command ≡ Refused r) }
-
-        ensures start { self.new.start ≡ self.old.start }
-        ensures err { OnErr result (self.new ≡ self.old) }
-        ensures sound { IsJournal M.step M.before self.new }
-    {
         let standing = self.deltas.len();
         if standing == MOST_COMMANDS {
             return Err(JournalRefusal::Full);
         }
-        if make_place(&mut self.machine, &mut self.commands, &mut self.deltas).is_err() {
+        if make_place(&mut self.commands, &mut self.deltas).is_err() {
             return Err(JournalRefusal::NoRoom);
         }
-        match self.machine.apply_onto(&command, &mut self.deltas, reply) {
-            Ok(()) => {
-                forget(&mut self.commands, standing);
-                self.commands.push_apart(command);
-                Ok(())
+        match self.machine.apply(&command) {
+            Ok((delta, reply)) => {
+                self.commands.truncate(standing);
+                self.commands.push_reserved(command);
+                self.deltas.push_reserved(delta);
+                Ok(reply)
             }
             Err(refusal) => Err(JournalRefusal::Machine(refusal)),
         }
     }
 
-    /// Performs a command that stands in a row, as [`apply`](Journal::apply) does, and writes its reply; or tells `false`
-    /// and changes nothing, where the machine wants it by itself. Where it is refused, what stands in the place of the reply
-    /// tells nothing.
-    #[inline(always)]
-    pub fn apply_row(
-        &mut self,
-        command: <M::Command as Packed>::Row,
-        reply: &mut M::BriefReply,
-    ) -> Result<bool, JournalRefusal<M::Refusal>>
-        requires row { IsOk (M.Command.told command) }
-        ensures ok { IfOk result (λ done. OnTrue done ((c : M.Command) → M.Command.told command ≡ Ok c
-            → Applies M.step M.before self.old c (M.reply_in reply.new) self.new)) }
-        ensures left { IfOk result (λ done. OnFalse done (self.new ≡ self.old)) }
-
-        ensures no_room { IsErrOf result JournalRefusal.NoRoom → (self.old.undone ≡ []) × IsTrue (grows_at (length self.old.standing)) }
-        ensures full { IsErrOf result JournalRefusal.Full ↔ (length self.old.standing ≡ 65535) }
-        ensures nothing { IsErrOf result JournalRefusal.NothingToRedo → ⊥ }
-        ensures refused { (r : M.Refusal) (c : M.Command) → IsErrOf result (JournalRefusal.Machine r) → M.Command.told command ≡ Ok c
-            → ((M.is_want_of_memory r ≡ true) × (M.may_want self.old.machine c ≡ true)) ⊎ (M.step self.old.machine c ≡ Refused r) }
-
-        ensures start { self.new.start ≡ self.old.start }
-        ensures err { OnErr result (self.new ≡ self.old) }
-        ensures sound { IsJournal M.step M.before self.new }
-    {
-        let count = self.deltas.len();
-        if count == MOST_COMMANDS {
-            return Err(JournalRefusal::Full);
-        }
-        if make_place(&mut self.machine, &mut self.commands, &mut self.deltas).is_err() {
-            return Err(JournalRefusal::NoRoom);
-        }
-        match self.machine.apply_row(command, &mut self.deltas, reply) {
-            Ok(true) => {
-                forget(&mut self.commands, count);
-                self.commands.push_row(command);
-                Ok(true)
-            }
-            Ok(false) => Ok(false),
-            Err(reason) => Err(JournalRefusal::Machine(reason)),
-        }
-    }
-
     /// Takes back the last standing command, which becomes the one to redo next. It takes no memory.
-    #[inline(always)]
     pub fn undo(&mut self) -> Result<(), NothingToUndo>
-        ensures ok { OnOk result (Undoes M.step M.before self.old self.new) }
-        ensures nothing { IsErr result ↔ (self.old.standing ≡ []) }
-        ensures start { self.new.start ≡ self.old.start }
-        ensures err { OnErr result (self.new ≡ self.old) }
-        ensures sound { IsJournal M.step M.before self.new }
-    {
-        match self.deltas.pop_row() {
-            Some(row) => {
-                self.machine.revert_row(row);
-                Ok(())
-            }
-            None => self.undo_apart(),
-        }
-    }
-
-    // The same where the last delta stands in no row.
-    #[inline(never)]
-    fn undo_apart(&mut self) -> Result<(), NothingToUndo>
         ensures ok { OnOk result (Undoes M.step M.before self.old self.new) }
         ensures nothing { IsErr result ↔ (self.old.standing ≡ []) }
         ensures start { self.new.start ≡ self.old.start }
@@ -214,82 +124,20 @@ impl<M: Reversible> Journal<M> {
         ensures err { OnErr result (self.new ≡ self.old) }
         ensures sound { IsJournal M.step M.before self.new }
     {
-        let mut reply = None;
-        match self.redo_onto(&mut reply) {
-            Ok(()) => Ok(reply.unwrap()),
-            Err(refusal) => Err(refusal),
-        }
-    }
-
-    /// Performs the first undone command again as [`redo`](Journal::redo) does, and writes its reply as
-    /// [`apply_onto`](Journal::apply_onto) does.
-    #[inline(always)]
-    pub fn redo_onto(
-        &mut self,
-        reply: &mut Option<M::Reply>,
-    ) -> Result<(), JournalRefusal<M::Refusal>>
-        ensures ok { OnOk result ((given : M.Reply) × (reply.new ≡ Some given) × Redoes M.step M.before self.old given self.new) }
-
-        ensures nothing { IsErrOf result JournalRefusal.NothingToRedo ↔ (self.old.undone ≡ []) }
-        ensures no_room { IsErrOf result JournalRefusal.NoRoom → ⊥ }
-        ensures full { IsErrOf result JournalRefusal.Full → ⊥ }
-        ensures refused { (r : M.Refusal) → IsErrOf result (JournalRefusal.Machine r)
-            → (M.is_want_of_memory r ≡ true) × FirstMayWant M.may_want self.old.machine self.old.undone }
-
-        ensures start { self.new.start ≡ self.old.start }
-        ensures err { OnErr result (self.new ≡ self.old) }
-        ensures sound { IsJournal M.step M.before self.new }
-    {
         let next = self.deltas.len();
         if next == self.commands.len() {
             return Err(JournalRefusal::NothingToRedo);
         }
-        let mut room = None;
-        let command = self.commands.get(next, &mut room);
-        match self.machine.apply_onto(command, &mut self.deltas, reply) {
-            Ok(()) => {}
-            Err(want) => return Err(JournalRefusal::Machine(want)),
+        match self.machine.apply(&self.commands[next]) {
+            Ok((delta, reply)) => {
+                self.deltas.push_reserved(delta);
+                Ok(reply)
+            }
+            Err(want) => Err(JournalRefusal::Machine(want)),
         }
-        Ok(())
-    }
-
-    /// Performs the first undone command again as [`redo`](Journal::redo) does, and writes its reply; or tells `false` and
-    /// changes nothing, where it stands in no row, or the machine wants it by itself.
-    #[inline(always)]
-    pub fn redo_row(
-        &mut self,
-        reply: &mut M::BriefReply,
-    ) -> Result<bool, JournalRefusal<M::Refusal>>
-        ensures ok { IfOk result (λ done. OnTrue done (Redoes M.step M.before self.old (M.reply_in reply.new) self.new)) }
-        ensures left { IfOk result (λ done. OnFalse done (self.new ≡ self.old)) }
-
-        ensures nothing { IsErrOf result JournalRefusal.NothingToRedo ↔ (self.old.undone ≡ []) }
-        ensures no_room { IsErrOf result JournalRefusal.NoRoom → ⊥ }
-        ensures full { IsErrOf result JournalRefusal.Full → ⊥ }
-        ensures refused { (r : M.Refusal) → IsErrOf result (JournalRefusal.Machine r)
-            → (M.is_want_of_memory r ≡ true) × FirstMayWant M.may_want self.old.machine self.old.undone }
-
-        ensures start { self.new.start ≡ self.old.start }
-        ensures err { OnErr result (self.new ≡ self.old) }
-        ensures sound { IsJournal M.step M.before self.new }
-    {
-        let place = self.deltas.len();
-        if place == self.commands.len() {
-            return Err(JournalRefusal::NothingToRedo);
-        }
-        let Some(row) = self.commands.row(place) else {
-            return Ok(false);
-        };
-        match self.machine.apply_row(row, &mut self.deltas, reply) {
-            Ok(true) => {}
-            Ok(false) => return Ok(false),
-            Err(reason) => return Err(JournalRefusal::Machine(reason)),
-        }
-        Ok(true)
     }
 
     /// How many commands stand.
-    #[inline]
     pub fn standing(&self) -> usize
         ensures value { result ≡ length self.now.standing }
         ensures sound { IsJournal M.step M.before self.now }
@@ -298,7 +146,6 @@ impl<M: Reversible> Journal<M> {
     }
 
     /// How many commands are undone and can be redone.
-    #[inline]
     pub fn undone(&self) -> usize
         ensures value { result ≡ length self.now.undone }
         ensures sound { IsJournal M.step M.before self.now }
@@ -306,18 +153,16 @@ impl<M: Reversible> Journal<M> {
         self.commands.len() - self.deltas.len()
     }
 
-    /// The standing command at a place, the first at 0, which is put into the room where it stands in a row.
-    #[inline]
-    pub fn command<'a>(&'a self, place: usize, room: &'a mut Option<M::Command>) -> &'a M::Command
+    /// The standing command at a place, the first at 0.
+    pub fn command(&self, place: usize) -> &M::Command
         requires { place < length self.now.standing }
         ensures value { slice_get self.now.standing place ≡ Some result.now }
         ensures sound { IsJournal M.step M.before self.now }
     {
-        self.commands.get(place, room)
+        &self.commands[place]
     }
 
     /// The machine.
-    #[inline]
     pub fn machine(&self) -> &M
         ensures value { result.now ≡ self.now.machine }
         ensures sound { IsJournal M.step M.before self.now }
@@ -326,57 +171,22 @@ impl<M: Reversible> Journal<M> {
     }
 }
 
-/// Forgets the commands behind the first so many. Mostly there are none.
-#[inline(always)]
-fn forget<C: Packed>(commands: &mut Rows<C>, standing: usize)
-    ensures items { commands.new.items ≡ take standing commands.old.items }
-    ensures places { commands.new.places ≡ commands.old.places }
-{
-    if commands.len() > standing {
-        commands.truncate(standing);
-    }
-}
-
-/// Makes a place for one more command and its delta, and for what the machine keeps of it. It takes
-/// memory only where each command has its delta, so that nothing is undone, and a multiple of
-/// [`GROWTH`] stand.
-#[inline(always)]
-fn make_place<M: Reversible>(
-    machine: &mut M,
-    commands: &mut Rows<M::Command>,
-    deltas: &mut Rows<M::Delta>,
-) -> Result<(), AllocError>
-    requires within { length deltas.old.items ≤ length commands.old.items }
-    requires placed { length commands.old.items ≤ places commands.old.places deltas.old.places }
-    ensures machine { machine.new ≡ machine.old }
+/// Makes a place for one more command and its delta. It takes memory only where each command has its
+/// delta, so that nothing is undone, and a multiple of [`GROWTH`] stand.
+fn make_place<C, D>(commands: &mut Vec<C>, deltas: &mut Vec<D>) -> Result<(), AllocError>
+    requires within { vec_len deltas.old ≤ vec_len commands.old }
+    requires placed { vec_len commands.old ≤ places (vec_capacity commands.old) (vec_capacity deltas.old) }
     ensures commands { commands.new.items ≡ commands.old.items }
     ensures deltas { deltas.new.items ≡ deltas.old.items }
-    ensures place { OnOk result (length deltas.new.items < places commands.new.places deltas.new.places) }
-    ensures kept { places commands.old.places deltas.old.places ≤ places commands.new.places deltas.new.places }
-    ensures refused { OnErr result (length deltas.old.items ≡ length commands.old.items) }
-    ensures grows { OnErr result (IsTrue (grows_at (length deltas.old.items))) }
+    ensures place { OnOk result (vec_len deltas.new < places (vec_capacity commands.new) (vec_capacity deltas.new)) }
+    ensures kept { places (vec_capacity commands.old) (vec_capacity deltas.old)
+        ≤ places (vec_capacity commands.new) (vec_capacity deltas.new) }
+    ensures refused { OnErr result (vec_len deltas.old ≡ vec_len commands.old) }
+    ensures grows { OnErr result (IsTrue (grows_at (vec_len deltas.old))) }
 {
     if deltas.len() == commands.len() && deltas.len() % GROWTH == 0 {
-        grow(machine, commands, deltas)?;
+        commands.reserve(GROWTH)?;
+        deltas.reserve(GROWTH)?;
     }
     Ok(())
-}
-
-/// Takes memory for [`GROWTH`] commands more, where each command has its delta.
-#[inline(never)]
-fn grow<M: Reversible>(
-    machine: &mut M,
-    commands: &mut Rows<M::Command>,
-    deltas: &mut Rows<M::Delta>,
-) -> Result<(), AllocError>
-    requires { length deltas.old.items ≡ length commands.old.items }
-    ensures machine { machine.new ≡ machine.old }
-    ensures commands { commands.new.items ≡ commands.old.items }
-    ensures deltas { deltas.new.items ≡ deltas.old.items }
-    ensures place { OnOk result (length deltas.new.items < places commands.new.places deltas.new.places) }
-    ensures kept { places commands.old.places deltas.old.places ≤ places commands.new.places deltas.new.places }
-{
-    commands.reserve(GROWTH)?;
-    deltas.reserve(GROWTH)?;
-    machine.reserve(GROWTH)
 }

@@ -1,13 +1,12 @@
-//! What the commands of a group gave.
+//! The lists of a group's deltas and replies.
 
 ghost use Rattle.std.specs.Prelude.{◌≡◌, ◌==◌, ◌<◌, length, slice_get, Some};
 
 use std::marker::Model;
 
-/// The deltas or the replies of a group's commands, in order.
+/// The deltas or the replies of a group's members, in order.
 ///
-/// Contracts see the list, so that a delta or a reply which holds it is told by the machine's value
-/// and the command.
+/// Contracts see the list alone, so that deltas and replies that hold one are compared by their contents.
 #[derive(Debug, Drop)]
 pub struct Members<T> {
     items: Vec<T>,
@@ -22,37 +21,36 @@ impl<T> Model for Members<T> {
 }
 
 impl<T> Members<T> {
-    pub(crate) fn from_vec(items: Vec<T>) -> Self
+    /// The list of these items. Does not allocate.
+    pub fn from_vec(items: Vec<T>) -> Self
         ensures value { result ≡ items.items }
     {
         Members { items }
     }
 
-    pub(crate) fn into_vec(self) -> Vec<T>
+    /// The items, as the list held them. Does not allocate.
+    pub fn into_vec(self) -> Vec<T>
         ensures value { result.items ≡ self }
     {
         let Members { items } = self;
         items
     }
 
-    /// How many there are.
-    #[inline]
+    /// The number of items.
     pub fn len(&self) -> usize
         ensures value { result ≡ length self.now }
     {
         self.items.len()
     }
 
-    /// Whether there are none.
-    #[inline]
+    /// Whether there are no items.
     pub fn is_empty(&self) -> bool
         ensures value { result ≡ (length self.now == 0) }
     {
         self.items.is_empty()
     }
 
-    /// The one at a place, the first at 0.
-    #[inline]
+    /// The item at a place, the first at 0.
     pub fn get(&self, place: usize) -> &T
         requires within { place < length self.now }
         ensures value { slice_get self.now place ≡ Some result.now }
@@ -60,8 +58,7 @@ impl<T> Members<T> {
         &self.items[place]
     }
 
-    /// All of them.
-    #[inline]
+    /// All items.
     pub fn as_slice(&self) -> &[T]
         ensures value { result.now ≡ self.now }
     {

@@ -1,15 +1,11 @@
-//! Tests of groups and of the journal over small machines.
+//! Tests of the journal and of groups, over a register.
 #![tactic(auto)]
 
 #[cfg(test)]
 mod calls;
 #[cfg(test)]
-mod counter;
-#[cfg(test)]
-mod grouped;
-#[cfg(test)]
 mod groups;
 #[cfg(test)]
-mod stack;
+mod register;
 #[cfg(test)]
 mod tests;

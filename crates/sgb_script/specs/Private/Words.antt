@@ -1,20 +1,19 @@
--- The words of a line, as the program holds them and takes them off from the left.
-use Rattle.std.specs.Prelude.{◌≡◌, ℕ, ℤ, pos, Bool, true, false, ◌⊎◌, List, [], ◌∷◌, Option, None, Some, option_and_then}
+-- How the words of a line are taken off, from the left.
+use Rattle.std.specs.Prelude.{◌≡◌, ℕ, Bool, true, false, ◌⊎◌, List, [], ◌∷◌, Option, None, Some, Result, Ok, Err}
 use Rattle.std.specs.Option.{option_map}
-use Rattle.sgb_graph.specs.Text.{IsText}
 use Rattle.sgb_script.specs.Words.{Word, Plain, Quoted, words_of}
-use Rattle.sgb_script.specs.Arguments.{the_number, four_numbers}
-use Rattle.sgb_script.specs.declared.command.Maker.{Maker}
 use Rattle.sgb_script.specs.declared.words.Word.TheVariants as borrowed
 use Rattle.sgb_script.specs.declared.words.Word as borrowed_word
+use Rattle.sgb_script.specs.declared.refusal.ShellRefusal.{ShellRefusal}
+use Rattle.sgb_script.specs.declared.refusal.ShellRefusal.TheVariants.{ScriptSyntax}
 use denote.Ref.{Bor}
 
--- a word as the program holds it, which borrows its bytes from the line
+-- a word of the program, which borrows its bytes from the line
 abbrev pub seen : borrowed_word.Word → Word
 seen (borrowed.Plain w) = Plain w.now
 seen (borrowed.Quoted t) = Quoted t.now
 
--- the first word and what follows it; nothing where no word is left or the line is none
+-- the first word and the bytes behind it, or nothing if there is no word or the line is malformed
 abbrev pub Splits : Option (List Word) → Option (borrowed_word.Word × Bor (List ℕ)) → Type 0
 Splits words None = (words ≡ None) ⊎ (words ≡ Some [])
 Splits words (Some r) = words ≡ option_map (λ ws. seen r.0 ∷ ws) (words_of r.1.now)
@@ -25,53 +24,33 @@ is_nothing None = false
 is_nothing (Some []) = true
 is_nothing (Some (w ∷ ws)) = false
 
--- so many words, and no more
-abbrev pub one_of : Option (List Word) → Option Word
-one_of None = None
-one_of (Some []) = None
-one_of (Some (a ∷ [])) = Some a
-one_of (Some (a ∷ b ∷ ws)) = None
-
-abbrev pub two_of : Option (List Word) → Option (Word × Word)
-two_of None = None
-two_of (Some []) = None
-two_of (Some (a ∷ ws)) = option_map (λ b. (a, b)) (one_of (Some ws))
-
-abbrev pub three_of : Option (List Word) → Option (Word × Word × Word)
-three_of None = None
-three_of (Some []) = None
-three_of (Some (a ∷ ws)) = option_map (λ p. (a, p.0, p.1)) (two_of (Some ws))
-
-abbrev pub four_of : Option (List Word) → Option (Word × Word × Word × Word)
-four_of None = None
-four_of (Some []) = None
-four_of (Some (a ∷ ws)) = option_map (λ p. (a, p.0, p.1, p.2)) (three_of (Some ws))
-
--- the first word, which is of a kind, and what follows it
+-- what the first word says, read as this argument
 abbrev pub first_of : {A : Type 0} → (Word → Option A) → Option (List Word) → Option A
 first_of f None = None
 first_of f (Some []) = None
 first_of f (Some (w ∷ ws)) = f w
 
-abbrev pub SplitsFirst : {A : Type 0} → (Word → Option A) → Option (List Word) → Option (A × Bor (List ℕ)) → Type 0
-SplitsFirst f words None = first_of f words ≡ None
-SplitsFirst f words (Some r) = (w : Word) × (f w ≡ Some r.0) × (words ≡ option_map (λ ws. w ∷ ws) (words_of r.1.now))
+-- takes the first word off, read as this argument
+abbrev pub Takes : {A : Type 0} → (Word → Option A) → Option (List Word) → Result A ShellRefusal → Option (List Word) → Type 0
+Takes f old (Ok a) new = (w : Word) × (f w ≡ Some a) × (old ≡ option_map (λ ws. w ∷ ws) new)
+Takes f old (Err e) new = (e ≡ ScriptSyntax) × (first_of f old ≡ None)
 
--- digits, which spell a number, and what follows them
-abbrev pub SplitsDigits : Option (List Word) → ℕ → List ℕ → Type 0
-SplitsDigits words n rest = (w : Word) × (the_number w ≡ Some (pos n)) × (words ≡ option_map (λ ws. w ∷ ws) (words_of rest))
+-- takes the first word off, read as bytes of the line
+abbrev pub TakesBytes : (Word → Option (List ℕ)) → Option (List Word) → Result (Bor (List ℕ)) ShellRefusal → Option (List Word) → Type 0
+TakesBytes f old (Ok a) new = (w : Word) × (f w ≡ Some a.now) × (old ≡ option_map (λ ws. w ∷ ws) new)
+TakesBytes f old (Err e) new = (e ≡ ScriptSyntax) × (first_of f old ≡ None)
 
--- four numbers and what follows them, by what these give
-abbrev pub SplitsNumbers : Option (List Word) → Option (ℤ × ℤ × ℤ × ℤ × Bor (List ℕ)) → Type 0
-SplitsNumbers words r =
-    (next : ℤ → ℤ → ℤ → ℤ → List Word → Option Maker) → option_and_then (four_numbers next) words ≡ option_and_then (λ p. option_and_then (next p.0 p.1 p.2 p.3) (words_of p.4.now)) r
+-- takes the first word off
+abbrev pub TakesWord : Option (List Word) → Result borrowed_word.Word ShellRefusal → Option (List Word) → Type 0
+TakesWord old (Ok w) new = old ≡ option_map (λ ws. seen w ∷ ws) new
+TakesWord old (Err e) new = (e ≡ ScriptSyntax) × ((old ≡ None) ⊎ (old ≡ Some []))
 
--- what stands between quotes are texts
-abbrev pub AreTexts : List Word → Type 0
-AreTexts [] = Unit {0}
-AreTexts (Plain w ∷ ws) = AreTexts ws
-AreTexts (Quoted t ∷ ws) = IsText t × AreTexts ws
+-- refuses any word that is left
+abbrev pub Ends : Option (List Word) → Result (Unit {0}) ShellRefusal → Type 0
+Ends words (Ok u) = words ≡ Some []
+Ends words (Err e) = (e ≡ ScriptSyntax) × (is_nothing words ≡ false)
 
-abbrev pub HasTexts : Option (List Word) → Type 0
-HasTexts None = Unit {0}
-HasTexts (Some ws) = AreTexts ws
+-- the bytes of a word without quotes
+abbrev pub the_plain : Word → Option (List ℕ)
+the_plain (Plain w) = Some w
+the_plain (Quoted t) = None

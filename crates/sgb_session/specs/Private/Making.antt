@@ -5,21 +5,23 @@ use Rattle.sgb_graph.specs.declared.refusal.Refusal.{Refusal}
 use Rattle.sgb_graph.specs.declared.refusal.Refusal.TheVariants as graphs
 use Rattle.sgb_graph.specs.Graph.{GraphOf}
 use Rattle.sgb_graph.specs.Delta.{LeftBy}
+use Rattle.sgb_undo.specs.Outcome.{Accepted, Refused}
+use Rattle.sgb_script.specs.declared.command.Single.{Single}
 use Rattle.sgb_script.specs.declared.command.Maker.{Maker}
 use Rattle.sgb_script.specs.declared.command.Maker.TheVariants.{Empty, Complement, Gunion, Intersection, Product, Induced}
 use Rattle.sgb_script.specs.declared.command.Edit.{Edit}
 use Rattle.sgb_script.specs.declared.refusal.ShellRefusal.{ShellRefusal}
-use Rattle.sgb_session.specs.declared.reply.Delta.{Delta}
-use Rattle.sgb_session.specs.declared.reply.Delta.TheVariants as kept
-use Rattle.sgb_session.specs.declared.reply.Reply.{Reply}
-use Rattle.sgb_session.specs.declared.reply.Reply.TheVariants as replies
+use Rattle.sgb_script.specs.declared.refusal.ShellRefusal.TheVariants.{NoRoom}
+use Rattle.sgb_session.specs.declared.reply.SingleDelta.{SingleDelta}
+use Rattle.sgb_session.specs.declared.reply.SingleDelta.TheVariants as kept
+use Rattle.sgb_session.specs.declared.reply.SingleReply.{SingleReply}
+use Rattle.sgb_session.specs.declared.reply.SingleReply.TheVariants as replies
 use Rattle.sgb_session.specs.declared.table.Entry.{Entry}
 use Rattle.sgb_session.specs.Edits.{Edited, edited, edit_has_text, edit_takes_memory}
 use Rattle.sgb_session.specs.Drawing.{Drawing}
 use Rattle.sgb_session.specs.Make.{operands, graph_made, generator_after, kept_of}
 use Rattle.sgb_session.specs.Private.Slots.{held, slot_in, slot_with_graph}
-use Rattle.sgb_session.specs.Source.{turned_back, CanTurnBack}
-use Rattle.sgb_session.specs.State.{State, refusal_of_making}
+use Rattle.sgb_session.specs.State.{State, step, before, can_revert, may_want, refusal_of_making}
 use Rattle.sgb_session.specs.Table.{find, graph_in, has_all, with_graph}
 
 -- whether an edit that is refused so, or not, may want for memory
@@ -27,7 +29,7 @@ abbrev pub edit_may_want : Edit → Option Refusal → Bool
 edit_may_want edit refusal = edit_takes_memory edit && (edit_has_text edit || is_none refusal)
 
 -- the edit is made, or it is refused, or memory was wanted and may be
-abbrev pub Makes : (Option Refusal → Bool) → GraphOf → GraphOf → Edited → Result (GraphDelta × Reply) Refusal → Type 0
+abbrev pub Makes : (Option Refusal → Bool) → GraphOf → GraphOf → Edited → Result (GraphDelta × SingleReply) Refusal → Type 0
 Makes wants old new e (Ok a) = (e.refusal ≡ None) × (new ≡ e.graph) × (a.0 ≡ e.delta) × (a.1 ≡ e.reply) × LeftBy old a.0 new
 Makes wants old new e (Err r) = (new ≡ old) × (((r ≡ graphs.NoRoom) × (wants e.refusal ≡ true)) ⊎ (e.refusal ≡ Some r))
 
@@ -39,10 +41,10 @@ abbrev pub InSlot : (GraphOf → GraphOf → Type 0) → List (Option Entry) →
 InSlot Becomes old new i = (h : GraphOf) × (new ≡ slot_with_graph old i h) × Becomes (held (slot_in old i)).graph h
 
 -- an edit of a graph, whatever it is
-abbrev pub Edits : Edit → Result (GraphDelta × Reply) Refusal → GraphOf → GraphOf → Type 0
+abbrev pub Edits : Edit → Result (GraphDelta × SingleReply) Refusal → GraphOf → GraphOf → Type 0
 Edits edit result g h = Makes (edit_may_want edit) g h (edited g edit) result
 
-abbrev pub with_done : Result GraphDelta Refusal → Result (GraphDelta × Reply) Refusal
+abbrev pub with_done : Result GraphDelta Refusal → Result (GraphDelta × SingleReply) Refusal
 with_done (Ok d) = Ok (d, replies.Done)
 with_done (Err r) = Err r
 
@@ -78,20 +80,17 @@ AnswersGraph m made (Ok g) = made ≡ Ok g
 AnswersGraph m made (Err r) = ((r ≡ graphs.NoRoom) × (may_lack m made ≡ true)) ⊎ (made ≡ Err r)
 
 -- the same with what the maker leaves of the generator, and what is kept of it
-abbrev pub MakesGraph : Drawing → Drawing → List Entry → Maker → Result (GraphOf × Delta) Refusal → Type 0
+abbrev pub MakesGraph : Drawing → Drawing → List Entry → Maker → Result (GraphOf × SingleDelta) Refusal → Type 0
 MakesGraph old new t m (Ok a) = (graph_made old t m ≡ Ok a.0) × (new ≡ generator_after old m) × (a.1 ≡ kept_of old m)
 MakesGraph old new t m (Err r) = (new ≡ old) × AnswersGraph m (graph_made old t m) (Err r)
 
--- the generator behind a graph that nothing keeps
-abbrev pub unmade : Delta → Drawing → Drawing
-unmade (kept.MadeBy source) d = turned_back source d
-unmade k d = d
-
-abbrev pub CanUnmake : Delta → Drawing → Type 0
-CanUnmake (kept.MadeBy source) d = CanTurnBack source d
-CanUnmake k d = Unit {0}
-
 -- a graph that leaves the generator alone
-abbrev pub with_made : Result GraphOf Refusal → Result (GraphOf × Delta) Refusal
+abbrev pub with_made : Result GraphOf Refusal → Result (GraphOf × SingleDelta) Refusal
 with_made (Ok g) = Ok (g, kept.Made)
 with_made (Err r) = Err r
+
+-- a command was performed, with a delta that leads back; or it changed nothing, since it is refused, or since memory
+-- was wanted and may be
+abbrev pub Performs : State → State → Single → Result (SingleDelta × SingleReply) ShellRefusal → Type 0
+Performs old new c (Ok a) = (step old c ≡ Accepted new a.0 a.1) × can_revert new a.0 × (before new a.0 ≡ old)
+Performs old new c (Err r) = (new ≡ old) × (((r ≡ NoRoom) × (may_want old c ≡ true)) ⊎ (step old c ≡ Refused r))

@@ -2,11 +2,11 @@
 use Rattle.std.specs.Prelude.{◌≡◌, ℕ, ◌==◌, ◌≤◌, nat_le, not, Bool, true, false, List, [], ◌∷◌, ◌++◌, length, Option, None, Some, ◌⊎◌, Result, Ok, Err, Vec}
 use Rattle.std.specs.declared.alloc.Global.{Global}
 use Rattle.std.specs.List.{list_all}
-use Rattle.sgb_groups.specs.declared.grouped.GroupedCommand.{GroupedCommand}
-use Rattle.sgb_groups.specs.declared.grouped.GroupedCommand.TheVariants.{One}
 use Rattle.sgb_script.specs.declared.command.Command.{Command}
+use Rattle.sgb_script.specs.declared.command.Command.TheVariants.{One}
+use Rattle.sgb_script.specs.declared.command.Single.{Single}
 use Rattle.sgb_script.specs.declared.command.Line.{Line}
-use Rattle.sgb_script.specs.declared.command.Line.TheVariants.{Nothing, Change, Undo, Redo, Ask, Load, Group, End}
+use Rattle.sgb_script.specs.declared.command.Line.TheVariants.{Nothing, Change, Undo, Redo, Query, Load, Group, End}
 use Rattle.sgb_script.specs.declared.refusal.ShellRefusal.{ShellRefusal}
 use Rattle.sgb_script.specs.declared.refusal.ShellRefusal.TheVariants.{NoRoom, ScriptSyntax}
 use Rattle.sgb_script.specs.Line.{line_of}
@@ -39,7 +39,7 @@ is_load (Some Nothing) = false
 is_load (Some (Change c)) = false
 is_load (Some Undo) = false
 is_load (Some Redo) = false
-is_load (Some (Ask q)) = false
+is_load (Some (Query q)) = false
 is_load (Some (Load name rule)) = true
 is_load (Some Group) = false
 is_load (Some End) = false
@@ -68,7 +68,7 @@ Puts old new line (Ok x) = (is_above line ≡ false) × (new ≡ old ++ (line ++
 Puts old new line (Err r) = ((r ≡ ScriptSyntax) × (is_above line ≡ true)) ⊎ (r ≡ NoRoom)
 
 -- what comes of the text where it ends: a command by itself, or a member of a group
-abbrev pub ClosesText : ScriptUnit → Result Command ShellRefusal → Type 0
+abbrev pub ClosesText : ScriptUnit → Result Single ShellRefusal → Type 0
 ClosesText u (Ok c) =
     ((no_room : Bool) (l : Lists) → unit_told no_room l (as_closed u) ≡ changing no_room l (One c))
     × (text_member (line_of u.first) (as_closed u) ≡ Some (c ∷ []))
@@ -83,20 +83,20 @@ is_group (Some Nothing) = false
 is_group (Some (Change c)) = false
 is_group (Some Undo) = false
 is_group (Some Redo) = false
-is_group (Some (Ask q)) = false
+is_group (Some (Query q)) = false
 is_group (Some (Load name rule)) = false
 is_group (Some Group) = true
 is_group (Some End) = false
 
 -- a member was read, unless it is none or memory was wanted for it
-abbrev pub IsMember : Option (List Command) → Result (Option Command) ShellRefusal → Type 0
+abbrev pub IsMember : Option (List Single) → Result (Option Single) ShellRefusal → Type 0
 IsMember member (Ok None) = member ≡ Some []
 IsMember member (Ok (Some c)) = member ≡ Some (c ∷ [])
 IsMember member (Err r) = ((r ≡ ScriptSyntax) × (member ≡ None)) ⊎ (r ≡ NoRoom)
 
 -- the commands of the members so far; or the group is refused for a line that is wrong, for too many members, or since
 -- memory was wanted for one
-abbrev pub Collects : Option Line → Option (List Command) → Bool → Result (Vec Command Global) ShellRefusal → Type 0
+abbrev pub Collects : Option Line → Option (List Single) → Bool → Result (Vec Single Global) ShellRefusal → Type 0
 Collects first commands has_lines (Ok list) =
     (first ≡ Some Group) × (commands ≡ Some list.items) × (length list.items ≤ 1024)
 Collects first commands has_lines (Err r) =
@@ -104,7 +104,7 @@ Collects first commands has_lines (Err r) =
     ⊎ ((r ≡ NoRoom) × (is_group first ≡ true) × (has_lines ≡ true))
 
 -- the commands of a group with one member more, unless it is none, there are too many, or memory was wanted
-abbrev pub Adds : {X : Type 0} → List Command → List Command → Option (List Command) → Result X ShellRefusal → Type 0
+abbrev pub Adds : {X : Type 0} → List Single → List Single → Option (List Single) → Result X ShellRefusal → Type 0
 Adds old new more (Ok x) = (joined (Some old) more ≡ Some new) × (length new ≤ 1024)
 Adds old new more (Err r) = ((r ≡ ScriptSyntax) × (few (joined (Some old) more) ≡ None)) ⊎ (r ≡ NoRoom)
 
@@ -136,6 +136,6 @@ pub record IsGathered (u : ScriptUnit) (p : Pending) : Type 0 where
 
 -- What comes of the unit where a line ends it. A group that found room for its members may be told as one that did not, and one
 -- that did not as one that did.
-abbrev pub Closes : ScriptUnit → List ℕ → Result GroupedCommand ShellRefusal → Type 0
+abbrev pub Closes : ScriptUnit → List ℕ → Result Command ShellRefusal → Type 0
 Closes u line (Ok c) = (no_room : Bool) (l : Lists) → (wants : Bool) × (unit_told wants l (closed_by u line) ≡ changing no_room l c)
 Closes u line (Err r) = IsRefused (closed_by u line) r

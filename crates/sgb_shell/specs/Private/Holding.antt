@@ -1,5 +1,5 @@
 -- What is kept of a line while its bytes come.
-use Rattle.std.specs.Prelude.{◌≡◌, ℕ, ◌<◌, ◌==◌, ◌||◌, Bool, false, nat_lt, slice_index, List, length, take, drop}
+use Rattle.std.specs.Prelude.{◌≡◌, ℕ, ◌<◌, ◌==◌, Bool, false, nat_lt, slice_index, List, length, take, drop}
 use Rattle.std.specs.List.{list_all}
 use Rattle.sgb_shell.specs.Unit.{unindented}
 
@@ -17,10 +17,6 @@ pub record HeldLine : Type 0 where
 abbrev pub front_of : List ℕ → LineFront
 front_of line = record { bytes = take 6 (unindented line); ends = list_all (λ b. b == 32) (drop 6 (unindented line)) }
 
--- the byte that spaces in front, `group` or `load` begin with
-abbrev pub opens : ℕ → Bool
-opens b = (b == 32 || b == 103) || b == 108
-
 abbrev pub is_above : List ℕ → Bool
 is_above line = nat_lt 8192 (length line)
 
@@ -33,3 +29,7 @@ pub record IsFirstLine (line bytes : List ℕ) : Type 0 where
   pub front : line ≡ take (length line) bytes
   pub newline : slice_index bytes (length line) ≡ 10
   pub plain : (k : ℕ) → k < length line → (slice_index bytes k == 10) ≡ false
+
+-- the bytes have no newline
+abbrev pub HasNoNewline : List ℕ → Type 0
+HasNoNewline bytes = (k : ℕ) → k < length bytes → (slice_index bytes k == 10) ≡ false

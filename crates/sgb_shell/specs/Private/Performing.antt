@@ -1,28 +1,26 @@
 -- What a line or a unit does to the session's journal.
-use Rattle.std.specs.Prelude.{◌≡◌, ℕ, ◌+◌, ◌<◌, ◌^◌, Bool, if◌then◌else◌, List, Option, Result, Ok, Err}
+use Rattle.std.specs.Prelude.{◌≡◌, Bool, if◌then◌else◌, Option, Result, Ok, Err}
 use Rattle.sgb_graph.specs.Graph.{GraphOf}
 use Rattle.sgb_undo.specs.History.{History, IsJournal}
 use Rattle.sgb_undo.specs.declared.refusal.JournalRefusal.{JournalRefusal}
 use Rattle.sgb_undo.specs.declared.refusal.JournalRefusal.TheVariants as journals
 use Rattle.sgb_shell.specs.declared.answer.Answer.{Answer}
 use Rattle.sgb_shell.specs.declared.answer.Answer.TheVariants.{Replied, Refused, Saved}
-use Rattle.sgb_groups.specs.declared.grouped.GroupedCommand.{GroupedCommand}
-use Rattle.sgb_groups.specs.declared.grouped.GroupedDelta.{GroupedDelta}
-use Rattle.sgb_groups.specs.declared.grouped.GroupedReply.{GroupedReply}
-use Rattle.sgb_groups.specs.Grouped.{step, before}
+use Rattle.sgb_script.specs.declared.command.Command.{Command}
+use Rattle.sgb_session.specs.declared.reply.Delta.{Delta}
+use Rattle.sgb_session.specs.declared.reply.Reply.{Reply}
+use Rattle.sgb_session.specs.Command.{step, before}
 use Rattle.sgb_script.specs.declared.command.Line.{Line}
 use Rattle.sgb_script.specs.declared.command.Query.{Query}
 use Rattle.sgb_script.specs.declared.refusal.ShellRefusal.{ShellRefusal}
 use Rattle.sgb_script.specs.declared.refusal.ShellRefusal.TheVariants.{NoRoom, NothingToRedo, JournalFull}
 use Rattle.sgb_session.specs.State.{State, empty}
-use Rattle.sgb_print.specs.Print.{Prints}
-use Rattle.sgb_shell.specs.Answer.{answer_text}
-use Rattle.sgb_shell.specs.Transcript.{Lists, Told, refusals, asked_of, changing, saved_of, line_told, unit_told}
+use Rattle.sgb_shell.specs.Transcript.{Lists, Told, asked_of, changing, saved_of, line_told, unit_told}
 use Rattle.sgb_shell.specs.Unit.{ScriptUnit}
 
 -- the session's journal, as its contracts see it
 abbrev pub Kept : Type 0
-Kept = History State GroupedCommand GroupedDelta
+Kept = History State Command Delta
 
 abbrev pub lists_of : Kept → Lists
 lists_of j = record { standing = j.standing; undone = j.undone }
@@ -38,15 +36,15 @@ refusal_from journals.Full = JournalFull
 refusal_from journals.NothingToRedo = NothingToRedo
 refusal_from (journals.Machine r) = r
 
-abbrev pub answer_from : {X : Type 0} → (X → GroupedReply) → Result X (JournalRefusal ShellRefusal) → Answer
-answer_from reply_of (Ok x) = Replied (reply_of x)
-answer_from reply_of (Err e) = Refused (refusal_from e)
+abbrev pub answer_from : Result Reply (JournalRefusal ShellRefusal) → Answer
+answer_from (Ok reply) = Replied reply
+answer_from (Err e) = Refused (refusal_from e)
 
 -- what is told the lists, where memory is wanted and where it is not
 abbrev pub Telling : Type 0
 Telling = Bool → Lists → Told
 
-abbrev pub by_command : GroupedCommand → Telling
+abbrev pub by_command : Command → Telling
 by_command c no_room l = changing no_room l c
 
 abbrev pub by_line : Option Line → Telling
@@ -60,14 +58,6 @@ pub record Does (tells : Telling) (old new : Kept) (answer : Answer) : Type 0 wh
   pub no_room : Bool
   pub told : tells no_room (lists_of old) ≡ (lists_of new, answer)
   pub begun : IsBegun new
-
--- it was done, and its answer was printed, and counted where it is a refusal
-pub record Tells {X E : Type 0} (tells : Telling) (number : ℕ) (old new : Kept) (count count' : ℕ) (held now : Option (List ℕ)) (failed failed' : Bool)
-    (result : Result X E) : Type 0 where
-  pub answer : Answer
-  pub does : Does tells old new answer
-  pub counted : count < 2 ^ 32 → count' ≡ count + refusals answer
-  pub prints : Prints held now failed failed' result (answer_text number new.machine answer)
 
 -- a graph was saved, or memory was wanted for it
 abbrev pub Saves : GraphOf → Answer → Type 0

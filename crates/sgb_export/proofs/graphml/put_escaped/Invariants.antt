@@ -1,9 +1,8 @@
 use Rattle.std.proofs.Common.{drop}
 use Rattle.std.specs.List.{flat_map}
 use Rattle.sgb_print.proofs.Printing.{Writes}
-use Rattle.sgb_export.specs.Graphml.{entity}
+use Rattle.sgb_export.specs.Graphml.{entity, escaped}
 use Rattle.sgb_export.proofs.graphml.put_escaped.Given as goal
 
 abbrev pub invariant-loop-byte : goal.invariant-loop-byte
-invariant-loop-byte g l = Writes (g.W.Write.contents l.initial.writer.inner) (g.W.Write.contents l.writer.inner) l.initial.writer.failed l.writer.failed
-    (flat_map entity l.text) (flat_map entity (drop l.byte-index l.text))
+invariant-loop-byte g l = Writes l.initial.writer l.writer (escaped l.text) (flat_map entity (drop l.byte-index l.text))

@@ -2,9 +2,9 @@ use Rattle.std.proofs.Common.{drop}
 use Rattle.std.specs.List.{flat_map, range_with_len}
 use Rattle.sgb_graph.specs.Graph.{n_of}
 use Rattle.sgb_print.proofs.Printing.{Writes}
-use Rattle.sgb_export.specs.Private.Parts.{vertex_text}
+use Rattle.sgb_export.specs.Text.{vertex_text}
 use Rattle.sgb_export.proofs.write.put_vertices.Given as goal
 
 abbrev pub invariant-loop-v : goal.invariant-loop-v
-invariant-loop-v g l = Writes (g.W.Write.contents l.initial.writer.inner) (g.W.Write.contents l.writer.inner) l.initial.writer.failed l.writer.failed
+invariant-loop-v g l = Writes l.initial.writer l.writer
     (flat_map (vertex_text l.format l.graph) (range_with_len 0 (n_of l.graph))) (flat_map (vertex_text l.format l.graph) (drop l.v (range_with_len 0 (n_of l.graph))))

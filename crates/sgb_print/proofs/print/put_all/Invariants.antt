@@ -4,5 +4,4 @@ use Rattle.sgb_print.proofs.Printing.{Writes}
 use Rattle.sgb_print.proofs.print.put_all.Given as goal
 
 abbrev pub invariant-loop-piece : goal.invariant-loop-piece
-invariant-loop-piece g l = Writes (g.W.Write.contents l.initial.writer.inner) (g.W.Write.contents l.writer.inner) l.initial.writer.failed l.writer.failed
-    (flat_map (λ piece. piece.now) l.pieces) (flat_map (λ piece. piece.now) (drop l.piece-index l.pieces))
+invariant-loop-piece g l = Writes l.initial.writer l.writer (flat_map (λ piece. piece.now) l.pieces) (flat_map (λ piece. piece.now) (drop l.piece-index l.pieces))

@@ -5,5 +5,5 @@ use Rattle.sgb_print.proofs.Printing.{Writes}
 use Rattle.sgb_print.proofs.show.end_with_fields.Given as goal
 
 abbrev pub invariant-loop-name : goal.invariant-loop-name
-invariant-loop-name g l = Writes (g.W.Write.contents l.initial.writer.inner) (g.W.Write.contents l.writer.inner) l.initial.writer.failed l.writer.failed
+invariant-loop-name g l = Writes l.initial.writer l.writer
     (flat_map (λ p. field_text p.0.now p.1.now) l.fields) (flat_map (λ p. field_text p.0.now p.1.now) (drop l.name-index l.fields))

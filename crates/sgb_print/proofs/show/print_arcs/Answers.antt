@@ -1,31 +1,18 @@
-use Rattle.std.proofs.Common.{◌≡◌, ◌<◌, ◌++◌, List, ℕ, IsSome, sym}
-use Rattle.std.proofs.lemmas.Result.{err_from_is_err_and}
-use Rattle.sgb_graph.specs.Graph.{arc_at, arcs_of, made_of}
-use Rattle.sgb_graph.specs.Edit.{entry_at}
-use Rattle.sgb_print.specs.Show.{arc_line, arcs_text}
-use Rattle.sgb_print.proofs.Printing.{first_items, failing_items}
-use Rattle.sgb_print.proofs.Showing.{All-behind}
+use Rattle.std.proofs.Common.{◌<◌, All, IsSome, ap, subst}
+use Rattle.std.proofs.lemmas.List.Elements.{All-tail}
+use Rattle.sgb_graph.specs.Graph.{arc_at, made_of}
+use Rattle.sgb_print.specs.Show.{arcs_text}
+use Rattle.sgb_print.proofs.Printing.{writes_piece, fails_piece}
 use Rattle.sgb_print.proofs.show.print_arcs.Goals as goal
 
-pub returns-in_err-few : goal.returns-in_err-few
-returns-in_err-few g c =
-    let p = err_from_is_err_and c.from_residual.result c.from_residual.ensures.1 in
-    let s = c.args.graph.now in
-    rw p.1 (
-      failing_items (λ k. arc_line k (entry_at s k)) _ _ _ _ _ (arcs_text s (arcs_of s c.args.vertex.0)) c.loop-left.few.items c.loop-left.left
-          c.loop-left.invariant.written (rw (sym c.as_slice.ensures.value) c.in_err-few.ensures.text.0),
-      c.in_err-few.ensures.text.1,
-    )
-
-pub loop-left-preserved : goal.loop-left-preserved
-loop-left-preserved g c =
-    let s = c.args.graph.now in
-    let few : List ℕ = c.loop-left.few.items in
-    let left : List ℕ = c.loop-left.left in
-    let next : c.in_ok-few.few.items ++ c.print_few.new.left ≡ left = c.in_ok-few.ensures.behind in record {
-      written = rw next (first_items (λ k. arc_line k (entry_at s k)) _ _ _ _ _ _ (arcs_text s (arcs_of s c.args.vertex.0)) few left c.loop-left.invariant.written
-          (rw (sym c.as_slice.ensures.value) c.in_ok-few.ensures.text));
-      live = rw next (All-behind (λ k. IsSome (arc_at s k)) few left c.loop-left.invariant.live);
-      within = rw next (All-behind (λ k. k < made_of s) few left c.loop-left.invariant.within);
-      last = c.in_ok-few.ensures.last;
+pub loop-number-preserved : goal.loop-number-preserved
+loop-number-preserved g c =
+    let s = c.args.graph.now in record {
+      written = writes_piece c.loop-number.invariant.written c.in_ok-print_arc.ensures (ap (arcs_text s) c.in-Some.ensures.steps);
+      live = All-tail (λ k. IsSome (arc_at s k)) _ _ (subst (All (λ k. IsSome (arc_at s k))) c.in-Some.ensures.steps c.loop-number.invariant.live);
+      within = All-tail (λ k. k < made_of s) _ _ (subst (All (λ k. k < made_of s)) c.in-Some.ensures.steps c.loop-number.invariant.within);
     }
+
+pub returns-in_err-print_arc : goal.returns-in_err-print_arc
+returns-in_err-print_arc g c =
+    fails_piece _ c.loop-number.invariant.written c.in_err-print_arc.ensures (ap (arcs_text c.args.graph.now) c.in-Some.ensures.steps) c.from_residual.ensures.0

@@ -6,7 +6,7 @@ use Rattle.sgb_programs.proofs.moves.print_moves.Given as goal
 
 abbrev pub invariant-loop-number : goal.invariant-loop-number
 invariant-loop-number g l = record {
-  written : Writes (g.W.Write.contents l.initial.writer.inner) (g.W.Write.contents l.writer.inner) l.initial.writer.failed l.writer.failed
+  written : Writes l.initial.writer l.writer
       (moves_text l.graph (arcs_of l.graph l.fn.vertex.0)) (moves_text l.graph l.number-iterator);
   live : All (λ k. IsSome (arc_at l.graph k)) l.number-iterator;
   within : All (λ k. k < made_of l.graph) l.number-iterator;

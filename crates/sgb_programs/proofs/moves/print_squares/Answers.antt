@@ -1,36 +1,16 @@
-use Rattle.std.proofs.Common.{◌<◌, ◌≤◌, length, sym, ◌∙◌, zero-add, arith}
-use Rattle.std.specs.List.{range_with_len}
-use Rattle.std.proofs.lemmas.Result.{err_from_is_err_and}
-use Rattle.std.proofs.lemmas.List.FromFn.{get_or-range_with_len, length-range_with_len}
+use Rattle.std.proofs.Common.{arith}
 use Rattle.sgb_graph.specs.Graph.{n_of}
-use Rattle.sgb_print.proofs.Printing.{one_item, failing_item, last_item}
+use Rattle.sgb_print.proofs.Printing.{prints_all, writes_piece, fails_piece, number_and_rest, no_number}
 use Rattle.sgb_programs.specs.Queen.{square_text}
 use Rattle.sgb_programs.proofs.moves.print_squares.Goals as goal
 
 pub returns-in_err-print_square : goal.returns-in_err-print_square
-returns-in_err-print_square g c =
-    let p = err_from_is_err_and c.from_residual.result c.from_residual.ensures.1 in
-    let n = n_of c.args.graph.now in
-    let v = c.loop-v.v in
-    let below : v < n = omega arith in
-    let within : v < length (range_with_len 0 n) = omega (arith, length-range_with_len 0 n) in
-    rw p.1 (
-      failing_item (square_text c.args.graph.now) _ _ _ _ _ _ (range_with_len 0 n) v v within (sym (get_or-range_with_len 0 n v v below ∙ zero-add v))
-          c.loop-v.invariant c.in_err-print_square.ensures.0,
-      c.in_err-print_square.ensures.1,
-    )
+returns-in_err-print_square g c = let s = c.args.graph.now in
+    fails_piece _ c.loop-v.invariant c.in_err-print_square.ensures (number_and_rest (square_text s) (n_of s) c.loop-v.v (omega arith)) c.from_residual.ensures.0
 
 pub loop-v-preserved : goal.loop-v-preserved
-loop-v-preserved g c =
-    let n = n_of c.args.graph.now in
-    let v = c.loop-v.v in
-    let below : v < n = omega arith in
-    let within : v < length (range_with_len 0 n) = omega (arith, length-range_with_len 0 n) in
-    one_item (square_text c.args.graph.now) _ _ _ _ _ _ _ (range_with_len 0 n) v v within (sym (get_or-range_with_len 0 n v v below ∙ zero-add v))
-    c.loop-v.invariant c.in_ok-print_square.ensures
+loop-v-preserved g c = let s = c.args.graph.now in
+    writes_piece c.loop-v.invariant c.in_ok-print_square.ensures (number_and_rest (square_text s) (n_of s) c.loop-v.v (omega arith))
 
 pub returns : goal.returns
-returns g c =
-    let n = n_of c.args.graph.now in
-    let all : length (range_with_len 0 n) ≤ c.loop-v.v = omega (arith, length-range_with_len 0 n) in
-    last_item (square_text c.args.graph.now) _ _ _ _ _ (range_with_len 0 n) c.loop-v.v all c.loop-v.invariant
+returns g c = let s = c.args.graph.now in prints_all c.loop-v.invariant (no_number (square_text s) (n_of s) c.loop-v.v (omega arith))

@@ -6,5 +6,5 @@ use Rattle.sgb_programs.specs.Queen.{square_text}
 use Rattle.sgb_programs.proofs.moves.print_squares.Given as goal
 
 abbrev pub invariant-loop-v : goal.invariant-loop-v
-invariant-loop-v g l = Writes (g.W.Write.contents l.initial.writer.inner) (g.W.Write.contents l.writer.inner) l.initial.writer.failed l.writer.failed
+invariant-loop-v g l = Writes l.initial.writer l.writer
     (flat_map (square_text l.graph) (range_with_len 0 (n_of l.graph))) (flat_map (square_text l.graph) (drop l.v (range_with_len 0 (n_of l.graph))))

@@ -1,5 +1,6 @@
-use Rattle.sgb_programs.proofs.Queens.{queen_cut}
+use Rattle.sgb_print.proofs.Printing.{prints_failed}
+use Rattle.sgb_programs.proofs.Queens.{queen_prints}
 use Rattle.sgb_programs.proofs.moves.queen_metered.Goals as goal
 
 pub returns : goal.returns
-returns g c = record { shows = (queen_cut _ _ c.in-Ok.graph c.in-Ok.ensures c.in-Err.ensures.0, c.in-Err.ensures.1) }
+returns g c = record { shows = queen_prints c.in-Ok.graph c.in-Ok.ensures (prints_failed c.in-Err.ensures) }

@@ -5,5 +5,4 @@ use Rattle.sgb_print.proofs.Printing.{Writes}
 use Rattle.sgb_shell.proofs.answer.print_entries.Given as goal
 
 abbrev pub invariant-loop-place : goal.invariant-loop-place
-invariant-loop-place g l = Writes (g.W.Write.contents l.initial.writer.inner) (g.W.Write.contents l.writer.inner) l.initial.writer.failed l.writer.failed
-    (flat_map entry_text l.session.table) (flat_map entry_text (drop l.place l.session.table))
+invariant-loop-place g l = Writes l.initial.writer l.writer (flat_map entry_text l.session.table) (flat_map entry_text (drop l.place l.session.table))

@@ -2,4 +2,4 @@ use Rattle.sgb_shell.proofs.Performing.{redid}
 use Rattle.sgb_shell.proofs.perform.redo.Goals as goal
 
 pub returns : goal.returns
-returns c b = let e = c.redo.ensures in rw c.answer_to.ensures (redid _ _ (λ reply. reply) _ b e.ok e.nothing e.no_room e.full e.refused e.err e.sound)
+returns c b = let e = c.redo-outcome.ensures in rw c.answer_to.ensures (redid _ _ _ b e.ok e.nothing e.no_room e.full e.refused e.err e.sound)

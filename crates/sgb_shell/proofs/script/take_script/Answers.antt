@@ -8,11 +8,11 @@ use Rattle.sgb_shell.proofs.script.take_script.Goals as goal
 
 pub returns-in_err-count : goal.returns-in_err-count
 returns-in_err-count g c = let p = err_from_is_err_and c.from_residual.result c.from_residual.ensures.1 in
-    rw (p.1, p.2) (failed_read _ _ _ _ _ _ _ _ _ _ _ _ _ _ _ _ _ _ _ c.loop-room.room c.read_on.new.chunk _ c.loop-room.invariant c.in_err-count.ensures)
+    rw (p.1, p.2) (failed_read _ _ _ _ _ _ _ c.loop-room.room c.loop-room.room c.read_on.new.chunk _ c.loop-room.invariant c.in_err-count.ensures)
 
 pub returns-in_err-more : goal.returns-in_err-more
 returns-in_err-more g c = let p = err_from_is_err_and c.from_residual-in_err-more.result c.from_residual-in_err-more.ensures.1 in
-    rw (p.1, p.2) (failed_read _ _ _ _ _ _ _ _ _ _ _ _ _ _ _ _ _ _ _ 1 c.read_on-2.new.chunk _ c.loop-room.invariant c.in_err-more.ensures)
+    rw (p.1, p.2) (failed_read _ _ _ _ _ _ _ c.loop-room.room 1 c.read_on-2.new.chunk _ c.loop-room.invariant c.in_err-more.ensures)
 
 pub returns-then-is_err : goal.returns-then-is_err
 returns-then-is_err g c =
@@ -22,8 +22,8 @@ returns-then-is_err g c =
     let bytes : List ℕ = c.split_at.result.0.now in
     let size : length bytes ≡ n = ap length c.split_at.ensures.front ∙ length-take-le n c.read_on.new.chunk read.1 in
     let whole : length (run.script ++ bytes) ≡ length run.script + n = length-append run.script bytes ∙ ap (λ k. length run.script + k) size in
-    let taken = takes_err _ _ _ _ run.script _ _ _ _ _ _ c.take.result (sym c.is_err.ensures.value ∙ c.if-is_err.true)
-    (c.take.ensures _ run.script (still_few run.script bytes _ n run.rest size read.0) (progress_kept _ _ _ _ _ _ _ _ _ read.6 run.progress)) in record {
+    let taken = takes_err _ c.read_on.new.writer c.take.new.writer run.script _ _ c.take.result (sym c.is_err.ensures.value ∙ c.if-is_err.true)
+    (c.take.ensures _ run.script (still_few run.script bytes _ n run.rest size read.0) (progress_kept _ _ _ _ _ read.6 run.progress)) in record {
       script = run.script ++ bytes;
       few = let rest = run.rest in let within = read.0 in omega arith;
       seldom = let few = run.seldom in let more = read.5 in omega arith;
@@ -43,8 +43,8 @@ loop-room-preserved g c =
     let bytes : List ℕ = c.split_at.result.0.now in
     let size : length bytes ≡ n = ap length c.split_at.ensures.front ∙ length-take-le n c.read_on.new.chunk read.1 in
     let whole : length (run.script ++ bytes) ≡ length run.script + n = length-append run.script bytes ∙ ap (λ k. length run.script + k) size in
-    let taken = takes_ok _ _ _ _ run.script _ _ _ _ _ _ c.take.result (sym c.is_err.ensures.value ∙ c.if-is_err.false)
-    (c.take.ensures _ run.script (still_few run.script bytes _ n run.rest size read.0) (progress_kept _ _ _ _ _ _ _ _ _ read.6 run.progress)) in record {
+    let taken = takes_ok _ c.read_on.new.writer c.take.new.writer run.script _ _ c.take.result (sym c.is_err.ensures.value ∙ c.if-is_err.false)
+    (c.take.ensures _ run.script (still_few run.script bytes _ n run.rest size read.0) (progress_kept _ _ _ _ _ read.6 run.progress)) in record {
       script = run.script ++ bytes;
       taken = Consumes-trans _ _ _ run.script bytes run.taken (subst (Consumes _ _) (sym c.split_at.ensures.front) read.2);
       rest = let rest = run.rest in let within = read.0 in omega arith;
@@ -69,6 +69,6 @@ returns-then-more-gt0 g c =
         (byte.0, Consumes-trans _ _ _ run.script (byte.0 ∷ []) run.taken (subst (Consumes _ _) byte.1 read.2)),
         read.4,
         read.7,
-        progress_kept _ _ _ _ _ _ _ _ _ read.6 run.progress,
+        progress_kept _ _ _ _ _ read.6 run.progress,
       );
     }

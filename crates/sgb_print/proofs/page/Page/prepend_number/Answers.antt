@@ -5,7 +5,7 @@ use Rattle.std.proofs.lemmas.Fmt.{length-decimal-le}
 use Rattle.sgb_print.proofs.page.Page.prepend_number.Goals as goal
 
 pub write_digits-self-inside-requires : goal.write_digits-self-inside-requires
-write_digits-self-inside-requires g c =
+write_digits-self-inside-requires c =
     let few = length-decimal-le 20 c.args.number (omega arith) (omega arith) (omega arith) in
     let held = length-drop c.self.inside.start c.self.inside.bytes in
     let seen : length (drop c.self.inside.start c.self.inside.bytes) ≡ length c.args.self.now = ap length c.self.view_is in
@@ -14,7 +14,7 @@ write_digits-self-inside-requires g c =
     (omega arith, omega arith)
 
 pub returns-clause-count : goal.returns-clause-count
-returns-clause-count g c =
+returns-clause-count c =
     let few = length-decimal-le 20 c.args.number (omega arith) (omega arith) (omega arith) in
     let whole = ap length c.write_digits-self-inside.ensures.written in
     let seen : length (drop c.self.inside.start c.self.inside.bytes) ≡ length c.args.self.now = ap length c.self.view_is in

@@ -4,13 +4,12 @@ use Rattle.arrayvec.proofs.ArrayVecLemmas.{items-with_items}
 use Rattle.sgb_session.proofs.Tables.{becomes_shown}
 use Rattle.sgb_session.proofs.table.Table.edit.Goals as goal
 use Rattle.sgb_session.specs.Private.Making.{AtPlace, InSlot, Edits}
-use Rattle.sgb_session.specs.State.{told}
 use Rattle.sgb_session.specs.Private.Slots.{held}
 
 pub returns : goal.returns
 returns c =
     let ss = c.self.inside.entries.items in
-    let edits = Edits c.args.edit.now (told c.edit_slot.new.delta c.edit_slot.new.reply c.edit_slot.result) in
+    let edits = Edits c.args.edit.now c.edit_slot.result in
     let ts = (with_items c.self.inside.entries c.edit_slot.new.slots).items in
     let items = items-with_items c.self.inside.entries c.edit_slot.new.slots (c.edit_slot.auto.slots ∙ ap length c.as_mut_slice.ensures.value) in
     let made = subst (λ xs. InSlot edits xs c.edit_slot.new.slots c.args.place) c.as_mut_slice.ensures.value c.edit_slot.ensures in

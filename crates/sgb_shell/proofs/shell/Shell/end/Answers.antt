@@ -1,19 +1,13 @@
-use Rattle.std.proofs.Common.{arith, ◌≤◌, ◌^◌, length}
-use Rattle.std.proofs.lemmas.Result.{err_from_is_err_and}
-use Rattle.sgb_shell.specs.Lines.{whole_lines, lines}
-use Rattle.sgb_shell.proofs.Bytes.{ended_unit}
-use Rattle.sgb_shell.proofs.LineEnds.{length-lines}
-use Rattle.sgb_shell.proofs.Reaching.{stopped_before}
+use Rattle.std.proofs.Common.{refl, sym, subst}
+use Rattle.sgb_shell.specs.Private.Reaching.{Reached}
+use Rattle.sgb_shell.proofs.Reaching.{end_none, end_refused}
 use Rattle.sgb_shell.proofs.shell.Shell.end.Goals as goal
 
-pub returns-in_err-end_line : goal.returns-in_err-end_line
-returns-in_err-end_line g c held script few p =
-    let r = err_from_is_err_and c.from_residual.result c.from_residual.ensures.1 in
-    let failed = c.in_err-end_line.ensures held script few p in
-    rw r.1 (stopped_before held _ (whole_lines script) (lines script) failed.0, failed.1)
+pub returns-in_default : goal.returns-in_default
+returns-in_default g c held ls few reached =
+    (end_none held _ ls _ _ _ _ _ (sym c.in_default.ensures.value) (subst (Reached held _ ls) (sym c.self.view_is) reached), refl)
 
 pub returns : goal.returns
-returns g c held script few p =
-    let more = c.in_ok-end_line.ensures held script few p in
-    let few_lines : length (lines script) ≤ 2 ^ 32 = omega (arith, length-lines script) in
-    ended_unit held _ _ _ _ script _ _ c.end_unit.result more.1 (c.end_unit.ensures held (lines script) few_lines more.0)
+returns g c held ls few reached =
+    end_refused held _ _ ls c.self.inside.journal c.in-Some.unit _ _ _ _ c.refusal.result c.tell.result _ few (sym c.in-Some.ensures.value)
+    (subst (Reached held _ ls) (sym c.self.view_is) reached) c.refusal.ensures c.tell.ensures.refused c.tell.ensures.prints

@@ -5,7 +5,5 @@ use Rattle.sgb_shell.proofs.shell.Shell.new.Goals as goal
 
 pub returns : goal.returns
 returns c held =
-    let value = c.new-3.ensures.value in record {
-      reached = nothing_reached held c.new-3.result (record { start = ap (λ j. j.start) value ∙ c.new-2.ensures.value; sound = c.new-3.ensures.sound }) (ap lists_of value);
-      holds = c.in_ok-line.ensures;
-    }
+    let value = c.new-2.ensures.value in
+    nothing_reached held c.new-2.result (record { start = ap (λ j. j.start) value ∙ c.new.ensures; sound = c.new-2.ensures.sound }) (ap lists_of value)

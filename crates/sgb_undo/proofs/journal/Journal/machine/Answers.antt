@@ -1,6 +1,5 @@
-use Rattle.std.proofs.Common.{length, refl}
 use Rattle.sgb_undo.proofs.Keeping.{IsJournal-seen}
 use Rattle.sgb_undo.proofs.journal.Journal.machine.Goals as goal
 
 pub returns-clause-sound : goal.returns-clause-sound
-returns-clause-sound g c = IsJournal-seen c.self.invariant (refl {a = length c.self.inside.deltas.items}) c.self.view_is
+returns-clause-sound g c = IsJournal-seen c.self.invariant c.self.inside.deltas.ok.0 c.self.view_is

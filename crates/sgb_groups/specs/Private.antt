@@ -1,2 +1,0 @@
--- What serves private functions only.
-pub mod Kept

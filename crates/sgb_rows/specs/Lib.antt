@@ -1,3 +1,0 @@
-pub mod Byte
-pub mod Listed
-pub mod Private
