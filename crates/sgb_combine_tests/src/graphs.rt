@@ -5,8 +5,8 @@ use sgb_combine::{
     ComplementSpec, GunionSpec, ProductSpec, complement, gunion, intersection, product,
 };
 use sgb_graph::{
-    ArcNo, ArcPart, ArcView, Graph, Items, Label, PackedPart, Parts, Refusal, Text, Tip, Types,
-    Util, VertexNo, VertexPart,
+    ArcNo, ArcPart, ArcView, Graph, Items, Label, Parts, Refusal, Text, Tip, Types, Util, VertexNo,
+    VertexPart,
 };
 use std::alloc::Global;
 
@@ -82,7 +82,7 @@ pub fn leading_to(alloc: Global, tip: Tip) -> Made {
         types: Types::none(),
         fields: zeros(),
         vertices: Items::from_vec(vec![in alloc; vertex]?),
-        arcs: Items::from_vec(vec![in alloc; PackedPart::new(arc)]?),
+        arcs: Items::from_vec(vec![in alloc; arc]?),
     };
     Graph::build(alloc, parts)
 }

@@ -2,8 +2,8 @@
 
 use sgb_export::{ExportFault, Format, export};
 use sgb_graph::{
-    ArcNo, ArcPart, Graph, Items, Label, PackedPart, Parts, Refusal, Text, Tip, Types, Util,
-    VertexNo, VertexPart,
+    ArcNo, ArcPart, Graph, Items, Label, Parts, Refusal, Text, Tip, Types, Util, VertexNo,
+    VertexPart,
 };
 use sgb_print::MeteredWriter;
 use std::alloc::Global;
@@ -150,7 +150,7 @@ pub fn leading_to(alloc: Global, tip: Tip) -> Made {
         types: Types::none(),
         fields: zeros(),
         vertices: Items::from_vec(vec![in alloc; vertex]?),
-        arcs: Items::from_vec(vec![in alloc; PackedPart::new(arc)]?),
+        arcs: Items::from_vec(vec![in alloc; arc]?),
     };
     Graph::build(alloc, parts)
 }

@@ -9,7 +9,7 @@ use crate::bytes::after;
 use crate::fields::{comma, fields, is_none_written, link, tip};
 use crate::numbers::{count, number};
 use crate::strings::{label, text};
-use sgb_graph::{ArcPart, Items, PackedPart, Text, Util, VertexPart};
+use sgb_graph::{ArcPart, Items, Text, Util, VertexPart};
 use std::alloc::Global;
 
 /// The most bytes of an id.
@@ -86,7 +86,7 @@ pub(crate) fn arcs<'a>(
     letters: &[u8],
     count: u64,
     bytes: &'a [u8],
-) -> Result<(Items<PackedPart>, &'a [u8]), Fault>
+) -> Result<(Items<ArcPart>, &'a [u8]), Fault>
     requires { length letters.now ≡ 2 }
     ensures { Reads result (arcs_at letters.now count bytes.now) }
 {
@@ -131,7 +131,7 @@ fn vertex<'a>(
 }
 
 #[tactic(auto, unfolding(crate::specs::Record::arc_at))]
-fn arc<'a>(alloc: Global, letters: &[u8], bytes: &'a [u8]) -> Result<(PackedPart, &'a [u8]), Fault>
+fn arc<'a>(alloc: Global, letters: &[u8], bytes: &'a [u8]) -> Result<(ArcPart, &'a [u8]), Fault>
     requires { length letters.now ≡ 2 }
     ensures { Reads result (arc_at letters.now bytes.now) }
 {
@@ -140,13 +140,15 @@ fn arc<'a>(alloc: Global, letters: &[u8], bytes: &'a [u8]) -> Result<(PackedPart
     let (len, rest) = number(comma(rest)?)?;
     let (values, rest) = two_fields(alloc, letters, rest)?;
     let rest = after(b"\n", rest)?;
-    let part = ArcPart {
-        tip: to,
-        len,
-        fields: values,
-        next,
-    };
-    Ok((PackedPart::new(part), rest))
+    Ok((
+        ArcPart {
+            tip: to,
+            len,
+            fields: values,
+            next,
+        },
+        rest,
+    ))
 }
 
 // The six fields of a vertex or of the graph, and what follows them.

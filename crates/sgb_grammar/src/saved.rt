@@ -11,7 +11,7 @@ use crate::header::ends_line;
 use crate::numbers::number;
 use crate::records::{Own, arcs, own_record, vertices};
 use crate::{Fault, Header};
-use sgb_graph::{Items, PackedPart, Parts, VertexPart};
+use sgb_graph::{ArcPart, Items, Parts, VertexPart};
 use std::alloc::Global;
 
 /// What a text holds under its first line: the parts of a graph, the check number that it names, and the bytes before
@@ -28,7 +28,7 @@ pub struct Saved<'a> {
 struct Records {
     own: Own,
     vertices: Items<VertexPart>,
-    arcs: Items<PackedPart>,
+    arcs: Items<ArcPart>,
 }
 
 /// Reads what follows a first line. Takes memory for the records and their texts, no more for records than the bytes
@@ -108,7 +108,7 @@ fn arc_records<'a>(
     alloc: Global,
     header: &Header,
     bytes: &'a [u8],
-) -> Result<(Items<PackedPart>, &'a [u8]), Fault>
+) -> Result<(Items<ArcPart>, &'a [u8]), Fault>
     ensures { Reads result (arcs_in header.now bytes.now) }
 {
     let rest = after(b"* Arcs\n", bytes)?;

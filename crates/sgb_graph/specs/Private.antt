@@ -1,8 +1,6 @@
 pub mod Aim
 pub mod Apart
 pub mod Arena
-pub mod Beside
-pub mod BesideLaws
 pub mod Blank
 pub mod Cells
 pub mod CodeLaws

@@ -1,5 +1,5 @@
 //! The parts of a graph, as they are saved: records that are linked by number.
-use crate::{ArcNo, Items, Label, PackedPart, Text, Tip, Types, Util};
+use crate::{ArcNo, Items, Label, Text, Tip, Types, Util};
 
 /// What `Graph::build` makes a graph of: its id, letters and own fields, its vertices, and the records of its arcs by
 /// number. A record that no chain reaches is a hole, whatever it holds.
@@ -9,7 +9,7 @@ pub struct Parts {
     pub types: Types,
     pub fields: [Util; 6],
     pub vertices: Items<VertexPart>,
-    pub arcs: Items<PackedPart>,
+    pub arcs: Items<ArcPart>,
 }
 
 /// A vertex: its name, its fields in the order of `VertexField`, and the first of its arcs.

@@ -2,8 +2,8 @@
 
 use crate::looks::{has_counts, has_id, is_arc, is_hole, lists, shows};
 use sgb_graph::{
-    ArcNo, ArcPart, Graph, Items, Label, PackedPart, Parts, Refusal, Text, Tip, Types, Util,
-    VertexNo, VertexPart,
+    ArcNo, ArcPart, Graph, Items, Label, Parts, Refusal, Text, Tip, Types, Util, VertexNo,
+    VertexPart,
 };
 use std::alloc::Global;
 use std::test::Fail;
@@ -37,17 +37,17 @@ fn vertex(alloc: Global, label: &[u8], first: Option<ArcNo>) -> Result<VertexPar
     })
 }
 
-fn record(tip: u32, value: Util, next: Option<ArcNo>) -> PackedPart {
-    PackedPart::new(ArcPart {
+fn record(tip: u32, value: Util, next: Option<ArcNo>) -> ArcPart {
+    ArcPart {
         tip: Tip::To(VertexNo(tip)),
         len: 5,
         fields: [value, Util::Vertex(VertexNo(1))],
         next,
-    })
+    }
 }
 
 // The records of an edge that names its second arc, and one that no chain reaches. A next arc is the same for all.
-fn records(alloc: Global, next: Option<ArcNo>) -> Result<Items<PackedPart>, Refusal> {
+fn records(alloc: Global, next: Option<ArcNo>) -> Result<Items<ArcPart>, Refusal> {
     let mut arcs = Items::new(alloc);
     arcs.reserve(3)?;
     arcs.push(record(1, Util::Arc(ArcNo(1)), next))?;
@@ -61,7 +61,7 @@ fn two_vertices(
     alloc: Global,
     first: Option<ArcNo>,
     second: Option<ArcNo>,
-    arcs: Items<PackedPart>,
+    arcs: Items<ArcPart>,
 ) -> Result<Parts, Refusal> {
     let vertices = vec![in alloc; vertex(alloc, b"a", first)?, vertex(alloc, b"b", second)?]?;
     Ok(Parts {

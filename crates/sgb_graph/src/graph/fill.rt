@@ -1,5 +1,5 @@
 //! Putting the names, tips, lengths and values of saved parts into a graph.
-ghost use Rattle.std.specs.Prelude.{◌≡◌, ◌<◌, ◌&&◌, length, slice_index_or, map, true, false, IsTrue, None, IfErr, OnOk};
+ghost use Rattle.std.specs.Prelude.{◌≡◌, ◌<◌, ◌∷◌, ◌&&◌, [], length, slice_index_or, map, true, false, IsTrue, None, IfErr, OnOk};
 ghost use Rattle.sgb_graph.specs.Graph.{IsGraph, n_of, made_of, has_arc};
 ghost use Rattle.sgb_graph.specs.Edit.{with_util, with_label, util_at, has_place, can_name, stored, refusal_of_util};
 ghost use Rattle.sgb_graph.specs.Private.Aim.{can_lead, with_aim};
@@ -9,10 +9,9 @@ ghost use Rattle.sgb_graph.specs.Private.Fill.{SameNames, can_name_each, can_nam
 use super::Graph;
 use super::codes::TipCode;
 use super::fields::is_zero;
-use crate::packed::two;
 use crate::{
-    ArcField, ArcNo, ArcPart, GraphField, Label, PackedPart, Place, Refusal, Tip, Util,
-    VertexField, VertexNo, VertexPart,
+    ArcField, ArcNo, ArcPart, GraphField, Label, Place, Refusal, Tip, Util, VertexField, VertexNo,
+    VertexPart,
 };
 
 impl Graph {
@@ -58,7 +57,7 @@ impl Graph {
 
     // Gives each live arc the tip, the length and the values of its record. Refused where one of them names what is not
     // there; the arcs behind that one are filled then.
-    pub(super) fn fill_arcs(&mut self, mut arcs: Vec<PackedPart>) -> Result<(), Refusal>
+    pub(super) fn fill_arcs(&mut self, mut arcs: Vec<ArcPart>) -> Result<(), Refusal>
         requires { made_of self.old ≡ length arcs.items }
         ensures ok { OnOk result (FillsArcs arcs.items self.old self.new) }
         ensures err { IfErr result (λ e. (e ≡ Refusal.BadOperand) × (can_name_arcs self.old arcs.items ≡ false)) }
@@ -67,11 +66,10 @@ impl Graph {
         while let Some(part) = arcs.pop() {
             let number = ArcNo(arcs.len() as u32);
             if self.has_arc(number) {
-                let record = part.get();
-                if !self.can_name_part(&record) {
+                if !self.can_name_part(&part) {
                     return Err(Refusal::BadOperand);
                 }
-                self.fill_arc(number, record);
+                self.fill_arc(number, part);
             }
         }
         Ok(())
@@ -198,4 +196,11 @@ fn six(fields: [Util; 6]) -> (Util, Util, Util, Util, Util, Util)
 {
     let [u, v, w, x, y, z] = fields;
     (u, v, w, x, y, z)
+}
+
+fn two(fields: [Util; 2]) -> (Util, Util)
+    ensures { fields ≡ result.0 ∷ result.1 ∷ [] }
+{
+    let [a, b] = fields;
+    (a, b)
 }

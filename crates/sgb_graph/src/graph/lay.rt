@@ -9,7 +9,7 @@ use super::arena::Arena;
 use super::codes::{Link, OwnerCode};
 use super::vertices::Vertices;
 use super::{Graph, MOST_ARCS};
-use crate::{ArcNo, PackedPart, Refusal, VertexNo, VertexPart};
+use crate::{ArcNo, ArcPart, Refusal, VertexNo, VertexPart};
 use std::alloc::{AllocError, Global};
 
 /// A record's link, and the vertex whose chain it stands in, as far as the chains were followed.
@@ -24,7 +24,7 @@ impl Graph {
     pub(super) fn laid(
         alloc: Global,
         vertices: &[VertexPart],
-        arcs: &[PackedPart],
+        arcs: &[ArcPart],
     ) -> Result<Graph, Refusal>
         requires vertices { length vertices.now ≤ 65535 }
         requires arcs { length arcs.now ≤ 1000000 }
@@ -60,14 +60,14 @@ impl Graph {
 }
 
 // The links of the records, none of which stands in a chain so far.
-fn unowned(alloc: Global, arcs: &[PackedPart]) -> Result<Vec<Chained>, AllocError>
+fn unowned(alloc: Global, arcs: &[ArcPart]) -> Result<Vec<Chained>, AllocError>
     ensures { IfOk result (λ rows. rows.items ≡ map unowned arcs.now) }
 {
     let mut rows = Vec::with_capacity(alloc, arcs.len())?;
     for part in arcs {
         rows.push(Chained {
             owner: OwnerCode::none(),
-            next: kept_link(part.next()),
+            next: kept_link(part.next),
         })?;
     }
     Ok(rows)

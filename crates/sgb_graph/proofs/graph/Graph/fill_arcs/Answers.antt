@@ -3,7 +3,7 @@ use Rattle.sgb_graph.proofs.FillingAll.{arcs_filling_begins, arc_filled_more, ar
 use Rattle.std.proofs.Common.{length}
 use Rattle.std.proofs.lemmas.List.{length_push}
 use Rattle.sgb_graph.specs.Graph.{has_arc}
-use Rattle.sgb_graph.specs.Private.Fill.{can_name_part, with_filled_arc}
+use Rattle.sgb_graph.specs.Private.Fill.{with_filled_arc}
 use Rattle.sgb_graph.proofs.graph.Graph.fill_arcs.Goals as goal
 
 pub loop-part-init : goal.loop-part-init
@@ -15,14 +15,14 @@ returns-then-not-can_name_part-clause-err c =
       refl,
       arc_unnamed c.args.arcs.items c.loop-part.arcs.items c.pop.new.self.items c.in-Some.part c.args.self.now c.loop-part.self c.loop-part.invariant c.in-Some.ensures.items
           (ap (has_arc c.loop-part.self) (sym at) ∙ (sym c.has_arc.ensures.value ∙ c.if-has_arc.true))
-          (ap (can_name_part c.loop-part.self) (sym c.get-record.ensures) ∙ (sym c.can_name_part.ensures ∙ c.if-not-can_name_part.true)),
+          (sym c.can_name_part.ensures ∙ c.if-not-can_name_part.true),
     )
 
 pub loop-part-preserved-then-has_arc : goal.loop-part-preserved-then-has_arc
 loop-part-preserved-then-has_arc c =
     let at : c.len.result ≡ length c.pop.new.self.items = c.len.ensures ∙ c.pop.new.self.ok.0 in
     arc_filled_more c.args.arcs.items c.loop-part.arcs.items c.pop.new.self.items c.in-Some.part c.args.self.now c.loop-part.self c.fill_arc.new.self c.loop-part.invariant c.in-Some.ensures.items c.requires
-    (c.fill_arc.ensures.filled ∙ (ap (λ k. with_filled_arc c.loop-part.self k c.get-record.result) at ∙ ap (with_filled_arc c.loop-part.self (length c.pop.new.self.items)) c.get-record.ensures)) c.fill_arc.ensures.sound
+    (c.fill_arc.ensures.filled ∙ ap (λ k. with_filled_arc c.loop-part.self k c.in-Some.part) at) c.fill_arc.ensures.sound
 
 pub loop-part-preserved : goal.loop-part-preserved
 loop-part-preserved c =
