@@ -66,24 +66,21 @@ pub(crate) struct Arena {
     fields: Vec<[Util; 2]>,
     // For how many slots there is room, and for the fields of each.
     room: usize,
-    // Only where each arc leads to a vertex.
-    aimed: bool,
     // What all others have.
     zeros: [Util; 2],
 }
 
 impl Model for Arena {
-    ghost use Rattle.std.specs.Prelude.{◌≡◌, ◌≤◌, List, Option, true, vec_len, vec_capacity};
-    ghost use Rattle.std.specs.List.{list_all};
+    ghost use Rattle.std.specs.Prelude.{◌≡◌, ◌≤◌, List, Option, vec_len, vec_capacity};
     ghost use Rattle.sgb_graph.specs.declared.graph.arena.Slot.{Slot};
 
     ghost Value = { List (Option Slot) };
 
-    ghost use Rattle.sgb_graph.specs.Private.Cells.{zipped, two_zeros, is_aimed};
+    ghost use Rattle.sgb_graph.specs.Private.Cells.{zipped, two_zeros};
 
     ghost view = { λ a. zipped a.cells.items a.fields.items };
 
-    ghost invariant = { λ a. (vec_len a.fields ≤ vec_len a.cells) × (vec_len a.cells ≤ a.room) × (a.room ≤ vec_capacity a.cells) × (a.room ≤ vec_capacity a.fields) × (a.zeros ≡ two_zeros) × (a.room ≤ 1000000) × (a.aimed ≡ true → list_all is_aimed a.cells.items ≡ true) };
+    ghost invariant = { λ a. (vec_len a.fields ≤ vec_len a.cells) × (vec_len a.cells ≤ a.room) × (a.room ≤ vec_capacity a.cells) × (a.room ≤ vec_capacity a.fields) × (a.zeros ≡ two_zeros) × (a.room ≤ 1000000) };
 }
 
 impl Arena {
@@ -95,7 +92,6 @@ impl Arena {
             cells: Vec::new(alloc),
             fields: Vec::new(alloc),
             room: 0,
-            aimed: true,
             zeros: two_zeros(),
         }
     }
@@ -115,7 +111,6 @@ impl Arena {
             cells,
             fields,
             room,
-            aimed: false,
             zeros: two_zeros(),
         })
     }
@@ -313,7 +308,6 @@ impl Arena {
     {
         self.cells.truncate(0);
         self.fields.truncate(0);
-        self.aimed = true;
         self
     }
 
@@ -340,7 +334,6 @@ impl Arena {
             names: 0,
             len,
         };
-        self.aimed = stays_aimed(self.aimed, &cell);
         self.cells[number.0 as usize] = Packed::new(cell);
     }
 
@@ -392,23 +385,12 @@ impl Arena {
         self.cells[index].get()
     }
 
-    // Keeps this of the slot, beside its fields: it leads to a vertex where the slot's arc did.
+    // Keeps this of the slot, beside its fields.
     #[inline]
     fn set_cell(&mut self, index: usize, cell: Cell)
-        requires live { IsSome (slot_at self.old index) }
-        requires aims { is_aimed cell ≡ leads_on (entry_of (slot_at self.old index)) }
-        ensures { self.new ≡ slice_set self.old index (slot_with (fields_in (slot_at self.old index)) cell) }
-    {
-        self.cells[index] = Packed::new(cell);
-    }
-
-    // The same, wherever it leads.
-    #[inline]
-    fn put_cell(&mut self, index: usize, cell: Cell)
         requires { IsSome (slot_at self.old index) }
         ensures { self.new ≡ slice_set self.old index (slot_with (fields_in (slot_at self.old index)) cell) }
     {
-        self.aimed = stays_aimed(self.aimed, &cell);
         self.cells[index] = Packed::new(cell);
     }
 
@@ -563,7 +545,7 @@ impl Arena {
         let mut cell = self.cell(number.0 as usize);
         cell.tip = tip;
         cell.len = len;
-        self.put_cell(number.0 as usize, cell);
+        self.set_cell(number.0 as usize, cell);
     }
 
     /// The fields of a live arc.
@@ -613,18 +595,11 @@ impl Arena {
         are_cells_honest(letters, &self.cells, &self.fields)
     }
 
-    /// Each arc leads to a vertex. That all do is mostly known, and else all are looked at.
+    /// Each arc leads to a vertex.
     pub fn is_aimed(&self) -> bool
         ensures { result ≡ list_all (λ o. leads_on (entry_of o)) self.now }
     {
-        self.aimed || are_cells_aimed(&self.cells)
-    }
-
-    /// Looks anew whether each arc leads to a vertex, where some were put in that may not.
-    pub fn look_at_tips(&mut self)
-        ensures { self.new ≡ self.old }
-    {
-        self.aimed = are_cells_aimed(&self.cells);
+        are_cells_aimed(&self.cells)
     }
 
     /// The slots are alike, but for what the others tell.
@@ -773,14 +748,6 @@ fn is_aimed(cell: &Cell) -> bool
         Some(_) => matches!(cell.tip.get(), Tip::To(_)),
         None => true,
     }
-}
-
-// The cells were aimed, and so is the one that is put in.
-#[inline]
-fn stays_aimed(aimed: bool, cell: &Cell) -> bool
-    ensures { result ≡ (aimed && is_aimed cell.now) }
-{
-    aimed && is_aimed(cell)
 }
 
 fn are_cells_aimed(cells: &[Packed]) -> bool

@@ -42,16 +42,6 @@ impl Graph {
         graph.fill_own(fields);
         let _ = graph.set_types(types);
         let _ = graph.set_id(id)?;
-        graph.look_at_tips();
         Ok(graph)
-    }
-}
-
-impl Graph {
-    // Sees whether each arc leads to a vertex, so that no later question need look at them.
-    fn look_at_tips(&mut self)
-        ensures { self.new ≡ self.old }
-    {
-        self.slots.look_at_tips();
     }
 }

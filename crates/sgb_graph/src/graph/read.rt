@@ -120,8 +120,7 @@ impl Graph {
         self.slots.arc(number)
     }
 
-    /// Whether every arc leads to a vertex, and none to 0 or 1. Takes no memory, and no time where the graph was made
-    /// so and was only edited; a graph in which an arc led elsewhere takes time of all arc numbers.
+    /// Whether every arc leads to a vertex, and none to 0 or 1. Takes no memory, and time of all arc numbers.
     pub fn leads_on(&self) -> bool
         ensures { result ≡ list_all leads_on self.now.entries }
     {

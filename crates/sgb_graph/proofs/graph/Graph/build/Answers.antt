@@ -40,8 +40,7 @@ returns-in_err-set_id-clause-err c =
 pub returns-clause-ok : goal.returns-clause-ok
 returns-clause-ok c =
     let x = lays_moved _ _ _ _ c.in_ok-graph.graph (c.deref.ensures.value ∙ c.into_vec-vertices.ensures) (c.deref-2.ensures.value ∙ c.into_vec-arcs.ensures) c.in_ok-graph.ensures.ok in
-    subst (Builds c.args.parts) (sym c.look_at_tips.ensures)
-    (builds c.args.parts c.in_ok-graph.graph c.fill_vertices.new.self c.fill_arcs.new.self c.fill_own.new.self c.set_types.new.self c.set_id.new.self x
+    builds c.args.parts c.in_ok-graph.graph c.fill_vertices.new.self c.fill_arcs.new.self c.fill_own.new.self c.set_types.new.self c.set_id.new.self x
     (subst (λ vs. FillsVertices vs c.in_ok-graph.graph c.fill_vertices.new.self) c.into_vec-vertices.ensures c.fill_vertices.ensures)
     (subst (λ rs. FillsArcs rs c.fill_vertices.new.self c.fill_arcs.new.self) c.into_vec-arcs.ensures c.in_ok-fill_arcs.ensures.ok)
-    c.fill_own.ensures c.set_types.ensures.graph c.in_ok-set_id.ensures.graph c.in_ok-set_id.ensures.sound)
+    c.fill_own.ensures c.set_types.ensures.graph c.in_ok-set_id.ensures.graph c.in_ok-set_id.ensures.sound

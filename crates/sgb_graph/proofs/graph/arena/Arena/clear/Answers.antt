@@ -1,4 +1,3 @@
-use Rattle.sgb_graph.proofs.Aimed.{aimed-set, aimed-hole}
 use Rattle.std.proofs.Common.{◌∙◌, ap, arith, None}
 use Rattle.sgb_graph.proofs.Cells.{cells_low, live_low, fields_are, owned_none, slot_put}
 use Rattle.sgb_graph.specs.declared.graph.arena.Cell.{Cell}
@@ -29,5 +28,4 @@ invariant_of-self c =
       omega (arith, c.self.invariant.3, c.take_fields.ensures.capacity),
       c.self.invariant.4,
       c.self.invariant.5,
-      λ aimed. aimed-set a.cells.items c.args.index c.new.result (c.self.invariant.6 aimed) (aimed-hole c.new.result (ap (λ (d : Cell). d.owner) c.new.ensures ∙ c.hole.ensures)),
     )

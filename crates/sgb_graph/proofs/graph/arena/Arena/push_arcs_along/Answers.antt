@@ -1,4 +1,3 @@
-use Rattle.sgb_graph.proofs.Aimed.{aimed-joined}
 use Rattle.std.proofs.Common.{arith, length, map, true, ◌+◌, subst}
 use Rattle.std.proofs.lemmas.Result.{err_from_is_err_and}
 use Rattle.sgb_graph.specs.Builder.{along}
@@ -31,5 +30,4 @@ invariant_of-self-2 c =
       c.make_room.ensures.fields_room,
       c.self.invariant.4,
       c.make_room.ensures.most,
-      λ aimed. aimed-joined true c.args.vertices.now (map (along c.args.from.0) c.args.spokes.now) c.push_arcs_along.new.cells.items c.make_room.ensures.cells c.push_arcs_along.ensures.joins (c.self.invariant.6 aimed),
     )

@@ -1,4 +1,3 @@
-use Rattle.sgb_graph.proofs.Aimed.{aimed-joined}
 use Rattle.sgb_graph.specs.Builder.{insertion}
 use Rattle.std.proofs.Common.{◌+◌, arith, subst, false, ◌∷◌, []}
 use Rattle.std.proofs.lemmas.Result.{err_from_is_err_and}
@@ -25,5 +24,4 @@ invariant_of-self-2 c =
       c.make_room.ensures.fields_room,
       c.self.invariant.4,
       c.make_room.ensures.most,
-      λ aimed. aimed-joined false c.args.vertices.now (insertion c.args.from.0 c.args.to.0 _ ∷ []) c.push_edge.new.cells.items c.make_room.ensures.cells c.push_edge.ensures.joins (c.self.invariant.6 aimed),
     )

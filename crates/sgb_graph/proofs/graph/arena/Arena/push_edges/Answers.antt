@@ -1,4 +1,3 @@
-use Rattle.sgb_graph.proofs.Aimed.{aimed-joined}
 use Rattle.std.proofs.Common.{ℤ, List, arith, ap, ◌∙◌, false, to_z, of_z, ◌+◌, ◌*◌, ◌-◌, subst}
 use Rattle.std.specs.Int.{w64}
 use Rattle.std.proofs.lemmas.Int.{to_z-of_z}
@@ -36,5 +35,4 @@ invariant_of-self-2 c =
       c.make_room.ensures.fields_room,
       c.self.invariant.4,
       c.make_room.ensures.most,
-      λ aimed. aimed-joined false c.args.vertices.now (row c.args.from.0 c.args.first c.args.end _) c.push_edges.new.cells.items c.make_room.ensures.cells c.push_edges.ensures.joins (c.self.invariant.6 aimed),
     )

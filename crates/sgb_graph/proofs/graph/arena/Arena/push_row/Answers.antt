@@ -1,6 +1,3 @@
-use Rattle.sgb_graph.proofs.Aimed.{aimed-append, aimed-row}
-use Rattle.sgb_graph.specs.Private.Cells.{is_aimed}
-use Rattle.std.specs.List.{list_all}
 use Rattle.std.proofs.Common.{◌≡◌, ◌-◌, ◌++◌, ◌∙◌, ap, arith, length, ℕ, ℤ, ◌+◌, subst}
 use Rattle.std.specs.Int.{w64}
 use Rattle.std.proofs.lemmas.Int.{to_z-of_z}
@@ -46,5 +43,4 @@ invariant_of-self-2 c =
       c.make_room.ensures.fields_room,
       c.self.invariant.4,
       c.make_room.ensures.most,
-      λ aimed. ap (list_all is_aimed) c.push_row.ensures.cells ∙ aimed-append c.make_room.new.cells.items _ (ap (list_all is_aimed) c.make_room.ensures.cells ∙ c.self.invariant.6 aimed) (aimed-row c.args.from _ c.make_room.new.cells.len c.args.first (c.args.end - c.args.first) c.args.next),
     )

@@ -1,10 +1,9 @@
 use Rattle.std.proofs.Common.{◌∙◌, ◌&&◌, ℤ, ap, arith, sym, Some, to_z, of_z}
 use Rattle.std.specs.Int.{w64}
 use Rattle.std.proofs.lemmas.Int.{to_z-of_z}
-use Rattle.sgb_graph.proofs.Aimed.{aimed-put}
 use Rattle.sgb_graph.proofs.Cells.{cells_low, owned_some, slot_put}
 use Rattle.sgb_graph.specs.declared.graph.arena.Cell.{Cell}
-use Rattle.sgb_graph.specs.Private.Cells.{slot_with, unnamed_slot, is_aimed}
+use Rattle.sgb_graph.specs.Private.Cells.{slot_with, unnamed_slot}
 use Rattle.sgb_graph.proofs.graph.arena.Arena.put.Goals as goal
 
 pub put_fields-requires : goal.put_fields-requires
@@ -27,7 +26,6 @@ invariant_of-self c =
       omega (arith, c.self.invariant.3, c.put_fields.ensures.capacity),
       c.self.invariant.4,
       c.self.invariant.5,
-      aimed-put a.aimed c.stays_aimed-self-inside.result a.cells.items c.args.number.0 c.new-2.result c.self.invariant.6 (c.stays_aimed-self-inside.ensures ∙ ap (λ d. a.aimed && is_aimed d) (sym c.new-2.ensures)),
     )
 
 pub returns : goal.returns

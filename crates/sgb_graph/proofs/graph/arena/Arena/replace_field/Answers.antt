@@ -17,7 +17,7 @@ pub invariant_of-self : goal.invariant_of-self
 invariant_of-self c =
     let a = c.self.inside in
     let low = cells_low a.cells.items a.fields.items c.args.self.now c.args.number.0 c.self.view_is c.requires.number in
-    (omega (arith, low, a.cells.ok.0, c.self.invariant.0, c.replace_kept.ensures.len), c.self.invariant.1, c.self.invariant.2, omega (arith, c.self.invariant.3, c.replace_kept.ensures.capacity), c.self.invariant.4, c.self.invariant.5, c.self.invariant.6)
+    (omega (arith, low, a.cells.ok.0, c.self.invariant.0, c.replace_kept.ensures.len), c.self.invariant.1, c.self.invariant.2, omega (arith, c.self.invariant.3, c.replace_kept.ensures.capacity), c.self.invariant.4, c.self.invariant.5)
 
 pub returns-clause-old : goal.returns-clause-old
 returns-clause-old c =

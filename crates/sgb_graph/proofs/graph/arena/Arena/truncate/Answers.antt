@@ -1,8 +1,6 @@
-use Rattle.sgb_graph.proofs.Aimed.{aimed-take}
-use Rattle.std.specs.List.{list_all}
 use Rattle.std.proofs.Common.{◌∙◌, ap, take, arith}
 use Rattle.sgb_graph.proofs.Cells.{zipped-take}
-use Rattle.sgb_graph.specs.Private.Cells.{zipped, is_aimed}
+use Rattle.sgb_graph.specs.Private.Cells.{zipped}
 use Rattle.sgb_graph.proofs.graph.arena.Arena.truncate.Goals as goal
 
 pub returns : goal.returns
@@ -21,5 +19,4 @@ invariant_of-self c =
       omega (arith, c.self.invariant.3, c.truncate-2.ensures.capacity),
       c.self.invariant.4,
       c.self.invariant.5,
-      λ aimed. ap (list_all is_aimed) c.truncate.ensures.items ∙ aimed-take c.args.len a.cells.items (c.self.invariant.6 aimed),
     )
