@@ -62,10 +62,8 @@ pub(crate) struct Cell {
 pub(crate) struct Arena {
     cells: Vec<Packed>,
     // The fields of the first arcs: those of all others are Zero. There is room for those of all arcs, so that a
-    // field can be set without memory.
+    // field is set without memory.
     fields: Vec<[Util; 2]>,
-    // For how many slots there is room, and for the fields of each.
-    room: usize,
     // What all others have.
     zeros: [Util; 2],
 }
@@ -80,7 +78,7 @@ impl Model for Arena {
 
     ghost view = { λ a. zipped a.cells.items a.fields.items };
 
-    ghost invariant = { λ a. (vec_len a.fields ≤ vec_len a.cells) × (vec_len a.cells ≤ a.room) × (a.room ≤ vec_capacity a.cells) × (a.room ≤ vec_capacity a.fields) × (a.zeros ≡ two_zeros) × (a.room ≤ 1000000) };
+    ghost invariant = { λ a. (vec_len a.fields ≤ vec_len a.cells) × (vec_len a.cells ≤ vec_capacity a.fields) × (vec_len a.cells ≤ 1000000) × (a.zeros ≡ two_zeros) };
 }
 
 impl Arena {
@@ -91,7 +89,6 @@ impl Arena {
         Arena {
             cells: Vec::new(alloc),
             fields: Vec::new(alloc),
-            room: 0,
             zeros: two_zeros(),
         }
     }
@@ -104,13 +101,11 @@ impl Arena {
     {
         let mut cells = Vec::new(alloc);
         let mut fields = Vec::new(alloc);
-        let mut room = 0;
-        make_room(&mut cells, &mut fields, &mut room, rows.len())?;
+        make_room(&mut cells, &mut fields, rows.len())?;
         push_laid(&mut cells, rows);
         Ok(Arena {
             cells,
             fields,
-            room,
             zeros: two_zeros(),
         })
     }
@@ -127,7 +122,7 @@ impl Arena {
         ensures same { self.new ≡ self.old }
         ensures err { IfErr result (IsRefusedAt (length self.old + count)) }
     {
-        make_room(&mut self.cells, &mut self.fields, &mut self.room, count)
+        make_room(&mut self.cells, &mut self.fields, count)
     }
 
     /// Adds a new arc, last, first in the list of its owner.
@@ -149,7 +144,7 @@ impl Arena {
         ensures unchanged { OnErr result (self.new ≡ self.old) }
         ensures vertices { OnErr result (vertices.new ≡ vertices.old) }
     {
-        make_room(&mut self.cells, &mut self.fields, &mut self.room, 1)?;
+        make_room(&mut self.cells, &mut self.fields, 1)?;
         push_arc(&mut self.cells, vertices, from, to, len);
         Ok(())
     }
@@ -173,7 +168,7 @@ impl Arena {
         ensures unchanged { OnErr result (self.new ≡ self.old) }
         ensures vertices { OnErr result (vertices.new ≡ vertices.old) }
     {
-        make_room(&mut self.cells, &mut self.fields, &mut self.room, 2)?;
+        make_room(&mut self.cells, &mut self.fields, 2)?;
         push_edge(&mut self.cells, vertices, from, to, len);
         Ok(())
     }
@@ -198,12 +193,7 @@ impl Arena {
         ensures unchanged { OnErr result (self.new ≡ self.old) }
     {
         let count = end.saturating_sub(first);
-        make_room(
-            &mut self.cells,
-            &mut self.fields,
-            &mut self.room,
-            count as usize,
-        )?;
+        make_room(&mut self.cells, &mut self.fields, count as usize)?;
         Ok(push_row(&mut self.cells, from, first, end, next, len))
     }
 
@@ -228,12 +218,7 @@ impl Arena {
         ensures vertices { OnErr result (vertices.new ≡ vertices.old) }
     {
         let count = 2 * end.saturating_sub(first);
-        make_room(
-            &mut self.cells,
-            &mut self.fields,
-            &mut self.room,
-            count as usize,
-        )?;
+        make_room(&mut self.cells, &mut self.fields, count as usize)?;
         push_edges(&mut self.cells, vertices, from, first, end, len);
         Ok(())
     }
@@ -256,12 +241,7 @@ impl Arena {
         ensures unchanged { OnErr result (self.new ≡ self.old) }
         ensures vertices { OnErr result (vertices.new ≡ vertices.old) }
     {
-        make_room(
-            &mut self.cells,
-            &mut self.fields,
-            &mut self.room,
-            spokes.len(),
-        )?;
+        make_room(&mut self.cells, &mut self.fields, spokes.len())?;
         push_arcs_along(&mut self.cells, vertices, from, spokes);
         Ok(())
     }
@@ -284,12 +264,7 @@ impl Arena {
         ensures unchanged { OnErr result (self.new ≡ self.old) }
         ensures vertices { OnErr result (vertices.new ≡ vertices.old) }
     {
-        make_room(
-            &mut self.cells,
-            &mut self.fields,
-            &mut self.room,
-            2 * spokes.len(),
-        )?;
+        make_room(&mut self.cells, &mut self.fields, 2 * spokes.len())?;
         push_edges_along(&mut self.cells, vertices, from, spokes);
         Ok(())
     }
@@ -300,15 +275,6 @@ impl Arena {
     {
         self.cells.truncate(len);
         self.fields.truncate(len);
-    }
-
-    /// No slots, with the room that these have. Takes no memory.
-    pub fn emptied(mut self) -> Arena
-        ensures { result ≡ [] }
-    {
-        self.cells.truncate(0);
-        self.fields.truncate(0);
-        self
     }
 
     /// Puts an arc that no field names in place of a hole.

@@ -65,18 +65,6 @@ impl Graph {
         self.slots.reserve(count.min(left))?;
         Ok(())
     }
-
-    /// Takes over the room for arcs that another graph had, where this one has given out no number yet: its first arcs
-    /// then take no memory. Contracts see no room, so the graph stays as it is.
-    pub fn take_room(&mut self, other: Graph)
-        ensures same { self.new ≡ self.old }
-        ensures sound { IsGraph self.new }
-    {
-        let Graph { slots, .. } = other;
-        if self.slots.len() == 0 {
-            self.slots = slots.emptied();
-        }
-    }
 }
 
 // The values as they are stored. Most come that way, and are then not taken apart.

@@ -13,17 +13,12 @@ use super::codes::Link;
 use super::fields::is_zero;
 use super::honest::are_allowed;
 use super::new::six_zeros;
-use super::room::grow_room;
+use super::room::reserve;
 use super::same::is_link_same;
 use crate::{Label, Util, VertexNo};
 use std::alloc::{AllocError, Global};
 use std::marker::Model;
 use std::mem;
-
-// Room for the fields of so many blank vertices is as much as is mapped by itself, more than 32 MiB.
-const MANY: usize = 32_768;
-
-const MAPPED: usize = 349_568;
 
 /// The vertices by number.
 #[derive(Drop)]
@@ -34,8 +29,6 @@ pub(crate) struct Vertices {
     // The fields of the first vertices: those of all others are Zero. There is room for those of all vertices, so
     // that a field can be set without memory.
     fields: Vec<[Util; 6]>,
-    // For how many vertices there is room, and for the fields of each.
-    room: usize,
     // What all others have.
     zeros: [Util; 6],
 }
@@ -51,7 +44,7 @@ impl Model for Vertices {
 
     ghost view = { λ a. rows a.labels.items (first_at a.firsts.items) (values_at a.fields.items) };
 
-    ghost invariant = { λ a. (vec_len a.firsts ≡ vec_len a.labels) × (vec_len a.fields ≤ vec_len a.labels) × (vec_len a.labels ≤ a.room) × (a.room ≤ vec_capacity a.labels) × (a.room ≤ vec_capacity a.firsts) × (a.room ≤ vec_capacity a.fields) × (a.zeros ≡ six_zeros) };
+    ghost invariant = { λ a. (vec_len a.firsts ≡ vec_len a.labels) × (vec_len a.fields ≤ vec_len a.labels) × (vec_len a.labels ≤ vec_capacity a.fields) × (a.zeros ≡ six_zeros) };
 }
 
 impl Vertices {
@@ -63,7 +56,6 @@ impl Vertices {
             labels: Vec::new(alloc),
             firsts: Vec::new(alloc),
             fields: Vec::new(alloc),
-            room: 0,
             zeros: six_zeros(),
         }
     }
@@ -74,7 +66,7 @@ impl Vertices {
     {
         let mut labels = Vec::with_capacity(alloc, n as usize)?;
         let mut firsts = Vec::with_capacity(alloc, n as usize)?;
-        let fields = Vec::with_capacity(alloc, room_for_blank(n as usize))?;
+        let fields = Vec::with_capacity(alloc, n as usize)?;
         for _i in 0..n {
             labels.push_reserved(Label::empty());
             firsts.push_reserved(Link::none());
@@ -83,7 +75,6 @@ impl Vertices {
             labels,
             firsts,
             fields,
-            room: n as usize,
             zeros: six_zeros(),
         })
     }
@@ -100,13 +91,7 @@ impl Vertices {
     pub fn reserve(&mut self, count: usize) -> Result<(), AllocError>
         ensures { self.new ≡ self.old }
     {
-        make_room(
-            &mut self.labels,
-            &mut self.firsts,
-            &mut self.fields,
-            &mut self.room,
-            count,
-        )
+        make_room(&mut self.labels, &mut self.firsts, &mut self.fields, count)
     }
 
     /// Adds a vertex without arcs, last.
@@ -115,13 +100,7 @@ impl Vertices {
         ensures ok { OnOk result (self.new ≡ self.old ++ unlinked label fields ∷ []) }
         ensures unchanged { OnErr result (self.new ≡ self.old) }
     {
-        make_room(
-            &mut self.labels,
-            &mut self.firsts,
-            &mut self.fields,
-            &mut self.room,
-            1,
-        )?;
+        make_room(&mut self.labels, &mut self.firsts, &mut self.fields, 1)?;
         put_last(&mut self.fields, self.labels.len(), fields);
         self.labels.push_reserved(label);
         self.firsts.push_reserved(Link::none());
@@ -134,13 +113,7 @@ impl Vertices {
         ensures ok { OnOk result (self.new ≡ self.old ++ unlinked label six_zeros ∷ []) }
         ensures unchanged { OnErr result (self.new ≡ self.old) }
     {
-        make_room(
-            &mut self.labels,
-            &mut self.firsts,
-            &mut self.fields,
-            &mut self.room,
-            1,
-        )?;
+        make_room(&mut self.labels, &mut self.firsts, &mut self.fields, 1)?;
         self.labels.push_reserved(label);
         self.firsts.push_reserved(Link::none());
         Ok(())
@@ -265,42 +238,22 @@ fn make_room(
     labels: &mut Vec<Label>,
     firsts: &mut Vec<Link>,
     fields: &mut Vec<[Util; 6]>,
-    room: &mut usize,
     count: usize,
 ) -> Result<(), AllocError>
-    requires few { vec_len fields.old ≤ vec_len labels.old }
-    requires len { vec_len labels.old ≤ room.old }
-    requires firsts { vec_len firsts.old ≡ vec_len labels.old }
-    requires labels_room { room.old ≤ vec_capacity labels.old }
-    requires firsts_room { room.old ≤ vec_capacity firsts.old }
-    requires fields_room { room.old ≤ vec_capacity fields.old }
+    requires { vec_len fields.old ≤ vec_len labels.old }
     ensures labels { labels.new.items ≡ labels.old.items }
     ensures labels_len { vec_len labels.new ≡ vec_len labels.old }
     ensures firsts { firsts.new.items ≡ firsts.old.items }
     ensures firsts_len { vec_len firsts.new ≡ vec_len firsts.old }
     ensures fields { fields.new.items ≡ fields.old.items }
     ensures fields_len { vec_len fields.new ≡ vec_len fields.old }
-    ensures room { OnOk result (vec_len labels.new + count ≤ room.new) }
-    ensures len { vec_len labels.new ≤ room.new }
-    ensures labels_room { room.new ≤ vec_capacity labels.new }
-    ensures firsts_room { room.new ≤ vec_capacity firsts.new }
-    ensures fields_room { room.new ≤ vec_capacity fields.new }
+    ensures room { OnOk result (vec_len labels.old + count ≤ vec_capacity labels.new) }
+    ensures firsts_room { OnOk result (vec_len firsts.old + count ≤ vec_capacity firsts.new) }
+    ensures fields_room { OnOk result (vec_len labels.old + count ≤ vec_capacity fields.new) }
+    ensures capacity { vec_capacity fields.old ≤ vec_capacity fields.new }
 {
-    if *room - labels.len() >= count {
-        return Ok(());
-    }
-    let more = grow_room(labels, fields, count)?;
-    firsts.reserve(more - firsts.len())?;
-    *room = more;
-    Ok(())
-}
-
-// For the fields of how many there is to be room where so many vertices are blank. Few of them will be set, so for many
-// the room stands apart: between what a graph takes of a heap its arcs would be moved where they grow.
-fn room_for_blank(n: usize) -> usize
-    ensures { n ≤ result }
-{
-    if n < MANY { n } else { n.max(MAPPED) }
+    reserve(labels, fields, count)?;
+    firsts.reserve(count)
 }
 
 fn is_row_same(

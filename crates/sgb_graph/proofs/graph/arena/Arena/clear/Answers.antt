@@ -23,9 +23,7 @@ pub invariant_of-self : goal.invariant_of-self
 invariant_of-self c =
     let a = c.self.inside in (
       omega (arith, c.take_fields.ensures.len, c.self.invariant.0),
-      c.self.invariant.1,
+      omega (arith, c.self.invariant.1, c.take_fields.ensures.capacity),
       c.self.invariant.2,
-      omega (arith, c.self.invariant.3, c.take_fields.ensures.capacity),
-      c.self.invariant.4,
-      c.self.invariant.5,
+      c.self.invariant.3,
     )

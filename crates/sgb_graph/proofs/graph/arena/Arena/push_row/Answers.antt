@@ -32,15 +32,13 @@ returns-in_err-make_room-clause-err c =
 pub returns-clause-few : goal.returns-clause-few
 returns-clause-few c =
     let a = c.self.inside in
-    omega (arith, c.in_ok-make_room.ensures.room, c.make_room.ensures.most, c.make_room.ensures.cells_len, many_slots c.self.inside.cells.items c.self.inside.fields.items c.self.view_is a.cells.ok.0)
+    omega (arith, c.in_ok-make_room.ensures.most, many_slots c.self.inside.cells.items c.self.inside.fields.items c.self.view_is a.cells.ok.0)
 
 pub invariant_of-self-2 : goal.invariant_of-self-2
 invariant_of-self-2 c =
     let a = c.self.inside in (
       omega (arith, c.self.invariant.0, c.make_room.ensures.cells_len, c.make_room.ensures.fields_len, c.push_row.ensures.len),
-      omega (arith, c.in_ok-make_room.ensures.room, c.push_row.ensures.len),
-      omega (arith, c.make_room.ensures.cells_room, c.push_row.ensures.capacity),
-      c.make_room.ensures.fields_room,
-      c.self.invariant.4,
-      c.make_room.ensures.most,
+      omega (arith, c.make_room.ensures.cells_len, c.in_ok-make_room.ensures.fields_room, c.push_row.ensures.len),
+      omega (arith, c.make_room.ensures.cells_len, c.in_ok-make_room.ensures.most, c.push_row.ensures.len),
+      c.self.invariant.3,
     )

@@ -9,7 +9,7 @@ use Rattle.sgb_graph.proofs.graph.arena.Arena.put.Goals as goal
 pub put_fields-requires : goal.put_fields-requires
 put_fields-requires c =
     let a = c.self.inside in
-    omega (arith, cells_low a.cells.items a.fields.items c.args.self.now c.args.number.0 c.self.view_is c.requires.number, a.cells.ok.0, c.self.invariant.1, c.self.invariant.3)
+    omega (arith, cells_low a.cells.items a.fields.items c.args.self.now c.args.number.0 c.self.view_is c.requires.number, a.cells.ok.0, c.self.invariant.1)
 
 pub index_mut-requires : goal.index_mut-requires
 index_mut-requires c =
@@ -21,11 +21,9 @@ invariant_of-self c =
     let a = c.self.inside in
     let low = cells_low a.cells.items a.fields.items c.args.self.now c.args.number.0 c.self.view_is c.requires.number in (
       omega (arith, low, a.cells.ok.0, c.self.invariant.0, c.put_fields.ensures.len),
-      c.self.invariant.1,
+      omega (arith, c.self.invariant.1, c.put_fields.ensures.capacity),
       c.self.invariant.2,
-      omega (arith, c.self.invariant.3, c.put_fields.ensures.capacity),
-      c.self.invariant.4,
-      c.self.invariant.5,
+      c.self.invariant.3,
     )
 
 pub returns : goal.returns

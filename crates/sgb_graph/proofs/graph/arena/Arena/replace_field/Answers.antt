@@ -6,7 +6,7 @@ use Rattle.sgb_graph.proofs.graph.arena.Arena.replace_field.Goals as goal
 pub replace_kept-requires-clause-room : goal.replace_kept-requires-clause-room
 replace_kept-requires-clause-room c =
     let a = c.self.inside in
-    omega (arith, cells_low a.cells.items a.fields.items c.args.self.now c.args.number.0 c.self.view_is c.requires.number, a.cells.ok.0, c.self.invariant.1, c.self.invariant.3)
+    omega (arith, cells_low a.cells.items a.fields.items c.args.self.now c.args.number.0 c.self.view_is c.requires.number, a.cells.ok.0, c.self.invariant.1)
 
 pub replace_kept-requires-clause-fields : goal.replace_kept-requires-clause-fields
 replace_kept-requires-clause-fields c =
@@ -17,7 +17,7 @@ pub invariant_of-self : goal.invariant_of-self
 invariant_of-self c =
     let a = c.self.inside in
     let low = cells_low a.cells.items a.fields.items c.args.self.now c.args.number.0 c.self.view_is c.requires.number in
-    (omega (arith, low, a.cells.ok.0, c.self.invariant.0, c.replace_kept.ensures.len), c.self.invariant.1, c.self.invariant.2, omega (arith, c.self.invariant.3, c.replace_kept.ensures.capacity), c.self.invariant.4, c.self.invariant.5)
+    (omega (arith, low, a.cells.ok.0, c.self.invariant.0, c.replace_kept.ensures.len), omega (arith, c.self.invariant.1, c.replace_kept.ensures.capacity), c.self.invariant.2, c.self.invariant.3)
 
 pub returns-clause-old : goal.returns-clause-old
 returns-clause-old c =

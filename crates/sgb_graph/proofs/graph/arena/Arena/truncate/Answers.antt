@@ -14,9 +14,7 @@ pub invariant_of-self : goal.invariant_of-self
 invariant_of-self c =
     let a = c.self.inside in (
       omega (arith, c.self.invariant.0, c.truncate.ensures.len, c.truncate-2.ensures.len),
-      omega (arith, c.self.invariant.1, c.truncate.ensures.len),
-      omega (arith, c.self.invariant.2, c.truncate.ensures.capacity),
-      omega (arith, c.self.invariant.3, c.truncate-2.ensures.capacity),
-      c.self.invariant.4,
-      c.self.invariant.5,
+      omega (arith, c.self.invariant.1, c.truncate.ensures.len, c.truncate-2.ensures.capacity),
+      omega (arith, c.self.invariant.2, c.truncate.ensures.len),
+      c.self.invariant.3,
     )

@@ -7,7 +7,7 @@ use Rattle.sgb_graph.proofs.graph.vertices.Vertices.replace_field.Goals as goal
 pub replace_value-requires-clause-room : goal.replace_value-requires-clause-room
 replace_value-requires-clause-room c =
     let a = c.self.inside in
-    omega (arith, labels_low a.labels.items (first_at a.firsts.items) (values_at a.fields.items) c.args.self.now c.args.vertex.0 c.self.view_is c.requires.vertex, a.labels.ok.0, c.self.invariant.2, c.self.invariant.5)
+    omega (arith, labels_low a.labels.items (first_at a.firsts.items) (values_at a.fields.items) c.args.self.now c.args.vertex.0 c.self.view_is c.requires.vertex, a.labels.ok.0, c.self.invariant.2)
 
 pub replace_value-requires-clause-fields : goal.replace_value-requires-clause-fields
 replace_value-requires-clause-fields c =
@@ -18,7 +18,7 @@ pub invariant_of-self : goal.invariant_of-self
 invariant_of-self c =
     let a = c.self.inside in
     let low = labels_low a.labels.items (first_at a.firsts.items) (values_at a.fields.items) c.args.self.now c.args.vertex.0 c.self.view_is c.requires.vertex in
-    (c.self.invariant.0, omega (arith, low, a.labels.ok.0, c.self.invariant.1, c.replace_value.ensures.len), c.self.invariant.2, c.self.invariant.3, c.self.invariant.4, omega (arith, c.self.invariant.5, c.replace_value.ensures.capacity), c.self.invariant.6)
+    (c.self.invariant.0, omega (arith, low, a.labels.ok.0, c.self.invariant.1, c.replace_value.ensures.len), omega (arith, c.self.invariant.2, c.replace_value.ensures.capacity), c.self.invariant.3)
 
 pub returns-clause-old : goal.returns-clause-old
 returns-clause-old c =
