@@ -1,6 +1,5 @@
 pub mod Aimed
 pub mod Aiming
-pub mod Apart
 pub mod Building
 pub mod Cells
 pub mod Chaining

@@ -1,5 +1,4 @@
 pub mod Aim
-pub mod Apart
 pub mod Arena
 pub mod Blank
 pub mod Cells

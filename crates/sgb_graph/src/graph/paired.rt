@@ -1,10 +1,9 @@
 //! Whether each arc has its other half.
-ghost use Rattle.std.specs.Prelude.{◌≡◌, ◌<◌, ◌+◌, ◌==◌, ◌&&◌, not, true, IsTrue};
+ghost use Rattle.std.specs.Prelude.{◌≡◌, ◌<◌, ◌+◌, ◌==◌, true, IsTrue};
 ghost use Rattle.std.specs.List.{list_all, range_with_len};
 ghost use Rattle.sgb_graph.specs.Edit.{owner_of};
 ghost use Rattle.sgb_graph.specs.Graph.{IsGraph, n_of, made_of, arcs_of};
 ghost use Rattle.sgb_graph.specs.Paired.{goes, is_vertex, leads_from, is_loop, is_loop_pair, are_loops_paired, is_matched, is_tip_matched, is_paired};
-ghost use Rattle.sgb_graph.specs.Private.Apart.{is_apart};
 ghost use Rattle.sgb_graph.specs.Private.Together.{IsLedOn};
 
 use super::Graph;
@@ -15,44 +14,12 @@ impl Graph {
     /// vertex has arc k-1 lead back, one to a larger vertex arc k+1; and each loop is a second half, or the next
     /// arc of its list is its second half.
     ///
-    /// Takes no memory, and time of the whole graph. No list is walked where no arc leads to its own vertex, or where
-    /// each loop and its second half stand together, as edges put them.
+    /// Takes no memory, and time of the whole graph. No list is walked where each loop and its second half stand
+    /// together, as edges put them.
     pub fn is_paired(&self) -> bool
         ensures { result ≡ is_paired self.now }
     {
-        self.are_arcs_apart()
-            || self.are_arcs_matched() && (self.are_loops_together() || self.are_all_loops_paired())
-    }
-
-    fn are_arcs_apart(&self) -> bool
-        ensures { result ≡ list_all (is_apart self.now) (range_with_len 0 (made_of self.now)) }
-    {
-        for number in 0..self.made() {
-            if !self.is_apart(ArcNo(number)) {
-                return false;
-            }
-        }
-        true
-    }
-
-    // A hole, or an arc that leads to another vertex and has its other half.
-    fn is_apart(&self, number: ArcNo) -> bool
-        requires { number.0 < made_of self.now }
-        ensures { result ≡ is_apart self.now number.0 }
-    {
-        match self.arc(number) {
-            Some(arc) => self.is_tip_apart(number.0, arc.owner.0, arc.tip),
-            None => true,
-        }
-    }
-
-    // An arc of this number and tip leaves this vertex for another, and has its other half.
-    #[inline]
-    fn is_tip_apart(&self, number: u32, from: u32, tip: Tip) -> bool
-        requires { number < 1000000 }
-        ensures { result ≡ (not (is_vertex from tip) && is_tip_matched self.now number from tip) }
-    {
-        !is_vertex(from, tip) && self.is_tip_matched(number, from, tip)
+        self.are_arcs_matched() && (self.are_loops_together() || self.are_all_loops_paired())
     }
 
     fn are_arcs_matched(&self) -> bool

@@ -3,12 +3,7 @@ use Rattle.std.specs.List.{list_all, range_with_len}
 use Rattle.std.proofs.lemmas.Bool.{and_from}
 use Rattle.sgb_graph.specs.Graph.{n_of, made_of, arcs_of}
 use Rattle.sgb_graph.specs.Paired.{are_loops_paired, is_matched}
-use Rattle.sgb_graph.proofs.Apart.{apart_paired}
 use Rattle.sgb_graph.proofs.graph.Graph.is_paired.Goals as goal
-
-pub returns-then-are_arcs_apart : goal.returns-then-are_arcs_apart
-returns-then-are_arcs_apart c =
-    c.if-are_arcs_apart.true ∙ sym (apart_paired c.args.self.now (sym c.are_arcs_apart.ensures ∙ c.if-are_arcs_apart.true))
 
 pub returns-then-are_loops_together : goal.returns-then-are_loops_together
 returns-then-are_loops_together c =
