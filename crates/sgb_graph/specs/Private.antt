@@ -12,8 +12,6 @@ pub mod Join
 pub mod Label
 pub mod Lay
 pub mod Link
-pub mod Packed
-pub mod PackedLaws
 pub mod Revert
 pub mod SameLaws
 pub mod SameRows

@@ -15,7 +15,7 @@ coded code n a b by_b = elim (cases_Bool (n == code a)) [
   | inr other ↦ rw other by_b
 ]
 
-pub link_code : (n : ℕ) → code_of_link (link_of n) ≡ n
+link_code : (n : ℕ) → code_of_link (link_of n) ≡ n
 link_code n = coded code_of_link n None (Some (record { 0 = n })) refl
 
 owner_code : (n : ℕ) → code_of_owner (owner_of_code n) ≡ n

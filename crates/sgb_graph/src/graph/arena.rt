@@ -22,7 +22,6 @@ use super::fields::{kept_at, put_fields, replace_kept, take_fields, two_zeros};
 use super::honest::are_allowed;
 use super::join::{push_arc, push_arcs_along, push_edge, push_edges, push_edges_along};
 use super::lay::Chained;
-use super::packed::Packed;
 use super::paired::is_vertex;
 use super::read::ArcView;
 use super::room::make_room;
@@ -60,7 +59,7 @@ pub(crate) struct Cell {
 /// The slots by number, each an arc or a hole.
 #[derive(Drop)]
 pub(crate) struct Arena {
-    cells: Vec<Packed>,
+    cells: Vec<Cell>,
     // The fields of the first arcs: those of all others are Zero. There is room for those of all arcs, so that a
     // field is set without memory.
     fields: Vec<[Util; 2]>,
@@ -293,14 +292,13 @@ impl Arena {
         ensures { self.new ≡ slice_set self.old number.0 (Some (unnamed_slot owner tip next len fields)) }
     {
         put_fields(&mut self.fields, number.0 as usize, fields);
-        let cell = Cell {
+        self.cells[number.0 as usize] = Cell {
             owner: OwnerCode::new(owner),
             tip,
             next,
             names: 0,
             len,
         };
-        self.cells[number.0 as usize] = Packed::new(cell);
     }
 
     /// Makes the number of a live arc a hole, and answers the arc.
@@ -330,7 +328,7 @@ impl Arena {
         ensures fields { result ≡ fields_in (slot_at self.old index) }
         ensures slots { self.new ≡ slice_set self.old index None }
     {
-        self.cells[index] = Packed::new(hole());
+        self.cells[index] = hole();
         take_fields(&mut self.fields, index)
     }
 
@@ -348,7 +346,7 @@ impl Arena {
         requires { index < length self.now }
         ensures { slot_at self.now index ≡ slot_with (fields_in (slot_at self.now index)) result }
     {
-        self.cells[index].get()
+        self.cells[index]
     }
 
     // Keeps this of the slot, beside its fields.
@@ -357,7 +355,7 @@ impl Arena {
         requires { IsSome (slot_at self.old index) }
         ensures { self.new ≡ slice_set self.old index (slot_with (fields_in (slot_at self.old index)) cell) }
     {
-        self.cells[index] = Packed::new(cell);
+        self.cells[index] = cell;
     }
 
     /// The arc of this number: its owner, tip and length.
@@ -636,7 +634,7 @@ pub(super) fn new_cell(owner: VertexNo, to: VertexNo, next: Link, len: i64) -> C
 // to the last of them.
 #[inline]
 fn push_row(
-    cells: &mut Vec<Packed>,
+    cells: &mut Vec<Cell>,
     owner: VertexNo,
     first: u32,
     end: u32,
@@ -652,27 +650,23 @@ fn push_row(
     ensures capacity { vec_capacity cells.new ≡ vec_capacity cells.old }
     ensures link { result ≡ last_link (vec_len cells.old) (end - first) next }
 {
-    // Moved here and back, so that its length stays in a register.
-    let none = Vec::new(*cells.allocator());
-    let mut all = mem::replace(cells, none);
     let mut link = next;
     for to in first..end {
-        all.push_reserved(Packed::new(new_cell(owner, VertexNo(to), link, len)));
-        link = Link::to(ArcNo(all.len() as u32 - 1));
+        cells.push_reserved(new_cell(owner, VertexNo(to), link, len));
+        link = Link::to(ArcNo(cells.len() as u32 - 1));
     }
-    *cells = all;
     link
 }
 
 // Adds the cells of these records, last.
-fn push_laid(cells: &mut Vec<Packed>, rows: &[Chained])
+fn push_laid(cells: &mut Vec<Cell>, rows: &[Chained])
     requires { vec_len cells.old + length rows.now ≤ vec_capacity cells.old }
     ensures cells { cells.new.items ≡ cells.old.items ++ map laid_cell rows.now }
     ensures len { vec_len cells.new ≡ vec_len cells.old + length rows.now }
     ensures capacity { vec_capacity cells.new ≡ vec_capacity cells.old }
 {
     for row in rows {
-        cells.push_reserved(Packed::new(laid_cell(row)));
+        cells.push_reserved(laid_cell(row));
     }
 }
 
@@ -690,14 +684,17 @@ fn laid_cell(row: &Chained) -> Cell
 }
 
 // Each cell's arc, as far as there are fields.
-fn are_cells_honest(letters: &[u8], cells: &[Packed], fields: &[[Util; 2]]) -> bool
+fn are_cells_honest(letters: &[u8], cells: &[Cell], fields: &[[Util; 2]]) -> bool
     ensures { result ≡ list_all (λ p. owned_allowed letters.now p.0.owner p.1) (zip cells.now fields.now) }
 {
-    cells.iter().zip(fields).all(|(packed, fields)| is_cell_honest(letters, packed.get(), fields))
+    cells
+        .iter()
+        .zip(fields)
+        .all(|(cell, fields)| is_cell_honest(letters, cell, fields))
 }
 
-fn is_cell_honest(letters: &[u8], cell: Cell, fields: &[Util; 2]) -> bool
-    ensures { result ≡ owned_allowed letters.now cell.owner fields.now }
+fn is_cell_honest(letters: &[u8], cell: &Cell, fields: &[Util; 2]) -> bool
+    ensures { result ≡ owned_allowed letters.now cell.now.owner fields.now }
 {
     match cell.owner.get() {
         Some(_) => are_allowed(letters, fields),
@@ -716,8 +713,8 @@ fn is_aimed(cell: &Cell) -> bool
     }
 }
 
-fn are_cells_aimed(cells: &[Packed]) -> bool
+fn are_cells_aimed(cells: &[Cell]) -> bool
     ensures { result ≡ list_all is_aimed cells.now }
 {
-    cells.iter().all(|packed| is_aimed(&packed.get()))
+    cells.iter().all(|cell| is_aimed(cell))
 }

@@ -2,7 +2,6 @@
 ghost use Rattle.std.specs.Prelude.{◌≡◌, ◌<◌, ◌≤◌, None, Some};
 ghost use Rattle.sgb_graph.specs.declared.field.Tip.TheVariants.{To};
 ghost use Rattle.sgb_graph.specs.Graph.{IsTip};
-ghost use Rattle.sgb_graph.specs.Private.Codes.{link_of};
 
 use crate::{ArcNo, Tip, VertexNo};
 use std::marker::Model;
@@ -42,22 +41,6 @@ impl Model for Link {
 }
 
 impl Link {
-    // What the number stands for.
-    #[inline]
-    pub fn of(code: u32) -> Link
-        ensures { result ≡ link_of code }
-    {
-        Link { code }
-    }
-
-    // The number that stands for it.
-    #[inline]
-    pub fn code(self) -> u32
-        ensures { link_of result ≡ self }
-    {
-        self.code
-    }
-
     #[inline]
     pub fn none() -> Link
         ensures { result ≡ None }

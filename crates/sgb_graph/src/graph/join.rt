@@ -4,9 +4,8 @@ ghost use Rattle.std.specs.Int.{w64};
 ghost use Rattle.sgb_graph.specs.Builder.{along, insertion, row};
 ghost use Rattle.sgb_graph.specs.Private.Join.{Joins};
 
-use super::arena::new_cell;
+use super::arena::{Cell, new_cell};
 use super::codes::Link;
-use super::packed::Packed;
 use super::vertices::Vertices;
 use crate::{ArcNo, Spoke, VertexNo};
 use std::mem;
@@ -14,7 +13,7 @@ use std::mem;
 // An arc more, first in the list of its owner.
 #[inline(always)]
 pub(super) fn push_arc(
-    cells: &mut Vec<Packed>,
+    cells: &mut Vec<Cell>,
     vertices: &mut Vertices,
     from: VertexNo,
     to: VertexNo,
@@ -32,14 +31,14 @@ pub(super) fn push_arc(
 {
     let number = ArcNo(cells.len() as u32);
     let next = vertices.replace_first(from, Link::to(number));
-    cells.push_reserved(Packed::new(new_cell(from, to, next, len)));
+    cells.push_reserved(new_cell(from, to, next, len));
 }
 
 // An edge more, each arc first in the list of its owner. The second arc is linked first, so that of a loop the first
 // stands before it.
 #[inline(always)]
 pub(super) fn push_edge(
-    cells: &mut Vec<Packed>,
+    cells: &mut Vec<Cell>,
     vertices: &mut Vertices,
     from: VertexNo,
     to: VertexNo,
@@ -60,13 +59,13 @@ pub(super) fn push_edge(
     let high = VertexNo(from.0.max(to.0));
     let after_high = vertices.replace_first(high, Link::to(ArcNo(number.0 + 1)));
     let after_low = vertices.replace_first(low, Link::to(number));
-    cells.push_reserved(Packed::new(new_cell(low, high, after_low, len)));
-    cells.push_reserved(Packed::new(new_cell(high, low, after_high, len)));
+    cells.push_reserved(new_cell(low, high, after_low, len));
+    cells.push_reserved(new_cell(high, low, after_high, len));
 }
 
 // An arc more, along a spoke.
 #[inline(always)]
-fn push_arc_along(cells: &mut Vec<Packed>, vertices: &mut Vertices, from: VertexNo, spoke: Spoke)
+fn push_arc_along(cells: &mut Vec<Cell>, vertices: &mut Vertices, from: VertexNo, spoke: Spoke)
     requires from { from.0 < length vertices.old }
     requires to { spoke.to < length vertices.old }
     requires vertices { length vertices.old ≤ 65535 }
@@ -83,7 +82,7 @@ fn push_arc_along(cells: &mut Vec<Packed>, vertices: &mut Vertices, from: Vertex
 
 // An edge more, along a spoke.
 #[inline(always)]
-fn push_edge_along(cells: &mut Vec<Packed>, vertices: &mut Vertices, from: VertexNo, spoke: Spoke)
+fn push_edge_along(cells: &mut Vec<Cell>, vertices: &mut Vertices, from: VertexNo, spoke: Spoke)
     requires from { from.0 < length vertices.old }
     requires to { spoke.to < length vertices.old }
     requires vertices { length vertices.old ≤ 65535 }
@@ -100,7 +99,7 @@ fn push_edge_along(cells: &mut Vec<Packed>, vertices: &mut Vertices, from: Verte
 
 // Edges from one vertex to each of the vertices from `first` up to `end`.
 pub(super) fn push_edges(
-    cells: &mut Vec<Packed>,
+    cells: &mut Vec<Cell>,
     vertices: &mut Vertices,
     from: VertexNo,
     first: u32,
@@ -127,7 +126,7 @@ pub(super) fn push_edges(
 
 // Arcs from one vertex along each of the spokes.
 pub(super) fn push_arcs_along(
-    cells: &mut Vec<Packed>,
+    cells: &mut Vec<Cell>,
     vertices: &mut Vertices,
     from: VertexNo,
     spokes: &[Spoke],
@@ -152,7 +151,7 @@ pub(super) fn push_arcs_along(
 
 // Edges from one vertex along each of the spokes.
 pub(super) fn push_edges_along(
-    cells: &mut Vec<Packed>,
+    cells: &mut Vec<Cell>,
     vertices: &mut Vertices,
     from: VertexNo,
     spokes: &[Spoke],

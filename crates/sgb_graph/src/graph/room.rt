@@ -2,14 +2,15 @@
 ghost use Rattle.std.specs.Prelude.{◌≡◌, ◌≤◌, ◌+◌, vec_len, vec_capacity, IfErr, OnOk};
 ghost use Rattle.sgb_graph.specs.Private.Insert.{IsRefusedAt};
 
-use super::{MOST_ARCS, Packed};
+use super::MOST_ARCS;
+use super::arena::Cell;
 use crate::{Refusal, Util};
 use std::alloc::AllocError;
 
 // Takes room for so many arcs more, and for the fields of all.
 #[inline]
 pub(super) fn make_room(
-    cells: &mut Vec<Packed>,
+    cells: &mut Vec<Cell>,
     fields: &mut Vec<[Util; 2]>,
     count: usize,
 ) -> Result<(), Refusal>

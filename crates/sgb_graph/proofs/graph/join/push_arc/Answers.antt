@@ -11,8 +11,8 @@ pub returns-clause-joins : goal.returns-clause-joins
 returns-clause-joins c =
     let from = c.args.from in
     let same = to_z-of_z w64 c.args.len c.ranges.len in
-    arc_joins c.args.vertices.now c.replace_first-next.new.self c.args.cells.now.items c.push_reserved.new.self.items from c.args.to c.args.len c.len.result c.new.result
+    arc_joins c.args.vertices.now c.replace_first-next.new.self c.args.cells.now.items c.push_reserved.new.self.items from c.args.to c.args.len c.len.result c.new_cell.result
     (c.len.ensures ∙ c.args.cells.now.ok.0)
     (c.replace_first-next.ensures.vertices ∙ ap (vertices_relinked c.args.vertices.now from.0 None) c.to.ensures)
-    (c.new.ensures ∙ c.new_cell.ensures ∙ (ap (new_cell from c.args.to c.replace_first-next.result) same ∙ ap (λ (l : Option ArcNo). new_cell from c.args.to l c.args.len) c.replace_first-next.ensures.old))
+    (c.new_cell.ensures ∙ (ap (new_cell from c.args.to c.replace_first-next.result) same ∙ ap (λ (l : Option ArcNo). new_cell from c.args.to l c.args.len) c.replace_first-next.ensures.old))
     c.push_reserved.ensures.items

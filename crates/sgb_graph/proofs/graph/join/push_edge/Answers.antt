@@ -21,12 +21,12 @@ returns-clause-joins c =
     let same = to_z-of_z w64 c.args.len c.ranges.len in
     let us_is : us ≡ vertices_relinked vs high.0 None (Some (arc_no (k + 1))) = c.replace_first-after_high.ensures.vertices ∙ ap (vertices_relinked vs high.0 None) c.to.ensures in
     edge_joins vs c.replace_first-after_low.new.self c.args.cells.now.items c.push_reserved.new.self.items c.push_reserved-2.new.self.items
-    c.args.from.0 c.args.to.0 low.0 high.0 c.args.len k c.new.result c.new-2.result
+    c.args.from.0 c.args.to.0 low.0 high.0 c.args.len k c.new_cell.result c.new_cell-2.result
     (c.len.ensures ∙ c.args.cells.now.ok.0) c.min.ensures c.max.ensures
     (c.replace_first-after_low.ensures.vertices
     ∙ (ap (vertices_relinked us low.0 None) c.to-2.ensures ∙ ap (λ (xs : List Vertex). vertices_relinked xs low.0 None (Some (arc_no k))) us_is))
-    (c.new.ensures ∙ c.new_cell.ensures
+    (c.new_cell.ensures
     ∙ (ap (new_cell low high c.replace_first-after_low.result) same
     ∙ ap (λ (l : Option ArcNo). new_cell low high l c.args.len) (c.replace_first-after_low.ensures.old ∙ ap (λ (xs : List Vertex). (vertex_in xs low.0).first) us_is)))
     c.push_reserved.ensures.items
-    (c.new-2.ensures ∙ c.new_cell-2.ensures ∙ (ap (new_cell high low c.replace_first-after_high.result) same ∙ ap (λ (l : Option ArcNo). new_cell high low l c.args.len) c.replace_first-after_high.ensures.old)) c.push_reserved-2.ensures.items
+    (c.new_cell-2.ensures ∙ (ap (new_cell high low c.replace_first-after_high.result) same ∙ ap (λ (l : Option ArcNo). new_cell high low l c.args.len) c.replace_first-after_high.ensures.old)) c.push_reserved-2.ensures.items

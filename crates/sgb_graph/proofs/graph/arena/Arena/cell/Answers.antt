@@ -1,7 +1,4 @@
-use Rattle.std.proofs.Common.{◌∙◌, ap, arith, sym}
-use Rattle.sgb_graph.specs.Private.Arena.{slot_at}
-use Rattle.sgb_graph.specs.Private.Cells.{slot_with}
-use Rattle.sgb_graph.specs.Private.Exchange.{fields_in}
+use Rattle.std.proofs.Common.{arith}
 use Rattle.sgb_graph.proofs.Cells.{cells_low, cell_is}
 use Rattle.sgb_graph.proofs.graph.arena.Arena.cell.Goals as goal
 
@@ -13,6 +10,4 @@ index-requires c =
 pub returns : goal.returns
 returns c =
     let a = c.self.inside in
-    let s = slot_at c.args.self.now c.args.index in
     cell_is a.cells.items a.fields.items c.args.self.now c.args.index _ c.self.view_is c.requires c.index.ensures
-    ∙ ap (slot_with (fields_in s)) (sym c.get.ensures)

@@ -1,6 +1,5 @@
-use Rattle.std.proofs.Common.{◌∙◌, ap, arith, None}
+use Rattle.std.proofs.Common.{◌∙◌, arith, None}
 use Rattle.sgb_graph.proofs.Cells.{cells_low, live_low, fields_are, owned_none, slot_put}
-use Rattle.sgb_graph.specs.declared.graph.arena.Cell.{Cell}
 use Rattle.sgb_graph.specs.Private.Cells.{two_zeros}
 use Rattle.sgb_graph.proofs.graph.arena.Arena.clear.Goals as goal
 
@@ -17,7 +16,7 @@ returns-clause-fields c =
 pub returns-clause-slots : goal.returns-clause-slots
 returns-clause-slots c =
     let a = c.self.inside in
-    slot_put a.cells.items a.fields.items _ c.args.self.now c.args.index two_zeros c.new.result None c.self.view_is c.take_fields.ensures.puts (owned_none two_zeros c.new.result (ap (λ (d : Cell). d.owner) c.new.ensures ∙ c.hole.ensures))
+    slot_put a.cells.items a.fields.items _ c.args.self.now c.args.index two_zeros c.hole.result None c.self.view_is c.take_fields.ensures.puts (owned_none two_zeros c.hole.result c.hole.ensures)
 
 pub invariant_of-self : goal.invariant_of-self
 invariant_of-self c =

@@ -3,7 +3,7 @@ use Rattle.std.specs.Int.{w64}
 use Rattle.std.proofs.lemmas.Int.{to_z-of_z}
 use Rattle.sgb_graph.proofs.Cells.{cells_low, owned_some, slot_put}
 use Rattle.sgb_graph.specs.declared.graph.arena.Cell.{Cell}
-use Rattle.sgb_graph.specs.Private.Cells.{slot_with, unnamed_slot}
+use Rattle.sgb_graph.specs.Private.Cells.{unnamed_slot}
 use Rattle.sgb_graph.proofs.graph.arena.Arena.put.Goals as goal
 
 pub put_fields-requires : goal.put_fields-requires
@@ -32,5 +32,5 @@ returns c =
     let us = c.args.fields in
     let cell : ℤ → Cell = λ z. record { owner = c.new.result; tip = c.args.tip; next = c.args.next; names = 0; len = z } in
     let z = to_z w64 (of_z w64 c.args.len) in
-    slot_put a.cells.items a.fields.items _ c.args.self.now c.args.number.0 us c.new-2.result (Some (unnamed_slot c.args.owner c.args.tip c.args.next c.args.len us)) c.self.view_is c.put_fields.ensures.puts
-    (ap (slot_with us) c.new-2.ensures ∙ owned_some us (cell z) c.args.owner c.new.ensures ∙ ap (λ y. Some (unnamed_slot c.args.owner c.args.tip c.args.next y us)) (to_z-of_z w64 c.args.len c.ranges.len))
+    slot_put a.cells.items a.fields.items _ c.args.self.now c.args.number.0 us (cell z) (Some (unnamed_slot c.args.owner c.args.tip c.args.next c.args.len us)) c.self.view_is c.put_fields.ensures.puts
+    (owned_some us (cell z) c.args.owner c.new.ensures ∙ ap (λ y. Some (unnamed_slot c.args.owner c.args.tip c.args.next y us)) (to_z-of_z w64 c.args.len c.ranges.len))
