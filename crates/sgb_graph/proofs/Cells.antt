@@ -28,35 +28,6 @@ pub fields_owned : (o : Option VertexNo) (us : List Util) (c : Cell) → is_some
 fields_owned None us c live = absurd cc
 fields_owned (Some v) us c live = refl
 
--- the cell written back
-next_owned : (o : Option VertexNo) (us : List Util) (c : Cell) (link : Option ArcNo) → slot_owned o us (record c { next = link }) ≡ with_next link (slot_owned o us c)
-next_owned None us c link = refl
-next_owned (Some v) us c link = refl
-
-pub next_written : (us : List Util) (c : Cell) (link : Option ArcNo) (s : Option Slot) → s ≡ slot_with us c → slot_with us (record c { next = link }) ≡ with_next link s
-next_written us c link s is = next_owned c.owner us c link ∙ ap (with_next link) (sym is)
-
-len_owned : (o : Option VertexNo) (us : List Util) (c : Cell) (z : ℤ) → slot_owned o us (record c { len = z }) ≡ with_len_in z (slot_owned o us c)
-len_owned None us c z = refl
-len_owned (Some v) us c z = refl
-
-pub len_written : (us : List Util) (c : Cell) (z : ℤ) (s : Option Slot) → s ≡ slot_with us c → slot_with us (record c { len = z }) ≡ with_len_in z s
-len_written us c z s is = len_owned c.owner us c z ∙ ap (with_len_in z) (sym is)
-
-more_owned : (o : Option VertexNo) (us : List Util) (c : Cell) → slot_owned o us (record c { names = c.names + 1 }) ≡ named_more (slot_owned o us c)
-more_owned None us c = refl
-more_owned (Some v) us c = refl
-
-pub more_written : (us : List Util) (c : Cell) (s : Option Slot) → s ≡ slot_with us c → slot_with us (record c { names = c.names + 1 }) ≡ named_more s
-more_written us c s is = more_owned c.owner us c ∙ ap named_more (sym is)
-
-less_owned : (o : Option VertexNo) (us : List Util) (c : Cell) → slot_owned o us (record c { names = c.names - 1 }) ≡ named_less (slot_owned o us c)
-less_owned None us c = refl
-less_owned (Some v) us c = refl
-
-pub less_written : (us : List Util) (c : Cell) (s : Option Slot) → s ≡ slot_with us c → slot_with us (record c { names = c.names - 1 }) ≡ named_less s
-less_written us c s is = less_owned c.owner us c ∙ ap named_less (sym is)
-
 field_owned : (o : Option VertexNo) (us : List Util) (c : Cell) (i : ℕ) (u : Util) → slot_owned o (set us i u) c ≡ with_field i u (slot_owned o us c)
 field_owned None us c i u = refl
 field_owned (Some v) us c i u = refl
@@ -158,32 +129,6 @@ zipped-put (d ∷ cs) fs gs (suc k) us c puts =
       others = λ j ne. kept-rest gs j ∙ (puts.others (suc j) (suc_ne j k ne) ∙ sym (kept-rest fs j));
     }))
     ∙ ap (λ l. set l (suc k) (slot_with us c)) (sym (zipped-step d cs fs)))
-
--- fields that are put
-pub puts-over : (fs gs : List (List Util)) (k : ℕ) (us : List Util) → SameFields fs gs → k < length gs → PutsFields fs k us (set gs k us)
-puts-over fs gs k us same low = record {
-  here = get_or-set_same gs k us two_zeros low;
-  others = λ j ne. get_or-set_other gs k j us two_zeros ne ∙ same j;
-}
-
-pub puts-none : (fs : List (List Util)) (k : ℕ) (us : List Util) → length fs ≤ k → us ≡ two_zeros → PutsFields fs k us fs
-puts-none fs k us past is = record { here = get_or_past fs k two_zeros past ∙ sym is; others = λ j ne. refl }
-
-kept-last : (gs : List (List Util)) (us : List Util) → kept_at (gs ++ us ∷ []) (length gs) ≡ us
-kept-last [] us = refl
-kept-last (vs ∷ gs) us = kept-last gs us
-
-kept-push : (gs : List (List Util)) (us : List Util) (j : ℕ) → j ≢ length gs → kept_at (gs ++ us ∷ []) j ≡ kept_at gs j
-kept-push [] us zero ne = absurd (ne refl)
-kept-push [] us (suc j) ne = refl
-kept-push (vs ∷ gs) us zero ne = refl
-kept-push (vs ∷ gs) us (suc j) ne = kept-push gs us j (λ e. ne (ap suc e))
-
-pub puts-push : (fs gs : List (List Util)) (k : ℕ) (us : List Util) → SameFields fs gs → length gs ≡ k → PutsFields fs k us (gs ++ us ∷ [])
-puts-push fs gs k us same last = record {
-  here = ap (kept_at (gs ++ us ∷ [])) (sym last) ∙ kept-last gs us;
-  others = λ j ne. kept-push gs us j (λ e. ne (e ∙ last)) ∙ same j;
-}
 
 pub kept-fill : (gs : List (List Util)) (j : ℕ) → kept_at (gs ++ two_zeros ∷ []) j ≡ kept_at gs j
 kept-fill [] zero = refl

@@ -203,25 +203,6 @@ laying_begins vs ls v g link x is =
       graph = x.graph;
     }
 
-pub laying_ends : (vs : List VertexPart) (ls : List (Option ArcNo)) (v : ℕ) (g : GraphOf) (end link : Option ArcNo) → link ≡ None → LayingAt vs ls v end link g → Laying vs ls (v + 1) g
-laying_ends vs ls v g end link none x =
-    record {
-      n = x.n;
-      made = x.made;
-      lists = λ w h. elim (cases_eq w v) [
-        | inl same ↦
-            subst (λ i. Leads (link_at ls) (vertex_part vs i).first (arcs_of g i) None) (sym same)
-            (subst (λ l. Leads (link_at ls) (vertex_part vs v).first (arcs_of g v) l) none x.here)
-        | inr ne ↦ x.lists w (let other : w ≢ v = ne in omega arith)
-      ];
-      empty = λ w h. x.empty w (omega arith);
-      graph = x.graph;
-    }
-
-pub lays_all : (vs : List VertexPart) (ls : List (Option ArcNo)) (n : ℕ) (g : GraphOf) → n ≡ length vs → Laying vs ls n g → Lays vs ls g
-lays_all vs ls n g all x =
-    record { n = x.n; made = x.made; lists = λ w h. x.lists w (omega (arith, x.n)); graph = x.graph }
-
 -- what the test before an arc is laid tells
 hole_at : (o : Option ArcOf) → is_some o ≡ false → o ≡ None
 hole_at None h = refl

@@ -43,10 +43,6 @@ pub record CutCan (a : Inside) (g : GraphOf) (k : ℕ) (vs : List Vertex) (ss : 
   pub vertices : vs ≡ a.vertices
   pub slots : ss ≡ a.slots
 
-pub cut_requires : (a : Inside) (g : GraphOf) (k : ℕ) (vs : List Vertex) (ss : Slots) → CutCan a g k vs ss → CanBeTakenOut vs ss k
-cut_requires a g k vs ss x =
-    record { graph = g; sound = x.opened.graph; shows = rw (x.vertices, x.slots) x.opened.shows; can = x.can }
-
 pub record CutLeft (b : Inside) (g : GraphOf) (k : ℕ) (c : CutArc) : Type 0 where
   pub arena : IsArena b
   pub graph : graph_of b ≡ without_arc g k

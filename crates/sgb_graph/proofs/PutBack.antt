@@ -20,10 +20,6 @@ pub put_vertices : (g : GraphOf) (c : CutArc) → (with_cut_arc g c).vertices �
 unfolding with_cut_arc with_listed
 put_vertices g c = refl
 
-pub put_entries : (g : GraphOf) (c : CutArc) → (with_cut_arc g c).entries ≡ set g.entries c.number.0 (Some (arc_of c))
-unfolding with_cut_arc with_listed
-put_entries g c = refl
-
 pub put_n : (g : GraphOf) (c : CutArc) → n_of (with_cut_arc g c) ≡ n_of g
 unfolding with_cut_arc with_listed
 put_n g c = length-set g.vertices c.owner.0 (owner_with g c)

@@ -37,12 +37,6 @@ all_inserted a h directed es made (Ok x) is count done refused =
     ap (λ g. record { graph = g; directed = a.directed }) (done ∙ ap (λ d. with_all d a.graph es) (sym is))
 all_inserted a h directed es made (Err e) is count done refused = refused_all a directed es e is (subst (λ n. IsRefusedAt n e) count refused)
 
--- ---- the cells
-pub cells_none : (cs : List Cell) (owner : VertexNo) (z : ℤ) (k to end : ℕ) (link : Option ArcNo) → end ≤ to → cs ++ row_cells owner z k to (end - to) link ≡ cs
-cells_none cs owner z k to end link past =
-    let none : end - to ≡ 0 = omega arith in
-    ap (λ n. cs ++ row_cells owner z k to n link) none ∙ append-nil cs
-
 pub cells_more : (cs ds : List Cell) (owner : VertexNo) (z : ℤ) (k j to end : ℕ) (link after : Option ArcNo) → to < end → j ≡ k + 1 → after ≡ Some (arc_no k) → ds ≡ cs ++ new_cell owner (record { 0 = to }) link z ∷ []
     → ds ++ row_cells owner z j (to + 1) (end - (to + 1)) after ≡ cs ++ row_cells owner z k to (end - to) link
 cells_more cs ds owner z k j to end link after more next after_is pushed =
@@ -54,11 +48,6 @@ cells_more cs ds owner z k j to end link after more next after_is pushed =
     ∙ (ap (λ es. es ++ rest) pushed
     ∙ (append_assoc cs (c ∷ []) rest
     ∙ sym (ap (λ n. cs ++ row_cells owner z k to n link) count))))
-
-pub link_none : (k to end : ℕ) (link : Option ArcNo) → end ≤ to → last_link k (end - to) link ≡ link
-link_none k to end link past =
-    let none : end - to ≡ 0 = omega arith in
-    ap (λ n. last_link k n link) none
 
 pub link_more : (k j to end : ℕ) (link after : Option ArcNo) → to < end → j ≡ k + 1 → after ≡ Some (arc_no k) → last_link j (end - (to + 1)) after ≡ last_link k (end - to) link
 link_more k j to end link after more next after_is =

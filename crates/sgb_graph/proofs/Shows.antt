@@ -115,10 +115,6 @@ shows_arc vs ss g k s shows sound is =
     subst (λ o. IfSome o (IsArc (n_of g) g.entries)) entry (sound.arcs k None (made_of_live g k live)) in
     record { entry = entry; owner = owner_is g k s.owner.0 sound (omega arith); len = arc.len }
 
--- a read of the slots
-pub read_slot : (ss : Slots) (k : ℕ) (o : Option Slot) → k < length ss → o ≡ get_or ss k o → slot_at ss k ≡ o
-read_slot ss k o h is = sym (get_or_read ss k o h is None)
-
 -- what `arc` answers
 view_of_slot : (a : Inside) (g : GraphOf) (k : ℕ) (o : Option Slot) → Opened a g → slot_at a.slots k ≡ o → view_in o ≡ arc_view g k
 view_of_slot a g k None x is = ap (entry_view (owner_of g k)) (sym (ap entry_of is) ∙ x.shows.entries k)

@@ -71,31 +71,8 @@ rows-push (x ∷ ls) F G U W l one two =
     (rows-push ls (λ w. F (suc w)) (λ w. G (suc w)) (λ w. U (suc w)) (λ w. W (suc w)) l
     (λ j ne. one (suc j) (suc_ne j (length ls) ne)) (λ j ne. two (suc j) (suc_ne j (length ls) ne)))
 
--- fields that are put
-pub values-over : (fs gs : List (List Util)) (v : ℕ) (us : List Util) → SameValues fs gs → v < length gs → PutsValues fs v us (set gs v us)
-values-over fs gs v us same low = record {
-  here = get_or-set_same gs v us six_zeros low;
-  others = λ j ne. get_or-set_other gs v j us six_zeros ne ∙ same j;
-}
-
 pub values-none : (fs : List (List Util)) (v : ℕ) (us : List Util) → length fs ≤ v → us ≡ six_zeros → PutsValues fs v us fs
 values-none fs v us past is = record { here = get_or_past fs v six_zeros past ∙ sym is; others = λ j ne. refl }
-
-values-last : (gs : List (List Util)) (us : List Util) → values_at (gs ++ us ∷ []) (length gs) ≡ us
-values-last [] us = refl
-values-last (ws ∷ gs) us = values-last gs us
-
-values-more : (gs : List (List Util)) (us : List Util) (j : ℕ) → j ≢ length gs → values_at (gs ++ us ∷ []) j ≡ values_at gs j
-values-more [] us zero ne = absurd (ne refl)
-values-more [] us (suc j) ne = refl
-values-more (ws ∷ gs) us zero ne = refl
-values-more (ws ∷ gs) us (suc j) ne = values-more gs us j (λ e. ne (ap suc e))
-
-pub values-push : (fs gs : List (List Util)) (v : ℕ) (us : List Util) → SameValues fs gs → length gs ≡ v → PutsValues fs v us (gs ++ us ∷ [])
-values-push fs gs v us same last = record {
-  here = ap (values_at (gs ++ us ∷ [])) (sym last) ∙ values-last gs us;
-  others = λ j ne. values-more gs us j (λ e. ne (e ∙ last)) ∙ same j;
-}
 
 pub values-fill : (gs : List (List Util)) (j : ℕ) → values_at (gs ++ six_zeros ∷ []) j ≡ values_at gs j
 values-fill [] zero = refl

@@ -1,5 +1,5 @@
 //! New vertices, and room for vertices and arcs.
-ghost use Rattle.std.specs.Prelude.{◌≡◌, true, ◌≤◌, ◌<◌, ◌⊎◌, length, map, All, IfErr, OnOk, OnErr};
+ghost use Rattle.std.specs.Prelude.{◌≡◌, ◌≤◌, ◌<◌, ◌⊎◌, length, map, All, IfErr, OnOk, OnErr};
 ghost use Rattle.std.specs.Result.{IsErrOf};
 ghost use Rattle.sgb_graph.specs.Graph.{IsGraph, n_of};
 ghost use Rattle.sgb_graph.specs.Edit.{stored};
@@ -7,7 +7,6 @@ ghost use Rattle.sgb_graph.specs.New.{six_zeros};
 ghost use Rattle.sgb_graph.specs.Set.{IsStorable};
 ghost use Rattle.sgb_graph.specs.Vertex.{NamesNothing, new_vertex, with_vertex_last};
 
-use super::fields::is_zero;
 use super::set::stored;
 use super::{Graph, MOST_ARCS, MOST_VERTICES};
 use crate::{Label, Refusal, Util};
@@ -67,51 +66,8 @@ impl Graph {
     }
 }
 
-// The values as they are stored. Most come that way, and are then not taken apart.
-#[inline(always)]
+// The values as they are stored.
 fn stored_six(fields: [Util; 6]) -> [Util; 6]
-    ensures value { result ≡ map stored fields }
-    ensures storable { All IsStorable result }
-    ensures six { length result ≡ 6 }
-{
-    if are_stored(&fields) {
-        fields
-    } else {
-        stored_each(fields)
-    }
-}
-
-// Each value is stored as it stands. A call, so that the array stays in memory and moves as a whole.
-#[inline(never)]
-fn are_stored(fields: &[Util; 6]) -> bool
-    ensures value { result ≡ true → map stored fields.now ≡ fields.now }
-    ensures storable { result ≡ true → All IsStorable fields.now }
-    ensures six { length fields.now ≡ 6 }
-{
-    let [u, v, w, x, y, z] = fields;
-    is_stored(u) && is_stored(v) && is_stored(w) && is_stored(x) && is_stored(y) && is_stored(z)
-}
-
-// The value is stored as it stands: it is neither the number 0 nor the empty text. Most are Zero.
-#[inline]
-fn is_stored(value: &Util) -> bool
-    ensures value { result ≡ true → stored value.now ≡ value.now }
-    ensures storable { result ≡ true → IsStorable value.now }
-{
-    if is_zero(value) {
-        return true;
-    }
-    match value {
-        Util::Int(number) => *number != 0,
-        Util::Text(text) => !text.bytes().is_empty(),
-        _ => true,
-    }
-}
-
-// The values as they are stored, each by itself.
-#[cold]
-#[inline(never)]
-fn stored_each(fields: [Util; 6]) -> [Util; 6]
     ensures value { result ≡ map stored fields }
     ensures storable { All IsStorable result }
     ensures six { length result ≡ 6 }
