@@ -19,6 +19,7 @@ pub mod InsertLemmas
 pub mod Joining
 pub mod Inserting
 pub mod Laws
+pub mod Linking
 pub mod NewLemmas
 pub mod Owning
 pub mod PairedLemmas
@@ -34,6 +35,7 @@ pub mod ShowsPut
 pub mod ShowsTake
 pub mod Slots
 pub mod Sound
+pub mod Soundness
 pub mod TakeOut
 pub mod Together
 pub mod UtilLemmas

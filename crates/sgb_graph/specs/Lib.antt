@@ -5,6 +5,7 @@ pub mod Edit
 pub mod Field
 pub mod Graph
 pub mod Honest
+pub mod Linked
 pub mod New
 pub mod Paired
 pub mod Parts
@@ -14,6 +15,7 @@ pub mod Refusal
 pub mod Reverted
 pub mod Same
 pub mod Set
+pub mod Sound
 pub mod Text
 pub mod Types
 pub mod Vertex

@@ -1,10 +1,13 @@
 //! Laws of graphs. Each function does nothing: its clauses are the law.
-ghost use Rattle.std.specs.Prelude.{◌≡◌, ◌≤◌, ◌<◌, ◌⊎◌, ◌+◌, ◌-◌, ◌↔◌, ℕ, length, IsTrue, true, false, slice_index};
-ghost use Rattle.sgb_graph.specs.Graph.{GraphOf, arcs_of, has_arc};
+ghost use Rattle.std.specs.Prelude.{◌≡◌, ◌≤◌, ◌<◌, ◌⊎◌, ◌+◌, ◌-◌, ◌↔◌, ℕ, length, IsTrue, true, false, Some, slice_index};
+ghost use Rattle.std.specs.Bool.{Decides};
+ghost use Rattle.sgb_graph.specs.Graph.{GraphOf, IsGraph, arcs_of, has_arc};
 ghost use Rattle.sgb_graph.specs.Edit.{owner_of};
+ghost use Rattle.sgb_graph.specs.Linked.{graph_of_parts};
 ghost use Rattle.sgb_graph.specs.Paired.{walk, is_half, without_half_places, is_paired, GoesTo};
 ghost use Rattle.sgb_graph.specs.Parts.{Builds};
 ghost use Rattle.sgb_graph.specs.Same.{graph_eq, util_eq};
+ghost use Rattle.sgb_graph.specs.Sound.{is_graph};
 ghost use Rattle.sgb_graph.specs.declared.field.Util.{Util};
 ghost use Rattle.sgb_graph.specs.declared.parts.Parts.{Parts};
 
@@ -37,4 +40,15 @@ pub fn pair_law()
         GoesTo g (slice_index (arcs_of g v) i) v v →
         (is_half g v (arcs_of g v) i ≡ true) ⊎
         ((i + 1 < length (arcs_of g v)) × (is_half g v (arcs_of g v) (i + 1) ≡ true)) }
+{}
+
+/// The test of a graph tells whether it is sound.
+pub fn sound_law()
+    ensures { (g : GraphOf) → Decides (is_graph g) (IsGraph g) }
+{}
+
+/// The graph that parts build is the one that is computed of them; where none is computed, they build none.
+pub fn parts_law()
+    ensures some { (p : Parts) (g : GraphOf) → Builds p g → graph_of_parts p ≡ Some g }
+    ensures built { (p : Parts) (g : GraphOf) → graph_of_parts p ≡ Some g → Builds p g }
 {}

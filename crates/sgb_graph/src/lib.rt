@@ -17,7 +17,7 @@ mod undoing;
 
 pub use builder::Builder;
 pub use delta::{CutArc, GraphDelta};
-pub use facts::{build_law, pair_law, same_law, walk_law};
+pub use facts::{build_law, pair_law, parts_law, same_law, sound_law, walk_law};
 pub use field::{ArcField, ArcNo, GraphField, Place, Tip, Util, VertexField, VertexNo};
 pub use graph::{ArcView, Arcs, Graph, MOST_ARCS, MOST_VERTICES, Walk};
 pub use items::Items;

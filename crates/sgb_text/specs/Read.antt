@@ -3,7 +3,7 @@ use Rattle.std.specs.Prelude.{ℕ, Bool, true, false, List, Option, Some, None, 
 use Rattle.sgb_graph.specs.Graph.{GraphOf}
 use Rattle.sgb_graph.specs.declared.refusal.Refusal.{Refusal}
 use Rattle.sgb_graph.specs.declared.refusal.Refusal.TheVariants.{TooLarge, CheckWrong, Syntax}
-use Rattle.sgb_parts.specs.Linked.{graph_of_parts}
+use Rattle.sgb_graph.specs.Linked.{graph_of_parts}
 use Rattle.sgb_grammar.specs.declared.header.Header.{Header}
 use Rattle.sgb_grammar.specs.Header.{header_at}
 use Rattle.sgb_grammar.specs.Saved.{SavedOf, saved_in}

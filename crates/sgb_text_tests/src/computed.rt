@@ -1,7 +1,7 @@
 //! What is computed of a few small parts. Each function does nothing: its clauses are the examples.
 ghost use Rattle.std.specs.Prelude.{◌≡◌, [], ◌∷◌, Some, None};
 ghost use Rattle.sgb_graph.specs.declared.field.Util.TheVariants.{Zero};
-ghost use Rattle.sgb_parts.specs.Linked.{graph_of_parts};
+ghost use Rattle.sgb_graph.specs.Linked.{graph_of_parts};
 ghost use Rattle.sgb_text_tests.specs.Example.{parts, link, to, names, graph, arc};
 
 // A list of two arcs, one of which names the other, and a record that no list reaches, with a bad tip and value.

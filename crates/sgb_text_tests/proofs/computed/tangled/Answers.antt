@@ -1,7 +1,7 @@
 use Rattle.std.proofs.Common.{refl}
 use Rattle.sgb_graph.specs.Chain.{chain}
-use Rattle.sgb_parts.specs.Sound.{is_graph}
-use Rattle.sgb_parts.specs.Linked.{linked, graph_of_parts}
+use Rattle.sgb_graph.specs.Sound.{is_graph}
+use Rattle.sgb_graph.specs.Linked.{linked, graph_of_parts}
 use Rattle.sgb_text_tests.proofs.computed.tangled.Goals as goal
 
 pub returns : goal.returns

@@ -8,7 +8,7 @@ use Rattle.sgb_graph.specs.Chain.{chain}
 use Rattle.sgb_graph.specs.Edit.{stored}
 use Rattle.sgb_graph.specs.Graph.{GraphOf, VertexOf, ArcOf, listings}
 use Rattle.sgb_graph.specs.Parts.{arc_part, next_part}
-use Rattle.sgb_parts.specs.Sound.{is_graph}
+use Rattle.sgb_graph.specs.Sound.{is_graph}
 
 -- the vertex of its part: its list is the chain from its first arc on. One number more than there are records shows
 -- a chain that returns

@@ -17,7 +17,7 @@ use Rattle.sgb_graph.specs.Types.{IsTypes, is_letter}
 use Rattle.sgb_graph.specs.Graph.{GraphOf, VertexOf, ArcOf, IsGraph, IsVertex, IsArc, IsValue, IsTip, IsId, n_of, made_of, no_vertex, has_arc, occurrences, listings}
 use Rattle.sgb_graph.proofs.Counts.{sum_zero}
 use Rattle.sgb_graph.proofs.Graphs.{no_arc_past, arcs_live}
-use Rattle.sgb_parts.specs.Sound.{fits_i64, is_text, is_id, is_types, is_tip, is_value, are_values, is_vertex, is_entry, is_listed, are_listed, is_graph}
+use Rattle.sgb_graph.specs.Sound.{fits_i64, is_text, is_id, is_types, is_tip, is_value, are_values, is_vertex, is_entry, is_listed, are_listed, is_graph}
 
 all_tells : {X : Type 0} (p : X → Bool) (P : X → Type 0) → ((x : X) → Decides (p x) (P x)) → (xs : List X) → Decides (list_all p xs) (All P xs)
 all_tells p P each xs = Decides-by_and p P (list_all p) each refl (λ _ _. refl) xs

@@ -11,9 +11,9 @@ use Rattle.sgb_graph.specs.Graph.{GraphOf, VertexOf, ArcOf, IsGraph, n_of, made_
 use Rattle.sgb_graph.specs.Parts.{any_vertex_part, vertex_part, arc_part, next_part, IsVertexOf, IsArcOf, Builds}
 use Rattle.sgb_graph.proofs.Chains.{chain_is}
 use Rattle.sgb_graph.proofs.Graphs.{same_vertex, same_graph, few_arcs_of, no_arc_past}
-use Rattle.sgb_parts.specs.Linked.{linked_vertex, linked_arc, linked_entry, linked_vertices, linked_entries, linked, graph_of_parts}
-use Rattle.sgb_parts.specs.Sound.{is_graph}
-use Rattle.sgb_parts.proofs.Soundness.{graph_tells}
+use Rattle.sgb_graph.specs.Linked.{linked_vertex, linked_arc, linked_entry, linked_vertices, linked_entries, linked, graph_of_parts}
+use Rattle.sgb_graph.specs.Sound.{is_graph}
+use Rattle.sgb_graph.proofs.Soundness.{graph_tells}
 
 -- a chain of fewer numbers than were asked for has come to its end
 chain_ends : (next : ℕ → Option ArcNo) (m : ℕ) (link : Option ArcNo) → length (chain next m link) < m → Leads next link (chain next m link) None

@@ -1,0 +1,5 @@
+use Rattle.sgb_graph.proofs.Linking.{built_some, some_built}
+use Rattle.sgb_graph.proofs.facts.parts_law.Goals as goal
+
+pub returns : goal.returns
+returns c = record { some = built_some; built = some_built }

@@ -1,0 +1,5 @@
+use Rattle.sgb_graph.proofs.Soundness.{graph_tells}
+use Rattle.sgb_graph.proofs.facts.sound_law.Goals as goal
+
+pub returns : goal.returns
+returns c = graph_tells

@@ -1,5 +1,0 @@
-use Rattle.sgb_parts.proofs.Linking.{built_some, some_built}
-use Rattle.sgb_parts.proofs.facts.parts_law.Goals as goal
-
-pub returns : goal.returns
-returns c = record { some = built_some; built = some_built }
