@@ -1,5 +1,5 @@
 -- Lemmas on the names of pairs.
-use Rattle.std.proofs.Common.{Result, Ok, Err, OnOk, ◌≡◌, ◌<◌, ◌≤◌, ◌+◌, ◌-◌, ◌*◌, ℕ, zero, suc, List, [], ◌∷◌, ◌++◌, length, map, codes, Bool, true, false, ◌&&◌, nat_le, max, ◌⊎◌, inl, inr, refl, sym, ap, ap₂, subst, ◌∙◌, arith}
+use Rattle.std.proofs.Common.{◌≡◌, ◌<◌, ◌≤◌, ◌+◌, ◌-◌, ◌*◌, ℕ, zero, suc, List, [], ◌∷◌, ◌++◌, length, map, codes, Bool, true, false, ◌&&◌, nat_le, max, ◌⊎◌, inl, inr, refl, sym, ap, ap₂, subst, ◌∙◌, arith}
 use Rattle.std.specs.List.{flat_map, list_all, range_with_len}
 use Rattle.std.proofs.Math.Nat.{suc-mul, zero-mul}
 use Rattle.std.proofs.lemmas.List.FromFn.{length-map-range_with_len}
@@ -76,10 +76,6 @@ short_pair g h a b low_a low_b all =
 
 pair_length : (s t : List ℕ) → length (s ++ codes "," ++ t) ≡ length s + 1 + length t
 pair_length s t = omega (arith, length-append (s ++ codes ",") t, length-append s (codes ","))
-
-pub then_so : {T E P : Type 0} (r : Result T E) → P → OnOk r P
-then_so (Ok x) so = so
-then_so (Err e) so = tt
 
 -- two texts with a comma between, if they are short
 pub text_pair : (s t front back : List ℕ) → front ≡ s ++ codes "," → back ≡ t → IsText s → IsText t → length (s ++ codes "," ++ t) ≤ 4095 → IsText (front ++ back)
