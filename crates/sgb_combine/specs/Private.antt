@@ -1,7 +1,5 @@
-pub mod Ahead
 pub mod Begin
 pub mod Both
-pub mod Missing
 pub mod Pairs
 pub mod Pruned
 pub mod Rows

@@ -2,13 +2,11 @@
 //! and random lengths are handed on.
 #![tactic(auto)]
 
-mod ahead;
 mod begin;
 mod both;
 mod facts;
 mod intersect;
 mod lowest;
-mod met;
 mod multiply;
 mod negate;
 mod pairs;
