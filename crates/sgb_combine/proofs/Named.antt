@@ -3,11 +3,10 @@ use Rattle.std.proofs.Common.{◌≡◌, ◌<◌, ◌≤◌, ◌+◌, ◌-◌, �
 use Rattle.std.specs.List.{flat_map, list_all, range_with_len}
 use Rattle.std.proofs.Math.Nat.{suc-mul, zero-mul}
 use Rattle.std.proofs.lemmas.List.FromFn.{length-map-range_with_len}
-use Rattle.std.proofs.lemmas.Bool.{cases_Bool, cases_lt, and_parts, and_from, le-leb, leb-true, lt-leb}
+use Rattle.std.proofs.lemmas.Bool.{cases_Bool, cases_lt, and_parts, le-leb, leb-true, lt-leb}
 use Rattle.std.proofs.lemmas.List.{length-append}
 use Rattle.std.proofs.lemmas.List.Folds.{list_all-append, list_all-map}
 use Rattle.sgb_graph.specs.Graph.{GraphOf, n_of, label_of}
-use Rattle.sgb_graph.specs.Text.{IsText, is_text_byte}
 use Rattle.sgb_graph.specs.declared.builder.Builder.{Builder}
 use Rattle.sgb_plan.specs.Plan.{Named, with_named}
 use Rattle.sgb_plan.proofs.Planning.{n-with_named}
@@ -76,18 +75,6 @@ short_pair g h a b low_a low_b all =
 
 pair_length : (s t : List ℕ) → length (s ++ codes "," ++ t) ≡ length s + 1 + length t
 pair_length s t = omega (arith, length-append (s ++ codes ",") t, length-append s (codes ","))
-
--- two texts with a comma between, if they are short
-pub text_pair : (s t front back : List ℕ) → front ≡ s ++ codes "," → back ≡ t → IsText s → IsText t → length (s ++ codes "," ++ t) ≤ 4095 → IsText (front ++ back)
-text_pair s t front back is too first second short =
-    subst IsText (sym (ap₂ (λ xs ys. xs ++ ys) is too))
-    (record {
-      short = short;
-      printable =
-          list_all-append is_text_byte (s ++ codes ",") t
-          ∙ and_from (list_all is_text_byte (s ++ codes ",")) (list_all is_text_byte t)
-          (list_all-append is_text_byte s (codes ",") ∙ and_from (list_all is_text_byte s) true first.printable refl) second.printable;
-    })
 
 pub names_are_short : (g h : GraphOf) (m n : ℕ) → IsLongest g m → IsLongest h n → m + 1 + n ≤ 4095 → list_all is_short_name (pair_names g h) ≡ true
 names_are_short g h m n first second fits =
