@@ -1,7 +1,15 @@
 pub mod Apart
+pub mod Back
 pub mod Beginning
+pub mod Counting
+pub mod Drawn
+pub mod Exchanging
+pub mod Filled
+pub mod Fronts
+pub mod Halving
 pub mod Joined
 pub mod Joint
+pub mod Judging
 pub mod Least
 pub mod Meeting
 pub mod Named
@@ -10,6 +18,9 @@ pub mod Pruning
 pub mod Reached
 pub mod Rising
 pub mod Rowed
+pub mod Sources
+pub mod Tables
 pub mod Unions
 pub mod Upward
+pub mod Walked
 pub mod Wanted
