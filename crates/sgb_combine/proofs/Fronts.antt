@@ -1,6 +1,6 @@
 -- Lists that a loop fills from the front.
 use Rattle.std.proofs.Common.{◌≡◌, ◌<◌, ◌≤◌, ◌+◌, ◌-◌, ℕ, List, [], ◌∷◌, ◌++◌, length, drop, set, get_or, map, sym, ap, ◌∙◌, append_assoc, refl, subst, arith}
-use Rattle.std.proofs.lemmas.List.{append-nil, length-append, length-drop, set-append_right, drop_more, drop_all, get_or-append_right, get_or-drop}
+use Rattle.std.proofs.lemmas.List.{append-nil, length-append, set-append_right, drop_more, drop_all, get_or-append_right, get_or-drop}
 use Rattle.std.proofs.lemmas.List.FromFn.{map-range_with_len_more}
 use Rattle.std.specs.List.{range_with_len}
 
@@ -11,12 +11,6 @@ pub record Front {X : Type 0} (front olds now : List X) (k : ℕ) : Type 0 where
 
 pub front_start : {X : Type 0} (olds : List X) → Front [] olds olds 0
 front_start olds = record { whole = refl; count = refl }
-
-pub front_length : {X : Type 0} {front olds now : List X} {k : ℕ} → k ≤ length olds → Front front olds now k → length now ≡ length olds
-front_length {X} {front} {olds} {now} {k} within f =
-    let count = f.count in
-    let whole = ap length f.whole ∙ length-append front (drop k olds) in
-    omega (arith, whole, count, length-drop k olds, within)
 
 -- the next element is still the old one
 pub front_at : {X : Type 0} {front olds now : List X} {k : ℕ} (d : X) → Front front olds now k → get_or now k d ≡ get_or olds k d

@@ -16,9 +16,6 @@ use Rattle.sgb_combine.proofs.Meeting.{upward_candidates}
 pub joints_none : (v : ℕ) (ss : List Spoke) (r : Spoke) → leading_to r.to ss ≡ [] → joints v ss r ≡ []
 joints_none v ss r none = ap (map (λ s. along v (longer r s))) none
 
-pub joints_one : (v : ℕ) (ss : List Spoke) (r s : Spoke) → leading_to r.to ss ≡ s ∷ [] → joints v ss r ≡ along v (longer r s) ∷ []
-joints_one v ss r s one = ap (map (λ s. along v (longer r s))) one
-
 -- ---- among the spokes of the other graph only those to vertices that pass count
 added-passes : (p : ℕ → Bool) (rs : List Spoke) (s : Spoke) → list_all (λ q. p q.to) rs ≡ true → p s.to ≡ true → list_all (λ q. p q.to) (add_or_lower rs s) ≡ true
 unfolding add_or_lower

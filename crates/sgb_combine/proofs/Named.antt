@@ -113,9 +113,6 @@ no_names g h none =
     ]))
 
 -- ---- the longest so far
-pub longest_start : (g : GraphOf) → IsLongestOf g 0 0
-longest_start g = record { bound = λ v low. absurd (omega arith); met = inl refl }
-
 pub longest_more : (g : GraphOf) (k n m l : ℕ) → IsLongestOf g k n → l ≡ length (label_of g k) → m ≡ max n l → IsLongestOf g (k + 1) m
 longest_more g k n m l longest is most = record {
   bound = λ v low. elim (cases_lt v k) [

@@ -11,9 +11,9 @@ use Rattle.sgb_graph.specs.Graph.{GraphOf, ArcOf, IsGraph, made_of, has_arc, arc
 use Rattle.sgb_graph.specs.Paired.{is_paired}
 use Rattle.sgb_graph.proofs.Counts.{occurs_no, occurs_yes}
 use Rattle.sgb_plan.specs.Length.{drawn_length}
-use Rattle.sgb_combine.specs.Drawing.{drawing, drawn, with_one, place_in, source_of, chosen, chosen_lengths}
+use Rattle.sgb_combine.specs.Drawing.{Draws, drawing, drawn, with_one, place_in, source_of, chosen, chosen_lengths}
 use Rattle.sgb_combine.specs.Lengths.{with_length, lengthened_at, with_lengths, refusal_of_arcs}
-use Rattle.sgb_combine.specs.Private.Table.{Table, written, with_draw, drawn_over}
+use Rattle.sgb_combine.specs.Private.Table.{written, with_draw, drawn_over}
 use Rattle.sgb_combine.proofs.Counting.{draws_once}
 use Rattle.sgb_combine.proofs.Drawn.{drawn-none, drawn-more, length-drawn}
 use Rattle.sgb_combine.proofs.Halving.{half_silent}
@@ -125,7 +125,7 @@ source_kept false ks k j other apart inside =
 
 -- ---- tables
 -- these arcs have drawn, and each that has its length from one of them has it
-pub record Told (directed : Bool) (min max : ℤ) (w : Generator) (made : ℕ) (ks : List ℕ) (t : Table) : Type 0 where
+pub record Told (directed : Bool) (min max : ℤ) (w : Generator) (made : ℕ) (ks : List ℕ) (t : Draws) : Type 0 where
   pub count : t.draws ≡ (drawn min max w (length ks)).draws
   pub rest : t.rest ≡ (drawn min max w (length ks)).rest
   pub long : length t.lens ≡ made
@@ -160,12 +160,12 @@ written_other false lens k j len other apart =
     get_or-set_other (set lens k len) (k + 1) j len (pos 0) (apart refl) ∙ get_or-set_other lens k j len (pos 0) other
 
 -- what one arc more finds: the lengths, with its own behind the others
-record Next (min max : ℤ) (w : Generator) (ks : List ℕ) (k : ℕ) (t : Table) : Type 0 where
+record Next (min max : ℤ) (w : Generator) (ks : List ℕ) (k : ℕ) (t : Draws) : Type 0 where
   lens : (drawn min max w (length (ks ++ k ∷ []))).lens ≡ (drawn min max w (length ks)).lens ++ (drawn_length min max t.rest).len ∷ []
   draws : (drawn min max w (length (ks ++ k ∷ []))).draws ≡ (drawn min max w (length ks)).draws + (drawn_length min max t.rest).draws
   rest : (drawn min max w (length (ks ++ k ∷ []))).rest ≡ (drawn_length min max t.rest).rest
 
-next_is : (min max : ℤ) (w : Generator) (ks : List ℕ) (k : ℕ) (t : Table) → t.rest ≡ (drawn min max w (length ks)).rest → Next min max w ks k t
+next_is : (min max : ℤ) (w : Generator) (ks : List ℕ) (k : ℕ) (t : Draws) → t.rest ≡ (drawn min max w (length ks)).rest → Next min max w ks k t
 unfolding with_one
 next_is min max w ks k t rest =
     let d = drawn min max w (length ks) in
@@ -185,7 +185,7 @@ at_first : (lens : List ℤ) {all : List ℤ} {n i : ℕ} (len : ℤ) → all �
 at_first lens {all} {n} {i} len is long low =
     ap (λ ls. get_or ls i (pos 0)) is ∙ get_or_append_left lens (len ∷ []) (pos 0) i (omega (arith, long, low))
 
-told_other : {directed : Bool} {min max : ℤ} {w : Generator} {made : ℕ} {ks : List ℕ} {t : Table} (k j : ℕ) → Told directed min max w made ks t → j < made → j ≢ k → (directed ≡ false → j ≢ k + 1)
+told_other : {directed : Bool} {min max : ℤ} {w : Generator} {made : ℕ} {ks : List ℕ} {t : Draws} (k j : ℕ) → Told directed min max w made ks t → j < made → j ≢ k → (directed ≡ false → j ≢ k + 1)
     → source_of directed (ks ++ k ∷ []) j < length ks + 1
     → get_or (written directed t.lens k (drawn_length min max t.rest).len) j (pos 0) ≡ get_or (drawn min max w (length (ks ++ k ∷ []))).lens (source_of directed (ks ++ k ∷ []) j) (pos 0)
 told_other {directed} {min} {max} {w} {made} {ks} {t} k j x low other apart inside =
@@ -197,12 +197,12 @@ told_other {directed} {min} {max} {w} {made} {ks} {t} k j x low other apart insi
     ∙ ap (λ i. get_or (drawn min max w (length (ks ++ k ∷ []))).lens i (pos 0)) (sym kept.1)))
 
 -- the length of arc j after arc k
-abbrev ToldAt : Bool → ℤ → ℤ → Generator → List ℕ → Table → ℕ → ℕ → Type 0
+abbrev ToldAt : Bool → ℤ → ℤ → Generator → List ℕ → Draws → ℕ → ℕ → Type 0
 ToldAt directed min max w ks t k j =
     get_or (written directed t.lens k (drawn_length min max t.rest).len) j (pos 0)
     ≡ get_or (drawn min max w (length (ks ++ k ∷ []))).lens (source_of directed (ks ++ k ∷ []) j) (pos 0)
 
-told_own : {directed : Bool} {min max : ℤ} {w : Generator} {made : ℕ} {ks : List ℕ} {t : Table} (k j : ℕ) → Told directed min max w made ks t → j ≡ k → k < made → occurrences k ks ≡ 0 → ToldAt directed min max w ks t k j
+told_own : {directed : Bool} {min max : ℤ} {w : Generator} {made : ℕ} {ks : List ℕ} {t : Draws} (k j : ℕ) → Told directed min max w made ks t → j ≡ k → k < made → occurrences k ks ≡ 0 → ToldAt directed min max w ks t k j
 told_own {directed} {min} {max} {w} {made} {ks} {t} k j x same low none =
     let next = next_is min max w ks k t x.rest in
     let len : ℤ = (drawn_length min max t.rest).len in
@@ -210,13 +210,13 @@ told_own {directed} {min} {max} {w} {made} {ks} {t} k j x same low none =
     ap (λ i. get_or (written directed t.lens k len) i (pos 0)) same
     ∙ (written_own directed t.lens k len (omega (arith, low, x.long)) ∙ sym (at_last _ _ next.lens (length-drawn min max w (length ks)) here))
 
-told_half : {min max : ℤ} {w : Generator} {made : ℕ} {ks : List ℕ} {t : Table} (k j : ℕ) → Told false min max w made ks t → j ≡ k + 1 → j < made → occurrences k ks ≡ 0 → occurrences (k + 1) ks ≡ 0 → ToldAt false min max w ks t k j
+told_half : {min max : ℤ} {w : Generator} {made : ℕ} {ks : List ℕ} {t : Draws} (k j : ℕ) → Told false min max w made ks t → j ≡ k + 1 → j < made → occurrences k ks ≡ 0 → occurrences (k + 1) ks ≡ 0 → ToldAt false min max w ks t k j
 told_half {min} {max} {w} {made} {ks} {t} k j x half low none silent =
     let next = next_is min max w ks k t x.rest in
     written_half t.lens k j (drawn_length min max t.rest).len half (omega (arith, low, x.long))
     ∙ sym (at_last _ _ next.lens (length-drawn min max w (length ks)) (half_source ks k j half none silent))
 
-told_at : (directed : Bool) {min max : ℤ} {w : Generator} {made : ℕ} {ks : List ℕ} {t : Table} (k j : ℕ) → occurrences k ks ≡ 0 → (directed ≡ false → occurrences (k + 1) ks ≡ 0) → Told directed min max w made ks t → j < made
+told_at : (directed : Bool) {min max : ℤ} {w : Generator} {made : ℕ} {ks : List ℕ} {t : Draws} (k j : ℕ) → occurrences k ks ≡ 0 → (directed ≡ false → occurrences (k + 1) ks ≡ 0) → Told directed min max w made ks t → j < made
     → source_of directed (ks ++ k ∷ []) j < length ks + 1 → ToldAt directed min max w ks t k j
 told_at true k j none silent x low inside =
     elim (cases_Bool (j == k)) [
@@ -233,7 +233,7 @@ told_at false k j none silent x low inside =
           ]
     ]
 
-told_more : {directed : Bool} {min max : ℤ} {w : Generator} {made : ℕ} {ks : List ℕ} {t : Table} (k : ℕ) → occurrences k ks ≡ 0 → (directed ≡ false → occurrences (k + 1) ks ≡ 0) → Told directed min max w made ks t
+told_more : {directed : Bool} {min max : ℤ} {w : Generator} {made : ℕ} {ks : List ℕ} {t : Draws} (k : ℕ) → occurrences k ks ≡ 0 → (directed ≡ false → occurrences (k + 1) ks ≡ 0) → Told directed min max w made ks t
     → Told directed min max w made (ks ++ k ∷ []) (with_draw directed min max t k)
 unfolding with_draw
 told_more {directed} {min} {max} {w} {made} {ks} {t} k none silent x =
@@ -247,7 +247,7 @@ told_more {directed} {min} {max} {w} {made} {ks} {t} k none silent x =
     }
 
 -- all that draw: none twice, and where edges are meant not the one that is numbered next
-pub told_all : {directed : Bool} {min max : ℤ} {w : Generator} {made : ℕ} (all done rest : List ℕ) (t : Table) → done ++ rest ≡ all → ((k : ℕ) → occurrences k all ≤ 1) → (directed ≡ false → (k : ℕ) → 0 < occurrences k all → occurrences (k + 1) all ≡ 0)
+pub told_all : {directed : Bool} {min max : ℤ} {w : Generator} {made : ℕ} (all done rest : List ℕ) (t : Draws) → done ++ rest ≡ all → ((k : ℕ) → occurrences k all ≤ 1) → (directed ≡ false → (k : ℕ) → 0 < occurrences k all → occurrences (k + 1) all ≡ 0)
     → Told directed min max w made done t → Told directed min max w made all (drawn_over directed min max t rest)
 told_all {directed} {min} {max} {w} {made} all done [] t same once silent x =
     subst (λ ks. Told directed min max w made ks t) (sym (append-nil done) ∙ same) x
@@ -263,7 +263,7 @@ hole_same : (o : Option ArcOf) (x y : ℤ) → is_some o ≡ false → with_leng
 hole_same None x y hole = refl
 hole_same (Some e) x y hole = absurd cc
 
-entry_same : (directed : Bool) (min max : ℤ) (w : Generator) (g : GraphOf) (t : Table) (k : ℕ) → IsGraph g → refusal_of_arcs directed g ≡ None → Told directed min max w (made_of g) (drawing directed g) t → k < made_of g
+entry_same : (directed : Bool) (min max : ℤ) (w : Generator) (g : GraphOf) (t : Draws) (k : ℕ) → IsGraph g → refusal_of_arcs directed g ≡ None → Told directed min max w (made_of g) (drawing directed g) t → k < made_of g
     → lengthened_at g t.lens k ≡ lengthened_at g (chosen_lengths directed (drawing directed g) (drawn min max w (length (drawing directed g))).lens (made_of g)) k
 unfolding chosen_lengths
 entry_same directed min max w g t k sound whole x low =
@@ -275,7 +275,7 @@ entry_same directed min max w g t k sound whole x low =
       | inr hole ↦ hole_same (arc_at g k) (get_or t.lens k (pos 0)) _ hole
     ]
 
-pub lengths_same : (directed : Bool) (min max : ℤ) (w : Generator) (g : GraphOf) (t : Table) → IsGraph g → refusal_of_arcs directed g ≡ None → Told directed min max w (made_of g) (drawing directed g) t
+pub lengths_same : (directed : Bool) (min max : ℤ) (w : Generator) (g : GraphOf) (t : Draws) → IsGraph g → refusal_of_arcs directed g ≡ None → Told directed min max w (made_of g) (drawing directed g) t
     → with_lengths g t.lens ≡ with_lengths g (chosen_lengths directed (drawing directed g) (drawn min max w (length (drawing directed g))).lens (made_of g))
 unfolding with_lengths
 lengths_same directed min max w g t sound whole x =

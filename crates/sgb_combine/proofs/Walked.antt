@@ -1,5 +1,5 @@
 -- Lengths that are drawn along a walk, and along all of them.
-use Rattle.std.proofs.Common.{◌≡◌, ◌<◌, ◌≤◌, ◌+◌, ◌*◌, ℕ, ℤ, List, [], ◌∷◌, length, filter, Bool, true, false, All, IsSome, None, sym, ap, subst, ◌∙◌, refl, arith}
+use Rattle.std.proofs.Common.{◌≡◌, ◌<◌, ◌≤◌, ◌+◌, ◌*◌, ℕ, ℤ, List, ◌∷◌, length, filter, Bool, true, false, All, IsSome, None, sym, ap, subst, ◌∙◌, refl, arith}
 use Rattle.std.proofs.lemmas.List.{length-append}
 use Rattle.std.proofs.lemmas.List.Elements.{All-tail}
 use Rattle.std.proofs.lemmas.List.Sums.{fold-append}
@@ -7,9 +7,9 @@ use Rattle.sgb_flip.specs.Generator.{Generator, IsGenerator, after}
 use Rattle.sgb_graph.specs.Graph.{GraphOf, IsGraph, n_of, made_of, arc_at}
 use Rattle.sgb_graph.specs.Paired.{walk}
 use Rattle.sgb_plan.specs.Length.{drawn_length}
-use Rattle.sgb_combine.specs.Drawing.{drawing, drawing_at, is_drawing, drawn, chosen_lengths}
+use Rattle.sgb_combine.specs.Drawing.{Draws, drawing, drawing_at, is_drawing, drawn, chosen_lengths}
 use Rattle.sgb_combine.specs.Lengths.{refusal_of_arcs, with_lengths}
-use Rattle.sgb_combine.specs.Private.Table.{Table, written, with_draw, drawn_over}
+use Rattle.sgb_combine.specs.Private.Table.{written, with_draw, drawn_over}
 use Rattle.sgb_combine.proofs.Counting.{few_draw}
 use Rattle.sgb_combine.proofs.Drawn.{drawn_moved}
 use Rattle.sgb_combine.proofs.Filled.{drawing_before, drawing_more}
@@ -17,13 +17,13 @@ use Rattle.sgb_combine.proofs.Tables.{Told, told_graph, lengths_same}
 
 -- ---- one walk
 -- those of v that draw are to do so from the start on; some of them have, and `rest` is still to be looked at
-pub record Walked (directed : Bool) (min max : ℤ) (g : GraphOf) (v : ℕ) (start now : Table) (rest : List ℕ) : Type 0 where
+pub record Walked (directed : Bool) (min max : ℤ) (g : GraphOf) (v : ℕ) (start now : Draws) (rest : List ℕ) : Type 0 where
   pub table : drawn_over directed min max now (filter (is_drawing directed g v) rest) ≡ drawn_over directed min max start (drawing_at directed g v)
   pub few : now.draws + 1814 * length (filter (is_drawing directed g v) rest) ≤ start.draws + 1814 * length (drawing_at directed g v)
   pub generator : IsGenerator now.rest
   pub live : All (λ k. IsSome (arc_at g k)) rest
 
-pub walked_start : {directed : Bool} {min max : ℤ} {g : GraphOf} {v : ℕ} {start : Table} {rest : List ℕ} → rest ≡ walk directed g v → IsGenerator start.rest → All (λ k. IsSome (arc_at g k)) rest → Walked directed min max g v start start rest
+pub walked_start : {directed : Bool} {min max : ℤ} {g : GraphOf} {v : ℕ} {start : Draws} {rest : List ℕ} → rest ≡ walk directed g v → IsGenerator start.rest → All (λ k. IsSome (arc_at g k)) rest → Walked directed min max g v start start rest
 unfolding drawing_at
 walked_start {directed} {min} {max} {g} {v} {start} {rest} is generator live =
     let same = ap (filter (is_drawing directed g v)) is in
@@ -33,7 +33,7 @@ live_on : (g : GraphOf) {rest on : List ℕ} {k : ℕ} → rest ≡ k ∷ on →
 live_on g {rest} {on} {k} steps live =
     All-tail (λ j. IsSome (arc_at g j)) k on (subst (All (λ j. IsSome (arc_at g j))) steps live)
 
-pub walked_skip : {directed : Bool} {min max : ℤ} {g : GraphOf} {v k : ℕ} {start now : Table} {rest on : List ℕ} → rest ≡ k ∷ on → is_drawing directed g v k ≡ false → Walked directed min max g v start now rest → Walked directed min max g v start now on
+pub walked_skip : {directed : Bool} {min max : ℤ} {g : GraphOf} {v k : ℕ} {start now : Draws} {rest on : List ℕ} → rest ≡ k ∷ on → is_drawing directed g v k ≡ false → Walked directed min max g v start now rest → Walked directed min max g v start now on
 walked_skip {directed} {min} {max} {g} {v} {k} {start} {now} {rest} {on} steps fails x =
     let p : ℕ → Bool = is_drawing directed g v in
     let here : filter p (k ∷ on) ≡ filter p on = rw fails refl in
@@ -50,7 +50,7 @@ drawing_here p {k} {rest} {on} steps passes =
     let here : filter p (k ∷ on) ≡ k ∷ filter p on = rw passes refl in
     ap (filter p) steps ∙ here
 
-pub walked_draw : {directed : Bool} {min max : ℤ} {g : GraphOf} {v k : ℕ} {start now new : Table} {rest on : List ℕ} → rest ≡ k ∷ on → is_drawing directed g v k ≡ true → Walked directed min max g v start now rest
+pub walked_draw : {directed : Bool} {min max : ℤ} {g : GraphOf} {v k : ℕ} {start now new : Draws} {rest on : List ℕ} → rest ≡ k ∷ on → is_drawing directed g v k ≡ true → Walked directed min max g v start now rest
     → new ≡ with_draw directed min max now k → new.draws ≤ now.draws + 1814 → IsGenerator new.rest → Walked directed min max g v start new on
 walked_draw {directed} {min} {max} {g} {v} {k} {start} {now} {new} {rest} {on} steps passes x is few generator =
     let left : List ℕ = filter (is_drawing directed g v) on in
@@ -62,13 +62,6 @@ walked_draw {directed} {min} {max} {g} {v} {k} {start} {now} {new} {rest} {on} s
       live = live_on g steps x.live;
     }
 
-pub walked_end : {directed : Bool} {min max : ℤ} {g : GraphOf} {v : ℕ} {start now : Table} {rest : List ℕ} → rest ≡ [] → Walked directed min max g v start now rest
-    → (now ≡ drawn_over directed min max start (drawing_at directed g v)) × (now.draws ≤ start.draws + 1814 * length (drawing_at directed g v))
-walked_end {directed} {min} {max} {g} {v} {start} {now} {rest} none x =
-    let p : ℕ → Bool = is_drawing directed g v in
-    let few = x.few in
-    (ap (λ ks. drawn_over directed min max now (filter p ks)) (sym none) ∙ x.table, omega (arith, few))
-
 -- one draw, told by its parts
 pub draw_is : (directed : Bool) (min max : ℤ) (lens : List ℤ) (draws k : ℕ) (now : Generator) {lens' : List ℤ} {more : ℕ} {len : ℤ} {new : Generator} → lens' ≡ written directed lens k len
     → len ≡ (drawn_length min max now).len → more ≡ (drawn_length min max now).draws → new ≡ (drawn_length min max now).rest
@@ -76,25 +69,22 @@ pub draw_is : (directed : Bool) (min max : ℤ) (lens : List ℤ) (draws k : ℕ
 unfolding with_draw
 draw_is directed min max lens draws k now {lens'} {more} {len} {new} stored is count rest =
     let d = drawn_length min max now in
-    let table : List ℤ → ℕ → Generator → Table = λ ls n w. record { lens = ls; draws = draws + n; rest = w } in
+    let table : List ℤ → ℕ → Generator → Draws = λ ls n w. record { lens = ls; draws = draws + n; rest = w } in
     ap (λ ls. table ls more new) (stored ∙ ap (written directed lens k) is)
     ∙ (ap (λ n. table (written directed lens k d.len) n new) count ∙ ap (table (written directed lens k d.len) d.draws) rest)
 
 -- ---- all walks
 -- the arcs of the vertices before v have drawn
-pub record Over (directed : Bool) (min max : ℤ) (g : GraphOf) (start now : Table) (v : ℕ) : Type 0 where
+pub record Over (directed : Bool) (min max : ℤ) (g : GraphOf) (start now : Draws) (v : ℕ) : Type 0 where
   pub table : now ≡ drawn_over directed min max start (drawing_before directed g v)
   pub few : now.draws ≤ start.draws + 1814 * length (drawing_before directed g v)
   pub generator : IsGenerator now.rest
-
-pub over_start : {directed : Bool} {min max : ℤ} {g : GraphOf} {start : Table} → IsGenerator start.rest → Over directed min max g start start 0
-over_start {directed} {min} {max} {g} {start} generator = record { table = refl; few = omega arith; generator = generator }
 
 longer : (directed : Bool) (g : GraphOf) (v : ℕ) → length (drawing_before directed g v) + length (drawing_at directed g v) ≡ length (drawing_before directed g (v + 1))
 longer directed g v =
     sym (length-append (drawing_before directed g v) (drawing_at directed g v)) ∙ ap length (drawing_more directed g v)
 
-pub over_room : {directed : Bool} {min max : ℤ} {g : GraphOf} {start now : Table} {v : ℕ} → IsGraph g → v < n_of g → start.draws ≡ 0 → Over directed min max g start now v
+pub over_room : {directed : Bool} {min max : ℤ} {g : GraphOf} {start now : Draws} {v : ℕ} → IsGraph g → v < n_of g → start.draws ≡ 0 → Over directed min max g start now v
     → now.draws + 1814 * length (drawing_at directed g v) ≤ 1814000000
 over_room {directed} {min} {max} {g} {start} {now} {v} sound low none x =
     let few = x.few in
@@ -102,10 +92,10 @@ over_room {directed} {min} {max} {g} {start} {now} {v} sound low none x =
     let made = sound.few_arcs in
     omega (arith, few, none, most, made, longer directed g v)
 
-pub over_more : {directed : Bool} {min max : ℤ} {g : GraphOf} {start now new : Table} {v : ℕ} → Over directed min max g start now v
+pub over_more : {directed : Bool} {min max : ℤ} {g : GraphOf} {start now new : Draws} {v : ℕ} → Over directed min max g start now v
     → new ≡ drawn_over directed min max now (drawing_at directed g v) → new.draws ≤ now.draws + 1814 * length (drawing_at directed g v) → IsGenerator new.rest → Over directed min max g start new (v + 1)
 over_more {directed} {min} {max} {g} {start} {now} {new} {v} x is few generator =
-    let over : Table → List ℕ → Table = drawn_over directed min max in
+    let over : Draws → List ℕ → Draws = drawn_over directed min max in
     record {
       table = is ∙ (ap (λ t. over t (drawing_at directed g v)) x.table
           ∙ (sym (fold-append (with_draw directed min max) start (drawing_before directed g v) (drawing_at directed g v)) ∙ ap (over start) (drawing_more directed g v)));
@@ -114,19 +104,19 @@ over_more {directed} {min} {max} {g} {start} {now} {new} {v} x is few generator 
     }
 
 -- what all of them have drawn
-pub record AllDrawn (directed : Bool) (min max : ℤ) (g : GraphOf) (w : Generator) (t : Table) : Type 0 where
+pub record AllDrawn (directed : Bool) (min max : ℤ) (g : GraphOf) (w : Generator) (t : Draws) : Type 0 where
   pub lengths : with_lengths g t.lens ≡ with_lengths g (chosen_lengths directed (drawing directed g) (drawn min max w (length (drawing directed g))).lens (made_of g))
   pub count : length t.lens ≡ made_of g
   pub draws : t.draws ≡ (drawn min max w (length (drawing directed g))).draws
   pub rest : t.rest ≡ after w t.draws
   pub few : t.draws ≤ 1814000000
 
-pub over_all : {directed : Bool} {min max : ℤ} {g : GraphOf} {now : Table} {v : ℕ} (w : Generator) (olds : List ℤ) → v ≡ n_of g → IsGraph g → IsGenerator w → refusal_of_arcs directed g ≡ None → length olds ≡ made_of g
+pub over_all : {directed : Bool} {min max : ℤ} {g : GraphOf} {now : Draws} {v : ℕ} (w : Generator) (olds : List ℤ) → v ≡ n_of g → IsGraph g → IsGenerator w → refusal_of_arcs directed g ≡ None → length olds ≡ made_of g
     → Over directed min max g (record { lens = olds; draws = 0; rest = w }) now v → AllDrawn directed min max g w now
 unfolding drawing
 over_all {directed} {min} {max} {g} {now} {v} w olds all sound generator whole count x =
     let ks : List ℕ = drawing directed g in
-    let start : Table = record { lens = olds; draws = 0; rest = w } in
+    let start : Draws = record { lens = olds; draws = 0; rest = w } in
     let same : now ≡ drawn_over directed min max start ks = x.table ∙ ap (λ n. drawn_over directed min max start (drawing_before directed g n)) all in
     let told : Told directed min max w (made_of g) ks now = subst (Told directed min max w (made_of g) ks) (sym same) (told_graph directed min max w g olds sound whole count) in
     let few = x.few in
