@@ -96,7 +96,7 @@ bench: bench_combine bench_text
 .PHONY: bench_combine bench_text
 
 bench_combine: $(BENCH)/plain_combine
-	sh bench/build.sh combine "sgb_flip sgb_graph sgb_plan sgb_operand sgb_induced sgb_lengths sgb_combine" $(BENCH)
+	sh bench/build.sh combine "sgb_flip sgb_graph sgb_plan sgb_operand sgb_induced sgb_combine" $(BENCH)
 	python3 bench/compare.py --same --turns 20 $(BENCH)/combine/crates/combine_bench/out/combine_bench $(BENCH)/plain_combine
 
 bench_text: $(BENCH)/plain_text

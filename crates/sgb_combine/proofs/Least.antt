@@ -1,19 +1,24 @@
 -- Lemmas on spokes to distinct vertices.
-use Rattle.std.proofs.Common.{◌≡◌, ◌≢◌, ◌<◌, ◌+◌, ℕ, zero, suc, List, [], ◌∷◌, ◌++◌, length, get_or, set, take, fold, cond, int_lt, false, All, inl, inr, refl, sym, ap, ◌∙◌, arith}
+use Rattle.std.proofs.Common.{◌≡◌, ◌≢◌, ◌<◌, ◌+◌, ℕ, zero, suc, List, [], ◌∷◌, ◌++◌, length, get_or, set, take, fold, All, inl, inr, refl, sym, ap, ◌∙◌, arith}
 use Rattle.std.proofs.lemmas.Bool.{eq-eqb, ne_eqb, cases_eq}
-use Rattle.std.proofs.lemmas.List.{take_more, get_or_default, set-get_or, get_or-set_same, get_or-set_other, length-set}
+use Rattle.std.proofs.lemmas.List.{take_more, get_or_default, get_or-set_same, get_or-set_other, length-set}
 use Rattle.std.proofs.lemmas.List.Elements.{All-head, All-tail}
 use Rattle.std.proofs.lemmas.List.Sums.{fold-append}
 use Rattle.sgb_graph.specs.declared.spoke.Spoke.{Spoke}
-use Rattle.sgb_combine.specs.Lowest.{lowered, add_or_lower}
+use Rattle.sgb_combine.specs.Lowest.{lowered, add_or_lower, lowest}
 use Rattle.sgb_combine.specs.Private.Targets.{IsMarked}
 
 -- ---- one spoke more
-pub added_more : (rs xs : List Spoke) (i : ℕ) (s d : Spoke) → i < length xs → s ≡ get_or xs i d → fold add_or_lower rs (take (i + 1) xs) ≡ add_or_lower (fold add_or_lower rs (take i xs)) s
-added_more rs xs i s d h is =
-    ap (fold add_or_lower rs) (take_more xs i d h)
-    ∙ (fold-append add_or_lower rs (take i xs) (get_or xs i d ∷ [])
-    ∙ ap (add_or_lower (fold add_or_lower rs (take i xs))) (sym is))
+pub lowest_more : (xs : List Spoke) (i : ℕ) (s d : Spoke) → i < length xs → s ≡ get_or xs i d → lowest (take (i + 1) xs) ≡ add_or_lower (lowest (take i xs)) s
+unfolding lowest
+lowest_more xs i s d h is =
+    ap (fold add_or_lower []) (take_more xs i d h)
+    ∙ (fold-append add_or_lower [] (take i xs) (get_or xs i d ∷ [])
+    ∙ ap (add_or_lower (fold add_or_lower [] (take i xs))) (sym is))
+
+pub lowest_none : lowest [] ≡ []
+unfolding lowest
+lowest_none = refl
 
 -- none leads to the same vertex
 pub added : (ss : List Spoke) (s : Spoke) → All (λ r. r.to ≢ s.to) ss → add_or_lower ss s ≡ ss ++ s ∷ []
@@ -43,18 +48,6 @@ marked_lowered places ss p s r marked h here is =
     ∙ lowered_at ss p s h (here s)
     (λ j low same. let at : j ≡ p = one_place places ss j p s marked (omega arith) h (same ∙ sym (here s)) in omega arith)
 
--- the spoke in its place, lowered
-pub lowered_is : (ss : List Spoke) (p : ℕ) (x s r : Spoke) → p < length ss → x ≡ get_or ss p x → r ≡ lowered x s → r ≡ lowered (get_or ss p s) s
-lowered_is ss p x s r h read is = is ∙ ap (λ y. lowered y s) (read ∙ get_or_default ss p x s h)
-
--- the spoke in its place, which is as short already
-pub marked_kept : (places : List ℕ) (ss : List Spoke) (p : ℕ) (s x : Spoke) → IsMarked places ss → p < length ss → ((d : Spoke) → (get_or ss p d).to ≡ s.to) → x ≡ get_or ss p x → int_lt s.len x.len ≡ false → ss ≡ add_or_lower ss s
-marked_kept places ss p s x marked h here read short =
-    let same : lowered x s ≡ x = ap (λ b. record x { len = cond b s.len x.len }) short in
-    sym (set-get_or ss p x)
-    ∙ (ap (set ss p) (sym read ∙ sym same)
-    ∙ marked_lowered places ss p s (lowered x s) marked h here (lowered_is ss p x s (lowered x s) h read refl))
-
 same_to : (ss : List Spoke) (p : ℕ) (r : Spoke) → p < length ss → (i : ℕ) (d : Spoke) → i < length ss → r.to ≡ (get_or ss p d).to → (get_or (set ss p r) i d).to ≡ (get_or ss i d).to
 same_to ss p r h i d low is =
     elim (cases_eq i p) [
@@ -74,3 +67,7 @@ marked_set places ss p r marked h is = record {
       let below : i < length ss = omega (arith, length-set ss p r) in
       ap (λ t. get_or places t 0) (same_to ss p r h i d below (is d)) ∙ marked.place i d below;
 }
+
+-- the spoke in its place, lowered
+pub lowered_is : (ss : List Spoke) (p : ℕ) (x s r : Spoke) → p < length ss → x ≡ get_or ss p x → r ≡ lowered x s → r ≡ lowered (get_or ss p s) s
+lowered_is ss p x s r h read is = is ∙ ap (λ y. lowered y s) (read ∙ get_or_default ss p x s h)

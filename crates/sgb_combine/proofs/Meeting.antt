@@ -1,9 +1,9 @@
--- Lemmas on spokes that are read as the arcs of vertices are walked.
+-- Lemmas on spokes that are read as the arcs of a vertex are walked.
 use Rattle.std.proofs.Common.{◌≡◌, ◌<◌, ◌≤◌, ◌&&◌, ℕ, List, [], ◌∷◌, ◌++◌, map, cond, Bool, true, false, nat_lt, All, inl, inr, refl, sym, ap, ap₂, ◌∙◌}
 use Rattle.std.specs.List.{filter}
-use Rattle.std.proofs.lemmas.Bool.{cases_Bool, lt-ltb, and_parts, ltb-true, ltb-false}
+use Rattle.std.proofs.lemmas.Bool.{cases_Bool, lt-ltb, ltb-true, ltb-false}
 use Rattle.std.proofs.lemmas.List.{append_assoc, append-nil}
-use Rattle.std.proofs.lemmas.List.Elements.{All-head, All-tail, filter-append, filter_passes}
+use Rattle.std.proofs.lemmas.List.Elements.{All-head, All-tail, filter-append}
 use Rattle.sgb_graph.specs.Graph.{GraphOf, IsGraph, n_of}
 use Rattle.sgb_graph.specs.Edit.{entry_at}
 use Rattle.sgb_graph.specs.Paired.{walk}
@@ -12,8 +12,6 @@ use Rattle.sgb_operand.specs.Operand.{spoke_of, spokes, IsWithin}
 use Rattle.sgb_operand.proofs.Spokes.{spokes_within}
 use Rattle.sgb_combine.specs.Combined.{is_upward}
 use Rattle.sgb_combine.specs.Gunion.{candidates, is_candidate}
-use Rattle.sgb_combine.specs.Intersection.{firsts}
-use Rattle.sgb_combine.specs.Lowest.{lowest}
 use Rattle.sgb_combine.specs.Private.Both.{passing}
 use Rattle.sgb_combine.proofs.Reached.{spokes_past}
 
@@ -35,9 +33,6 @@ pub record Holds (g : GraphOf) (p : Spoke → Bool) (all now : List Spoke) (rest
 pub passing_walk : (halves : Bool) (g : GraphOf) (v : ℕ) (p : Spoke → Bool) (ks : List ℕ) → ks ≡ walk halves g v → passing g p ks ≡ filter p (spokes halves g v)
 unfolding spokes
 passing_walk halves g v p ks is = ap (passing g p) is
-
-pub holds_walk : (halves : Bool) (g : GraphOf) (v : ℕ) (p : Spoke → Bool) (start : List Spoke) (rest : List ℕ) → rest ≡ walk halves g v → Holds g p (start ++ filter p (spokes halves g v)) start rest
-holds_walk halves g v p start rest is = record { same = ap (λ ts. start ++ ts) (passing_walk halves g v p rest is) }
 
 pub holds_from : (halves : Bool) (g : GraphOf) (v : ℕ) (p : Spoke → Bool) (start : List Spoke) (rest : List ℕ) → start ≡ [] → rest ≡ walk halves g v → Holds g p (filter p (spokes halves g v)) start rest
 holds_from halves g v p start rest none is =
@@ -103,11 +98,3 @@ upward_candidates directed g v n sound is =
           let none : ss ≡ [] = spokes_past true g v (ltb-false v (n_of g) high) in
           ap (filter (is_candidate directed n v)) none ∙ sym (ap (filter (is_upward directed v)) none)
     ]
-
-pub firsts_are : (directed : Bool) (g : GraphOf) (v : ℕ) (rs ss ts : List Spoke) → rs ≡ filter (is_upward directed v) (spokes true g v) → ss ≡ rs → ts ≡ lowest ss → ts ≡ firsts directed g v
-unfolding firsts
-firsts_are directed g v rs ss ts is same least = least ∙ ap lowest (same ∙ is)
-
-pub within_candidates : (directed : Bool) (v m n : ℕ) (ss rs : List Spoke) → m ≡ n → rs ≡ filter (is_candidate directed m v) ss → All (IsWithin n) rs
-within_candidates directed v m n ss rs wide is =
-    rw (is, sym wide) (λ k d low. ltb-true _ m (and_parts _ _ (filter_passes (is_candidate directed m v) ss k d low)).0)

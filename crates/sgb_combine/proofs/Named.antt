@@ -1,13 +1,12 @@
 -- Lemmas on the names of pairs.
-use Rattle.std.proofs.Common.{Result, Ok, Err, OnOk, ◌≡◌, ◌<◌, ◌≤◌, ◌+◌, ◌-◌, ◌*◌, ℕ, zero, suc, List, [], ◌∷◌, ◌++◌, length, map, codes, Bool, true, false, ◌&&◌, nat_le, max, ◌⊎◌, inl, inr, refl, sym, ap, ap₂, subst, ◌∙◌, arith}
+use Rattle.std.proofs.Common.{◌≡◌, ◌<◌, ◌≤◌, ◌+◌, ◌-◌, ◌*◌, ℕ, zero, suc, List, [], ◌∷◌, ◌++◌, length, map, codes, Bool, true, false, ◌&&◌, nat_le, max, ◌⊎◌, inl, inr, refl, sym, ap, ap₂, subst, ◌∙◌, arith}
 use Rattle.std.specs.List.{flat_map, list_all, range_with_len}
 use Rattle.std.proofs.Math.Nat.{suc-mul, zero-mul}
 use Rattle.std.proofs.lemmas.List.FromFn.{length-map-range_with_len}
-use Rattle.std.proofs.lemmas.Bool.{cases_Bool, cases_lt, and_parts, and_from, le-leb, leb-true, lt-leb}
+use Rattle.std.proofs.lemmas.Bool.{cases_Bool, cases_lt, and_parts, le-leb, leb-true, lt-leb}
 use Rattle.std.proofs.lemmas.List.{length-append}
 use Rattle.std.proofs.lemmas.List.Folds.{list_all-append, list_all-map}
 use Rattle.sgb_graph.specs.Graph.{GraphOf, n_of, label_of}
-use Rattle.sgb_graph.specs.Text.{IsText, is_text_byte}
 use Rattle.sgb_graph.specs.declared.builder.Builder.{Builder}
 use Rattle.sgb_plan.specs.Plan.{Named, with_named}
 use Rattle.sgb_plan.proofs.Planning.{n-with_named}
@@ -77,22 +76,6 @@ short_pair g h a b low_a low_b all =
 pair_length : (s t : List ℕ) → length (s ++ codes "," ++ t) ≡ length s + 1 + length t
 pair_length s t = omega (arith, length-append (s ++ codes ",") t, length-append s (codes ","))
 
-pub then_so : {T E P : Type 0} (r : Result T E) → P → OnOk r P
-then_so (Ok x) so = so
-then_so (Err e) so = tt
-
--- two texts with a comma between, if they are short
-pub text_pair : (s t front back : List ℕ) → front ≡ s ++ codes "," → back ≡ t → IsText s → IsText t → length (s ++ codes "," ++ t) ≤ 4095 → IsText (front ++ back)
-text_pair s t front back is too first second short =
-    subst IsText (sym (ap₂ (λ xs ys. xs ++ ys) is too))
-    (record {
-      short = short;
-      printable =
-          list_all-append is_text_byte (s ++ codes ",") t
-          ∙ and_from (list_all is_text_byte (s ++ codes ",")) (list_all is_text_byte t)
-          (list_all-append is_text_byte s (codes ",") ∙ and_from (list_all is_text_byte s) true first.printable refl) second.printable;
-    })
-
 pub names_are_short : (g h : GraphOf) (m n : ℕ) → IsLongest g m → IsLongest h n → m + 1 + n ≤ 4095 → list_all is_short_name (pair_names g h) ≡ true
 names_are_short g h m n first second fits =
     names_all g h
@@ -130,9 +113,6 @@ no_names g h none =
     ]))
 
 -- ---- the longest so far
-pub longest_start : (g : GraphOf) → IsLongestOf g 0 0
-longest_start g = record { bound = λ v low. absurd (omega arith); met = inl refl }
-
 pub longest_more : (g : GraphOf) (k n m l : ℕ) → IsLongestOf g k n → l ≡ length (label_of g k) → m ≡ max n l → IsLongestOf g (k + 1) m
 longest_more g k n m l longest is most = record {
   bound = λ v low. elim (cases_lt v k) [

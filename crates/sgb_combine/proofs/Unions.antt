@@ -1,16 +1,11 @@
 -- Lemmas on unions.
-use Rattle.std.proofs.Common.{◌≡◌, ℕ, List, map, true, false, sym, ap, ◌∙◌}
+use Rattle.std.proofs.Common.{◌≡◌, ℕ, List, map, ap}
 use Rattle.sgb_graph.specs.Graph.{GraphOf}
 use Rattle.sgb_graph.specs.declared.spoke.Spoke.{Spoke}
-use Rattle.sgb_combine.specs.declared.spec.GunionSpec.{GunionSpec}
 use Rattle.sgb_graph.specs.Builder.{along}
+use Rattle.sgb_combine.specs.declared.spec.GunionSpec.{GunionSpec}
 use Rattle.sgb_combine.specs.Gunion.{candidates, run_of, union_at}
-use Rattle.sgb_combine.specs.Lowest.{lowest}
 
-pub multi_is : (spec : GunionSpec) (g h : GraphOf) (v : ℕ) (ss : List Spoke) → spec.multi ≡ true → ss ≡ candidates spec.directed g h v → map (along v) ss ≡ union_at spec g h v
+pub union_is : (spec : GunionSpec) (g h : GraphOf) (v : ℕ) (ss : List Spoke) → ss ≡ candidates spec.directed g h v → map (along v) (run_of spec.multi ss) ≡ union_at spec g h v
 unfolding union_at
-multi_is spec g h v ss multi is = ap (map (along v)) (is ∙ sym (ap (λ b. run_of b (candidates spec.directed g h v)) multi))
-
-pub lowest_is : (spec : GunionSpec) (g h : GraphOf) (v : ℕ) (ss : List Spoke) → spec.multi ≡ false → ss ≡ lowest (candidates spec.directed g h v) → map (along v) ss ≡ union_at spec g h v
-unfolding union_at
-lowest_is spec g h v ss multi is = ap (map (along v)) (is ∙ sym (ap (λ b. run_of b (candidates spec.directed g h v)) multi))
+union_is spec g h v ss is = ap (λ ts. map (along v) (run_of spec.multi ts)) is

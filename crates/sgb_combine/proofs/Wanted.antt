@@ -1,12 +1,12 @@
 -- Lemmas on complements.
 use Rattle.std.proofs.Common.{◌≡◌, ◌<◌, ◌+◌, ◌==◌, ℕ, List, [], ◌∷◌, ◌++◌, length, get_or, take, map, Bool, true, false, ◌||◌, ◌&&◌, cond, All, refl, sym, ap, subst, ◌∙◌, arith}
-use Rattle.std.specs.List.{filter, range_with_len}
+use Rattle.std.specs.List.{flat_map, filter, range_with_len}
 use Rattle.std.proofs.lemmas.Bool.{eqb-true}
 use Rattle.std.proofs.lemmas.List.{append-nil, take_more, map-append}
-use Rattle.std.proofs.lemmas.List.FromFn.{length-range_with_len, get_or-range_with_len}
 use Rattle.std.proofs.lemmas.List.Elements.{All-map, All-filter, filter-append}
 use Rattle.std.proofs.lemmas.Map.Views.{any-filter_same}
-use Rattle.sgb_induced.proofs.Ranges.{numbers_more}
+use Rattle.sgb_graph.specs.Builder.{Insertion}
+use Rattle.sgb_graph.proofs.Inserting.{map-filter}
 use Rattle.sgb_graph.specs.declared.spoke.Spoke.{Spoke}
 use Rattle.sgb_operand.specs.Operand.{IsWithin}
 use Rattle.sgb_combine.specs.declared.spec.ComplementSpec.{ComplementSpec}
@@ -16,33 +16,19 @@ use Rattle.sgb_combine.specs.Private.Targets.{IsInOrder}
 use Rattle.sgb_combine.proofs.Joined.{leads-lowest}
 use Rattle.sgb_combine.proofs.Rising.{is_one, rises, rising_is_filter}
 
--- ---- those of all vertices that are wanted
-abbrev pub missing : ComplementSpec → ℕ → List Spoke → ℕ → List ℕ
-missing spec u ss n = filter (λ w. is_wanted spec u (leads_to ss w) w) (range_with_len 0 n)
+-- what is inserted to one vertex
+abbrev pub wanted_at : ComplementSpec → ℕ → List Spoke → ℕ → List Insertion
+wanted_at spec u ss w = cond (is_wanted spec u (leads_to ss w) w) (unit_step u w ∷ []) []
 
-missing_more : (spec : ComplementSpec) (u : ℕ) (ss : List Spoke) (w : ℕ) → missing spec u ss (w + 1) ≡ missing spec u ss w ++ cond (is_wanted spec u (leads_to ss w) w) (w ∷ []) []
-missing_more spec u ss w =
-    let p : ℕ → Bool = λ k. is_wanted spec u (leads_to ss k) k in
-    ap (filter p) (numbers_more w) ∙ filter-append p (range_with_len 0 w) (w ∷ [])
-
-pub missing_push : (spec : ComplementSpec) (u : ℕ) (ss : List Spoke) (w : ℕ) → is_wanted spec u (leads_to ss w) w ≡ true → missing spec u ss (w + 1) ≡ missing spec u ss w ++ w ∷ []
-missing_push spec u ss w is = missing_more spec u ss w ∙ ap (λ b. missing spec u ss w ++ cond b (w ∷ []) []) is
-
-pub missing_skip : (spec : ComplementSpec) (u : ℕ) (ss : List Spoke) (w : ℕ) → is_wanted spec u (leads_to ss w) w ≡ false → missing spec u ss (w + 1) ≡ missing spec u ss w
-missing_skip spec u ss w is = missing_more spec u ss w ∙ (ap (λ b. missing spec u ss w ++ cond b (w ∷ []) []) is ∙ append-nil (missing spec u ss w))
-
-missing_below : (spec : ComplementSpec) (u : ℕ) (ss : List Spoke) (n : ℕ) → All (λ w. w < n) (missing spec u ss n)
-missing_below spec u ss n =
-    All-filter (λ w. is_wanted spec u (leads_to ss w) w) (λ w. w < n) (range_with_len 0 n)
-    (λ k d low. let below : k < n = omega (arith, low, length-range_with_len 0 n) in omega (arith, below, get_or-range_with_len 0 n k d below))
-
-pub missing_within : (spec : ComplementSpec) (u : ℕ) (ss : List Spoke) (m n : ℕ) (ws : List ℕ) → ws ≡ missing spec u ss m → m ≡ n → All (λ w. w < n) ws
-missing_within spec u ss m n ws is same =
-    subst (λ k. All (λ w. w < k) ws) same (subst (λ vs. All (λ w. w < m) vs) (sym is) (missing_below spec u ss m))
-
-pub missing_steps : (spec : ComplementSpec) (u : ℕ) (ss : List Spoke) (m n : ℕ) (ws : List ℕ) → ws ≡ missing spec u ss m → m ≡ n → map (unit_step u) ws ≡ wanted_steps spec n u ss
+pub wanted_is : (spec : ComplementSpec) (n u : ℕ) (ss : List Spoke) → flat_map (wanted_at spec u ss) (range_with_len 0 n) ≡ wanted_steps spec n u ss
 unfolding wanted_steps
-missing_steps spec u ss m n ws is same = ap (map (unit_step u)) (is ∙ ap (missing spec u ss) same)
+wanted_is spec n u ss = sym (map-filter (unit_step u) (λ w. is_wanted spec u (leads_to ss w) w) (range_with_len 0 n))
+
+pub wanted_one : (spec : ComplementSpec) (u : ℕ) (ss : List Spoke) (w : ℕ) → is_wanted spec u (leads_to ss w) w ≡ true → unit_step u w ∷ [] ≡ wanted_at spec u ss w
+wanted_one spec u ss w yes_so = rw yes_so refl
+
+pub wanted_none : (spec : ComplementSpec) (u : ℕ) (ss : List Spoke) (w : ℕ) → is_wanted spec u (leads_to ss w) w ≡ false → wanted_at spec u ss w ≡ []
+wanted_none spec u ss w no_so = rw no_so refl
 
 -- lowering changes nothing
 filter_as : (p q : ℕ → Bool) (ns : List ℕ) → ((w : ℕ) → p w ≡ q w) → filter p ns ≡ filter q ns

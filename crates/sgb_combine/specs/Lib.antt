@@ -1,7 +1,9 @@
 pub mod Combined
 pub mod Complement
+pub mod Drawing
 pub mod Gunion
 pub mod Intersection
+pub mod Lengths
 pub mod Lowest
 pub mod Private
 pub mod Product

@@ -1,8 +1,8 @@
-pub mod Ahead
 pub mod Begin
 pub mod Both
-pub mod Missing
 pub mod Pairs
+pub mod Prepared
 pub mod Pruned
 pub mod Rows
+pub mod Table
 pub mod Targets

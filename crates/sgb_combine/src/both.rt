@@ -1,4 +1,4 @@
-//! What the lists of a vertex in two graphs lead to.
+//! The arcs of a vertex in two graphs, read side by side.
 ghost use Rattle.std.specs.Prelude.{◌≡◌, ◌<◌, ◌∷◌, ◌++◌, [], All, IsSome, OnOk};
 ghost use Rattle.std.specs.List.{filter};
 ghost use Rattle.sgb_graph.specs.Graph.{n_of, arc_at};
@@ -6,31 +6,16 @@ ghost use Rattle.sgb_operand.specs.Operand.{spokes};
 ghost use Rattle.sgb_combine.specs.Gunion.{is_candidate};
 ghost use Rattle.sgb_combine.specs.Private.Both.{passing};
 
-use crate::run::is_candidate;
 use sgb_graph::{ArcNo, Graph, VertexNo, Walk};
 use sgb_operand::{Spoke, spoke_at};
 use std::alloc::{AllocError, Global};
 
-// The spokes of a vertex that are sought: those to one of n vertices, and not below it where edges are made. Those of
-// the second halves of loops are among them where `halves` is true.
+// Which spokes are sought: those of this vertex to one of n vertices, and not below it where edges are made.
 #[derive(Clone, Copy)]
-pub(crate) struct Sought {
-    pub vertex: VertexNo,
-    pub halves: bool,
-    pub directed: bool,
-    pub n: u32,
-}
-
-// What is sought of the lists of a vertex.
-pub(crate) fn sought_of(first: &Graph, vertex: VertexNo, directed: bool) -> Sought
-    ensures { result ≡ record { vertex = vertex; halves = directed; directed = directed; n = n_of first.now } }
-{
-    Sought {
-        vertex,
-        halves: directed,
-        directed,
-        n: first.n(),
-    }
+struct Sought {
+    vertex: VertexNo,
+    directed: bool,
+    n: u32,
 }
 
 // Spokes of two graphs, those of each in the order of its list.
@@ -48,76 +33,48 @@ impl Both {
         }
     }
 
-    // Forgets what was read.
-    #[inline]
-    pub(crate) fn clear(&mut self)
-        ensures mine { self.new.mine.items ≡ [] }
-        ensures theirs { self.new.theirs.items ≡ [] }
-    {
-        self.mine.clear();
-        self.theirs.clear();
-    }
-
-    // Reads what is sought in two graphs, of which the second may lack the vertex, in place of what was read before.
-    #[inline(always)]
+    // Reads the spokes of a vertex in both graphs, of which the second may lack it, that lead to vertices of the first and
+    // where edges are made not below the vertex, in place of what was read before. The second halves of loops are among
+    // them where `halves` is true. The two lists are walked side by side: each arc names the next, so that the processor
+    // waits for an arc of each list at a time.
     pub(crate) fn read(
         &mut self,
         first: &Graph,
         second: &Graph,
-        sought: Sought,
-        other: Sought,
+        vertex: VertexNo,
+        halves: bool,
+        directed: bool,
     ) -> Result<(), AllocError>
-        requires { sought.vertex.0 < n_of first.now }
+        requires { vertex.0 < n_of first.now }
         ensures mine { OnOk result (self.new.mine.items ≡
-            filter (is_candidate sought.directed sought.n sought.vertex.0) (spokes sought.halves first.now sought.vertex.0)) }
+            filter (is_candidate directed (n_of first.now) vertex.0) (spokes halves first.now vertex.0)) }
         ensures theirs { OnOk result (self.new.theirs.items ≡
-            filter (is_candidate other.directed other.n other.vertex.0) (spokes other.halves second.now other.vertex.0)) }
+            filter (is_candidate directed (n_of first.now) vertex.0) (spokes halves second.now vertex.0)) }
     {
-        self.clear();
-        if other.vertex.0 >= second.n() {
-            let numbers = first.walk(sought.vertex, sought.halves);
+        self.mine.clear();
+        self.theirs.clear();
+        let n = first.n();
+        let sought = Sought {
+            vertex,
+            directed,
+            n,
+        };
+        let numbers = first.walk(vertex, halves);
+        if vertex.0 >= second.n() {
             hold_rest(&mut self.mine, first, numbers, sought)?;
             return Ok(());
         }
-        hold_both(
-            &mut self.mine,
-            &mut self.theirs,
-            first,
-            second,
-            sought,
-            other,
-        )
+        let mut others = second.walk(vertex, halves);
+        for number in numbers {
+            hold(&mut self.mine, first, number, sought)?;
+            hold_next(&mut self.theirs, second, &mut others, sought)?;
+        }
+        hold_rest(&mut self.theirs, second, others, sought)
     }
-}
-
-// Adds what is sought in each graph. The lists are walked side by side: where each arc names the next, and they lie apart
-// in memory, an arc of one list is waited for together with one of the other.
-#[inline(always)]
-fn hold_both(
-    mine: &mut Vec<Spoke>,
-    theirs: &mut Vec<Spoke>,
-    first: &Graph,
-    second: &Graph,
-    sought: Sought,
-    other: Sought,
-) -> Result<(), AllocError>
-    requires first { sought.vertex.0 < n_of first.now }
-    requires second { other.vertex.0 < n_of second.now }
-    ensures mine { OnOk result (mine.new.items ≡ mine.old.items ++
-        filter (is_candidate sought.directed sought.n sought.vertex.0) (spokes sought.halves first.now sought.vertex.0)) }
-    ensures theirs { OnOk result (theirs.new.items ≡ theirs.old.items ++
-        filter (is_candidate other.directed other.n other.vertex.0) (spokes other.halves second.now other.vertex.0)) }
-{
-    let mut others = second.walk(other.vertex, other.halves);
-    for number in first.walk(sought.vertex, sought.halves) {
-        hold(mine, first, number, sought)?;
-        hold_next(theirs, second, &mut others, other)?;
-    }
-    hold_rest(theirs, second, others, other)
 }
 
 // Adds what is sought of the arcs that are left of a list.
-pub(crate) fn hold_rest(
+fn hold_rest(
     into: &mut Vec<Spoke>,
     graph: &Graph,
     numbers: Walk<'_>,
@@ -134,8 +91,7 @@ pub(crate) fn hold_rest(
 }
 
 // Adds the spoke of the next arc of a list, if there is one and its spoke is sought.
-#[inline(always)]
-pub(crate) fn hold_next(
+fn hold_next(
     into: &mut Vec<Spoke>,
     graph: &Graph,
     numbers: &mut Walk<'_>,
@@ -155,8 +111,8 @@ pub(crate) fn hold_next(
 }
 
 // Adds the spoke of an arc, if it is sought.
-#[inline(always)]
-pub(crate) fn hold(
+#[inline]
+fn hold(
     into: &mut Vec<Spoke>,
     graph: &Graph,
     number: ArcNo,
@@ -167,9 +123,17 @@ pub(crate) fn hold(
         passing graph.now (is_candidate sought.directed sought.n sought.vertex.0) (number.0 ∷ [])) }
 {
     let spoke = spoke_at(graph, number);
-    if !is_candidate(sought.directed, sought.n, sought.vertex, spoke) {
+    if !is_sought(spoke, sought) {
         return Ok(());
     }
     into.push(spoke)?;
     Ok(())
+}
+
+#[inline]
+fn is_sought(spoke: Spoke, sought: Sought) -> bool
+    ensures { result ≡ is_candidate sought.directed sought.n sought.vertex.0 spoke }
+{
+    let low = if sought.directed { 0 } else { sought.vertex.0 };
+    low <= spoke.to && spoke.to < sought.n
 }

@@ -1,16 +1,15 @@
 //! Intersections.
-ghost use Rattle.std.specs.Prelude.{◌≡◌, ◌<◌, length, All};
+ghost use Rattle.std.specs.Prelude.{◌≡◌, ◌<◌, All};
 ghost use Rattle.std.specs.List.{flat_map, range_with_len};
 ghost use Rattle.sgb_graph.specs.Graph.{n_of};
 ghost use Rattle.sgb_graph.specs.Builder.{Inserts};
 ghost use Rattle.sgb_operand.specs.Operand.{IsWithin};
 ghost use Rattle.sgb_plan.specs.Plan.{IsMade};
-ghost use Rattle.sgb_combine.specs.Intersection.{firsts, longer, joints, intersection_at, plan_of_intersection};
+ghost use Rattle.sgb_combine.specs.Intersection.{longer, joints, intersection_at, plan_of_intersection};
 
 use crate::begin::{begin_as, room_of};
-use crate::both::Sought;
+use crate::both::Both;
 use crate::lowest::Lowest;
-use crate::met::Met;
 use crate::run::insert_spoke;
 use sgb_graph::{Builder, Graph, Refusal, VertexNo};
 use sgb_operand::{Spoke, check_operand};
@@ -42,7 +41,6 @@ pub fn intersection(
     Ok(builder.finish())
 }
 
-// Where edges are made, no list is asked for what leads below its vertex, since no insertion is made along it.
 fn insert_intersections(
     builder: &mut Builder,
     alloc: Global,
@@ -54,38 +52,16 @@ fn insert_intersections(
     ensures { Inserts builder.old builder.new
         (flat_map (intersection_at directed first.now second.now) (range_with_len 0 (n_of first.now))) result }
 {
-    let mut met = Met::new(alloc, first.n(), second.n())?;
+    let mut both = Both::new(alloc);
+    let mut mine = Lowest::new(alloc, first.n())?;
+    let mut theirs = Lowest::new(alloc, first.n())?;
     for v in 0..first.n() {
-        let vertex = VertexNo(v);
-        read_upward(&mut met, first, second, vertex, directed);
-        insert_joints(builder, vertex, met.mine.spokes(), &met.theirs)?;
+        both.read(first, second, VertexNo(v), true, directed)?;
+        mine.keep(&both.mine)?;
+        theirs.keep(&both.theirs)?;
+        insert_joints(builder, VertexNo(v), mine.spokes(), &theirs)?;
     }
     Ok(())
-}
-
-// Reads the lowest spokes of a vertex, which the second graph may lack, but where edges are made none that leads below it.
-fn read_upward(met: &mut Met, first: &Graph, second: &Graph, vertex: VertexNo, directed: bool)
-    requires vertex { vertex.0 < n_of first.now }
-    requires mine { length met.old.mine.places.items ≡ n_of first.now }
-    requires theirs { length met.old.theirs.places.items ≡ n_of second.now }
-    ensures mine { met.new.mine.spokes.items ≡ firsts directed first.now vertex.0 }
-    ensures theirs { met.new.theirs.spokes.items ≡ firsts directed second.now vertex.0 }
-    ensures mine_width { length met.new.mine.places.items ≡ length met.old.mine.places.items }
-    ensures theirs_width { length met.new.theirs.places.items ≡ length met.old.theirs.places.items }
-{
-    let sought = Sought {
-        vertex,
-        halves: true,
-        directed,
-        n: first.n(),
-    };
-    let other = Sought {
-        vertex,
-        halves: true,
-        directed,
-        n: second.n(),
-    };
-    met.read(first, second, sought, other);
 }
 
 fn insert_joints(

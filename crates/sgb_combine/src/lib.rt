@@ -1,28 +1,33 @@
-//! Combinations of graphs, and random lengths. Complements, unions, intersections and products stand here; induced graphs
-//! and random lengths are handed on.
+//! Combinations of graphs and random lengths: complements, unions, intersections, products, and the lengths of a graph's arcs
+//! with their undoing. Induced graphs are re-exported.
 #![tactic(auto)]
 
-mod ahead;
 mod begin;
 mod both;
+mod delta;
+mod draw;
+mod exchange;
 mod facts;
+mod id;
 mod intersect;
+mod lengths;
 mod lowest;
-mod met;
 mod multiply;
 mod negate;
 mod pairs;
+mod prepared;
 mod rows;
 mod run;
 mod spec;
 mod unite;
 
-pub use facts::lowest_law;
+pub use delta::LengthsDelta;
+pub use facts::{lengths_law, lowest_law};
 pub use intersect::intersection;
+pub use lengths::{random_lengths, revert_lengths};
 pub use negate::complement;
 pub use pairs::product;
 pub use sgb_induced::{InducedSpec, induced, least_law};
-pub use sgb_lengths::{LengthsDelta, LengthsSpec, lengths_law, random_lengths, revert_lengths};
 pub use sgb_operand::{Spoke, check_operand, read_spokes, spoke_at, spoke_law};
-pub use spec::{ComplementSpec, GunionSpec, ProductSpec};
+pub use spec::{ComplementSpec, GunionSpec, LengthsSpec, ProductSpec};
 pub use unite::gunion;

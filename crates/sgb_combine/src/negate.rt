@@ -1,12 +1,11 @@
 //! Complements.
-ghost use Rattle.std.specs.Prelude.{◌≡◌, ◌<◌, ◌≤◌, length, map, All, OnOk, true, false};
+ghost use Rattle.std.specs.Prelude.{◌≡◌, ◌<◌, length, map, All, OnOk, true};
 ghost use Rattle.std.specs.List.{flat_map, filter, range_with_len};
 ghost use Rattle.sgb_graph.specs.Graph.{n_of};
 ghost use Rattle.sgb_graph.specs.Builder.{Inserts};
 ghost use Rattle.sgb_operand.specs.Operand.{IsWithin};
 ghost use Rattle.sgb_plan.specs.Plan.{IsMade};
-ghost use Rattle.sgb_combine.specs.Complement.{leads_to, is_wanted, unit_step, wanted_steps, complement_at, plan_of_complement};
-ghost use Rattle.sgb_combine.specs.Private.Missing.{first_asked, next_asked, steps_between};
+ghost use Rattle.sgb_combine.specs.Complement.{is_wanted, unit_step, wanted_steps, complement_at, plan_of_complement};
 ghost use Rattle.sgb_combine.specs.Private.Targets.{IsInOrder};
 
 use crate::ComplementSpec;
@@ -94,77 +93,23 @@ fn insert_wanted(
     if spec.copy {
         return insert_joined(builder, tips, vertex, spokes, spec);
     }
-    lowest.keep(spokes);
+    lowest.keep(spokes)?;
     insert_missing(builder, lowest, vertex, spec)
 }
 
-// Asks of no vertex that the flags alone rule out: of none below this one where edges are made, nor of this one where it
-// may not be joined to itself.
+// Asks of every vertex if it is wanted.
 fn insert_missing(
     builder: &mut Builder,
     lowest: &Lowest,
     vertex: VertexNo,
     spec: ComplementSpec,
 ) -> Result<(), Refusal>
-    requires copy { spec.copy ≡ false }
-    requires from { vertex.0 < n_of builder.old.graph }
+    requires { vertex.0 < n_of builder.old.graph }
     ensures { Inserts builder.old builder.new
         (wanted_steps spec (n_of builder.old.graph) vertex.0 lowest.now.spokes.items) result }
 {
-    let n = builder.graph().n();
-    let first = first_asked(spec, vertex);
-    let next = next_asked(spec, vertex);
-    insert_between(builder, lowest, vertex, first, vertex.0)?;
-    insert_between(builder, lowest, vertex, next, n)
-}
-
-// The first vertex that may be wanted.
-fn first_asked(spec: ComplementSpec, vertex: VertexNo) -> u32
-    ensures { result ≡ first_asked spec vertex.0 }
-{
-    if spec.directed { 0 } else { vertex.0 }
-}
-
-// The first from this vertex on that may be wanted.
-fn next_asked(spec: ComplementSpec, vertex: VertexNo) -> u32
-    requires { vertex.0 < 65535 }
-    ensures { result ≡ next_asked spec vertex.0 }
-{
-    if spec.loops { vertex.0 } else { vertex.0 + 1 }
-}
-
-// Inserts to the vertices from one on and below another to which no spoke leads. Where there is no spoke, none is asked.
-fn insert_between(
-    builder: &mut Builder,
-    lowest: &Lowest,
-    vertex: VertexNo,
-    low: u32,
-    high: u32,
-) -> Result<(), Refusal>
-    requires from { vertex.0 < n_of builder.old.graph }
-    requires to { high ≤ n_of builder.old.graph }
-    ensures { Inserts builder.old builder.new (steps_between vertex.0 lowest.now.spokes.items low high) result }
-{
-    if lowest.spokes().is_empty() {
-        builder.insert_row(vertex, low, high, 1)
-    } else {
-        insert_unmarked(builder, lowest, vertex, low, high)
-    }
-}
-
-fn insert_unmarked(
-    builder: &mut Builder,
-    lowest: &Lowest,
-    vertex: VertexNo,
-    low: u32,
-    high: u32,
-) -> Result<(), Refusal>
-    requires from { vertex.0 < n_of builder.old.graph }
-    requires to { high ≤ n_of builder.old.graph }
-    ensures { Inserts builder.old builder.new (steps_between vertex.0 lowest.now.spokes.items low high) result }
-{
-    for w in low..high {
-        if lowest.leads_to(w) {
+    for w in 0..builder.graph().n() {
+        if !is_wanted(spec, vertex.0, lowest.leads_to(w), w) {
             continue;
         }
         builder.insert(vertex, VertexNo(w), 1)?;

@@ -1,8 +1,7 @@
 //! Products: their refusals, and their vertices.
-ghost use Rattle.std.specs.Prelude.{◌≡◌, ◌≤◌, ◌<◌, IfOk, ◌++◌, IfErr, OnOk, Some, None, length, map, take, codes, IsTrue};
+ghost use Rattle.std.specs.Prelude.{◌≡◌, ◌≤◌, ◌<◌, IfOk, IfErr, OnOk, Some, None, length, map, IsTrue};
 ghost use Rattle.std.specs.List.{flat_map, list_all, range_with_len};
 ghost use Rattle.sgb_graph.specs.Graph.{n_of};
-ghost use Rattle.sgb_graph.specs.Text.{IsText};
 ghost use Rattle.sgb_plan.specs.Plan.{IsMade, Names};
 ghost use Rattle.sgb_combine.specs.Product.{is_kind, pair_name, pair_names, is_short_name, refusal_of_product, product_plan, plan_of_product};
 ghost use Rattle.sgb_combine.specs.Private.Begin.{Begins};
@@ -14,7 +13,7 @@ use crate::multiply::insert_product;
 use sgb_graph::{Builder, Graph, Label, Refusal, Text, Types, VertexNo};
 use sgb_operand::check_operand;
 use sgb_plan::{Part, id_of_two, label_of};
-use std::alloc::{AllocError, Global};
+use std::alloc::Global;
 
 /// The product of two graphs: a vertex for each pair of theirs, named by both names with a comma between. The
 /// cartesian product (kind 0) leads from a pair along an arc of its first vertex, or along one of its second; the direct
@@ -151,40 +150,31 @@ fn name_row(
     requires short { IsTrue (list_all is_short_name (pair_names first.now second.now)) }
     ensures { Names builder.old builder.new (map (pair_name first.now second.now a.0) (range_with_len 0 (n_of second.now))) result }
 {
-    begin_name(bytes, first.label(a))?;
-    let front = bytes.len();
     for b in 0..second.n() {
-        let label = name_of(bytes, front, alloc, second.label(VertexNo(b)))?;
+        let label = name_of(bytes, alloc, first, second, a, VertexNo(b))?;
         builder.push_named(label)?;
     }
     Ok(())
 }
 
-// The label of a first vertex and a comma, in place of what the buffer holds. All names of its pairs begin so.
-fn begin_name(bytes: &mut Vec<u8>, first: &[u8]) -> Result<(), AllocError>
-    ensures { OnOk result (bytes.new.items ≡ first.now ++ codes ",") }
-{
-    bytes.clear();
-    bytes.extend_from_slice(first)?;
-    bytes.push(b',')?;
-    Ok(())
-}
-
-// The name that begins with so many of the bytes, and ends with the label of the second vertex. It is written behind them.
+// The name of a pair.
 fn name_of(
     bytes: &mut Vec<u8>,
-    front: usize,
     alloc: Global,
-    second: &[u8],
+    first: &Graph,
+    second: &Graph,
+    a: VertexNo,
+    b: VertexNo,
 ) -> Result<Label, Refusal>
-    requires front { front ≤ length bytes.old.items }
-    requires text { IsText (take front bytes.old.items ++ second.now) }
-    ensures value { IfOk result (λ name. name ≡ take front bytes.old.items ++ second.now) }
-    ensures front { OnOk result (take front bytes.new.items ≡ take front bytes.old.items) }
-    ensures within { OnOk result (front ≤ length bytes.new.items) }
+    requires a { a.0 < n_of first.now }
+    requires b { b.0 < n_of second.now }
+    requires short { length (pair_name first.now second.now a.0 b.0).label ≤ 4095 }
+    ensures value { IfOk result (λ name. name ≡ (pair_name first.now second.now a.0 b.0).label) }
     ensures err { IfErr result (λ e. e ≡ Refusal.NoRoom) }
 {
-    bytes.truncate(front);
-    bytes.extend_from_slice(second)?;
+    bytes.clear();
+    bytes.extend_from_slice(first.label(a))?;
+    bytes.push(b',')?;
+    bytes.extend_from_slice(second.label(b))?;
     label_of(alloc, bytes)
 }

@@ -5,7 +5,6 @@ ghost use Rattle.sgb_graph.specs.Graph.{n_of};
 ghost use Rattle.sgb_graph.specs.Builder.{along, Inserts};
 ghost use Rattle.sgb_operand.specs.Operand.{IsWithin};
 ghost use Rattle.sgb_combine.specs.Combined.{is_upward};
-ghost use Rattle.sgb_combine.specs.Gunion.{is_candidate};
 
 use sgb_graph::{Builder, Refusal, VertexNo};
 use sgb_operand::Spoke;
@@ -29,14 +28,4 @@ pub(crate) fn keep_upward(spokes: &mut Vec<Spoke>, directed: bool, vertex: Verte
     ensures { spokes.new.items ≡ filter (is_upward directed vertex.0) spokes.old.items }
 {
     spokes.retain(|spoke| directed || vertex.0 <= spoke.to);
-}
-
-// It leads to one of n vertices, and not below the vertex where edges are made. One comparison tells both, since what
-// lies below wraps to a number beyond them all.
-#[inline]
-pub(crate) fn is_candidate(directed: bool, n: u32, vertex: VertexNo, spoke: Spoke) -> bool
-    ensures { result ≡ is_candidate directed n vertex.0 spoke }
-{
-    let low = if directed { 0 } else { vertex.0 };
-    spoke.to.wrapping_sub(low) < n.saturating_sub(low)
 }

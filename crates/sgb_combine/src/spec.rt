@@ -1,4 +1,4 @@
-//! What a combination is asked for beside its graphs.
+//! What a combination is asked for beside its graphs, and what random lengths are.
 
 /// What a complement is asked for.
 #[derive(Clone, Copy, Debug, PartialEq, Eq)]
@@ -27,4 +27,15 @@ pub struct ProductSpec {
     pub kind: i64,
     /// Whether the result has arcs; else it has edges.
     pub directed: bool,
+}
+
+/// Which lengths a graph is to have.
+#[derive(Clone, Copy, Debug, PartialEq, Eq)]
+pub struct LengthsSpec {
+    /// Each arc draws a length of its own. Else the two halves of an edge have one length.
+    pub directed: bool,
+    /// The least length.
+    pub min: i64,
+    /// The greatest length, less than 2^31 above the least.
+    pub max: i64,
 }

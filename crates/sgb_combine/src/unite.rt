@@ -1,20 +1,16 @@
 //! Unions.
-ghost use Rattle.std.specs.Prelude.{◌≡◌, ◌<◌, ◌++◌, length, fold, OnOk};
-ghost use Rattle.std.specs.List.{filter, flat_map, range_with_len};
+ghost use Rattle.std.specs.Prelude.{◌≡◌, ◌<◌, length, map, All, OnOk};
+ghost use Rattle.std.specs.List.{flat_map, range_with_len};
 ghost use Rattle.sgb_graph.specs.Graph.{n_of};
-ghost use Rattle.sgb_graph.specs.Builder.{Inserts};
-ghost use Rattle.sgb_operand.specs.Operand.{spokes};
+ghost use Rattle.sgb_graph.specs.Builder.{along, Inserts};
+ghost use Rattle.sgb_operand.specs.Operand.{IsWithin};
 ghost use Rattle.sgb_plan.specs.Plan.{IsMade};
-ghost use Rattle.sgb_combine.specs.Gunion.{candidates, is_candidate, union_at, plan_of_gunion};
-ghost use Rattle.sgb_combine.specs.Lowest.{add_or_lower, lowest};
-ghost use Rattle.sgb_combine.specs.Private.Ahead.{IsAhead};
+ghost use Rattle.sgb_combine.specs.Gunion.{candidates, run_of, union_at, plan_of_gunion};
 
 use crate::GunionSpec;
-use crate::ahead::Ahead;
 use crate::begin::{begin_as, room_of};
-use crate::both::{Both, Sought, hold_next, hold_rest, sought_of};
+use crate::both::Both;
 use crate::lowest::Lowest;
-use crate::met::{meet, meet_rest};
 use sgb_graph::{Builder, Graph, Refusal, VertexNo};
 use sgb_operand::{Spoke, check_operand};
 use sgb_plan::{Part, id_of_two};
@@ -67,130 +63,48 @@ fn insert_unions(
     ensures { Inserts builder.old builder.new
         (flat_map (union_at spec first.now second.now) (range_with_len 0 (n_of first.now))) result }
 {
-    let mut met = Lowest::new(alloc, first.n())?;
     let mut both = Both::new(alloc);
-    let mut ahead = Ahead::new(alloc);
+    let mut lowest = Lowest::new(alloc, first.n())?;
     for v in 0..first.n() {
-        insert_union(
-            builder,
-            &mut met,
-            &mut both,
-            &mut ahead,
-            first,
-            second,
-            VertexNo(v),
-            spec,
-        )?;
+        read_candidates(&mut both, first, second, VertexNo(v), spec.directed)?;
+        insert_run(builder, &mut lowest, VertexNo(v), &both.mine, spec.multi)?;
     }
     Ok(())
-}
-
-// Inserts along the candidates of a vertex, or along the lowest of them.
-fn insert_union(
-    builder: &mut Builder,
-    met: &mut Lowest,
-    both: &mut Both,
-    ahead: &mut Ahead,
-    first: &Graph,
-    second: &Graph,
-    vertex: VertexNo,
-    spec: GunionSpec,
-) -> Result<(), Refusal>
-    requires n { n_of builder.old.graph ≡ n_of first.now }
-    requires vertex { vertex.0 < n_of first.now }
-    requires width { length met.old.places.items ≡ n_of first.now }
-    requires ahead { IsAhead spec.directed first.now second.now ahead.old }
-    ensures inserts { Inserts builder.old builder.new (union_at spec first.now second.now vertex.0) result }
-    ensures width { length met.new.places.items ≡ length met.old.places.items }
-    ensures ahead { OnOk result (IsAhead spec.directed first.now second.now ahead.new) }
-{
-    if spec.multi {
-        read_candidates(both, ahead, first, second, vertex, spec.directed)?;
-        return builder.insert_along(vertex, &both.mine);
-    }
-    read_lowest(met, both, ahead, first, second, vertex, spec.directed)?;
-    builder.insert_along(vertex, met.spokes())
 }
 
 // Reads the candidates of a vertex: those of the first graph, and behind them those of the second.
 fn read_candidates(
     both: &mut Both,
-    ahead: &mut Ahead,
     first: &Graph,
     second: &Graph,
     vertex: VertexNo,
     directed: bool,
 ) -> Result<(), AllocError>
-    requires vertex { vertex.0 < n_of first.now }
-    requires ahead { IsAhead directed first.now second.now ahead.old }
-    ensures candidates { OnOk result (both.new.mine.items ≡ candidates directed first.now second.now vertex.0) }
-    ensures ahead { OnOk result (IsAhead directed first.now second.now ahead.new) }
+    requires { vertex.0 < n_of first.now }
+    ensures { OnOk result (both.new.mine.items ≡ candidates directed first.now second.now vertex.0) }
 {
-    ahead.read(both, first, second, vertex, directed)?;
+    both.read(first, second, vertex, directed, directed)?;
     both.mine.extend_from_slice(&both.theirs)?;
     Ok(())
 }
 
-// Reads the lowest of the candidates of a vertex: those of the first graph at once, and behind them those of the second,
-// which wait in a buffer.
-fn read_lowest(
-    met: &mut Lowest,
-    both: &mut Both,
-    ahead: &mut Ahead,
-    first: &Graph,
-    second: &Graph,
+// Inserts along the candidates of a vertex, or along the lowest of them.
+fn insert_run(
+    builder: &mut Builder,
+    lowest: &mut Lowest,
     vertex: VertexNo,
-    directed: bool,
-) -> Result<(), AllocError>
-    requires vertex { vertex.0 < n_of first.now }
-    requires width { length met.old.places.items ≡ n_of first.now }
-    requires ahead { IsAhead directed first.now second.now ahead.old }
-    ensures lowest { OnOk result (met.new.spokes.items ≡ lowest (candidates directed first.now second.now vertex.0)) }
-    ensures width { length met.new.places.items ≡ length met.old.places.items }
-    ensures ahead { OnOk result (IsAhead directed first.now second.now ahead.new) }
+    candidates: &[Spoke],
+    multi: bool,
+) -> Result<(), Refusal>
+    requires from { vertex.0 < n_of builder.old.graph }
+    requires to { All (IsWithin (n_of builder.old.graph)) candidates.now }
+    requires width { length lowest.old.places.items ≡ n_of builder.old.graph }
+    ensures inserts { Inserts builder.old builder.new (map (along vertex.0) (run_of multi candidates.now)) result }
+    ensures width { length lowest.new.places.items ≡ length lowest.old.places.items }
 {
-    if ahead.serves(first, vertex) {
-        ahead.read(both, first, second, vertex, directed)?;
-        met.keep(&both.mine);
-        met.add_all(&both.theirs);
-        return Ok(());
+    if multi {
+        return builder.insert_along(vertex, candidates);
     }
-    let sought = sought_of(first, vertex, directed);
-    met.clear();
-    both.theirs.clear();
-    if vertex.0 >= second.n() {
-        meet_rest(met, first, first.walk(vertex, directed), sought);
-        return Ok(());
-    }
-    meet_and_hold(met, &mut both.theirs, first, second, sought)?;
-    met.add_all(&both.theirs);
-    Ok(())
-}
-
-// Adds what is sought in the first graph to the lowest, and writes what is sought in the second behind the others. The
-// lists are walked side by side, as in `both`.
-#[inline(always)]
-fn meet_and_hold(
-    met: &mut Lowest,
-    theirs: &mut Vec<Spoke>,
-    first: &Graph,
-    second: &Graph,
-    sought: Sought,
-) -> Result<(), AllocError>
-    requires first { sought.vertex.0 < n_of first.now }
-    requires second { sought.vertex.0 < n_of second.now }
-    requires own { sought.n ≡ n_of first.now }
-    requires width { length met.old.places.items ≡ sought.n }
-    ensures lowest { OnOk result (met.new.spokes.items ≡ fold add_or_lower met.old.spokes.items
-        (filter (is_candidate sought.directed sought.n sought.vertex.0) (spokes sought.halves first.now sought.vertex.0))) }
-    ensures theirs { OnOk result (theirs.new.items ≡ theirs.old.items ++
-        filter (is_candidate sought.directed sought.n sought.vertex.0) (spokes sought.halves second.now sought.vertex.0)) }
-    ensures width { length met.new.places.items ≡ length met.old.places.items }
-{
-    let mut others = second.walk(sought.vertex, sought.halves);
-    for number in first.walk(sought.vertex, sought.halves) {
-        meet(met, first, number, sought);
-        hold_next(theirs, second, &mut others, sought)?;
-    }
-    hold_rest(theirs, second, others, sought)
+    lowest.keep(candidates)?;
+    builder.insert_along(vertex, lowest.spokes())
 }

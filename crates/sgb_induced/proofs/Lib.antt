@@ -5,8 +5,6 @@ pub mod Twins
 pub mod Positions
 pub mod Expanding
 pub mod Fating
-pub mod Fanning
-pub mod Few
 pub mod Firsts
 pub mod Gathering
 pub mod Leading
@@ -18,4 +16,3 @@ pub mod Naming
 pub mod Placing
 pub mod Planned
 pub mod Expansion
-pub mod Staging

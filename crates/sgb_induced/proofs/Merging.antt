@@ -3,7 +3,7 @@ use Rattle.std.proofs.Common.{◌≡◌, ◌==◌, ◌<◌, ◌≤◌, ◌+◌, 
 use Rattle.std.specs.List.{position}
 use Rattle.std.specs.Option.{option_map}
 use Rattle.std.proofs.lemmas.Bool.{cases_Bool, cases_eq, cases_lt, eqb-true, eq-eqb, lt-ltb, le-ltb}
-use Rattle.std.proofs.lemmas.List.{take_more, take_all, length-take-le, length-append, length-set, get_or-take, get_or_default, get_or_push, get_or_append_left}
+use Rattle.std.proofs.lemmas.List.{take_more, take_all, length-take-le, length-append, get_or-take, get_or_default, get_or_push, get_or_append_left}
 use Rattle.std.proofs.lemmas.List.Elements.{All-head, All-tail}
 use Rattle.std.proofs.lemmas.List.Quantifiers.{position-Some}
 use Rattle.std.proofs.lemmas.List.Sums.{fold_push}
@@ -83,11 +83,10 @@ absent d q rs i h other =
 pub record Kept (d : Bool) (rs : List Run) (i : ℕ) (ks : List Run) (ps : List ℕ) : Type 0 where
   pub runs : ks ≡ merged d (take i rs)
   pub count : length ps ≡ i
-  pub few : length ks ≤ i
   pub place : (j : ℕ) → j < i → position (has_key d (key_at d rs j)) ks ≡ Some (get_or ps j 0)
 
 pub kept_start : (d : Bool) (rs : List Run) → Kept d rs 0 [] []
-kept_start d rs = record { runs = refl; count = refl; few = omega arith; place = λ j h. absurd (omega (arith, h)) }
+kept_start d rs = record { runs = refl; count = refl; place = λ j h. absurd (omega (arith, h)) }
 
 pub kept_within : {d : Bool} {rs ks : List Run} {ps : List ℕ} {i : ℕ} (m : ℕ) → Kept d rs i ks ps → m < length ps → get_or ps m 0 < length ks
 kept_within {d} {rs} {ks} {ps} m left h = place_within d ks (key_at d rs m) (get_or ps m 0) no_run (left.place m (omega (arith, h, left.count)))
@@ -115,7 +114,6 @@ kept_twin {d} {rs} {ks} {ps} {i} m {new} {after} h twin left low made noted =
     record {
       runs = now ∙ (sym (merge_found d ks (run_or rs i) no_run p found) ∙ merged_more d rs i no_run h left.runs);
       count = omega (arith, ap length last, length-append ps (p ∷ []), left.count);
-      few = omega (arith, ap length now, length-set ks p (lowered_run (run_or ks p) (run_or rs i)), left.few);
       place = λ j below.
           let stays : position (has_key d (key_at d rs j)) new ≡ position (has_key d (key_at d rs j)) ks =
           ap (position (has_key d (key_at d rs j))) now ∙ position-set (has_key d (key_at d rs j)) ks p (lowered_run (run_or ks p) (run_or rs i)) no_run refl in
@@ -138,7 +136,6 @@ kept_new {d} {rs} {ks} {ps} {i} m {new} {after} h twin left high made noted =
     record {
       runs = now ∙ (sym (merge_new d ks r none) ∙ merged_more d rs i no_run h left.runs);
       count = omega (arith, ap length last, length-append ps (length ks ∷ []), left.count);
-      few = omega (arith, ap length now, length-append ks (r ∷ []), left.few);
       place = λ j below.
           let pushed : position (has_key d (key_at d rs j)) new ≡ or_next (position (has_key d (key_at d rs j)) ks) (has_key d (key_at d rs j) r) (length ks) =
           ap (position (has_key d (key_at d rs j))) now ∙ position_push (has_key d (key_at d rs j)) ks r in

@@ -25,14 +25,14 @@ pub record SameRun (d : Bool) (r s : Run) : Type 0 where
   pub first : (key_of d r).0 ≡ (key_of d s).0
   pub last : (key_of d r).1 ≡ (key_of d s).1
 
-pub run_from : (d : Bool) (r s : Run) → same_run d r s ≡ true → SameRun d r s
+run_from : (d : Bool) (r s : Run) → same_run d r s ≡ true → SameRun d r s
 run_from d r s is =
     elim (cases_Bool ((key_of d r).0 == (key_of d s).0)) [
       | inl same ↦ (let rest : ((key_of d r).1 == (key_of d s).1) ≡ true = rw same at is in record { first = eqb-true (key_of d r).0 (key_of d s).0 same; last = eqb-true (key_of d r).1 (key_of d s).1 rest })
       | inr other ↦ absurd (let wrong : false ≡ true = rw other at is in cc)
     ]
 
-pub run_same : (d : Bool) (r s : Run) → SameRun d r s → same_run d r s ≡ true
+run_same : (d : Bool) (r s : Run) → SameRun d r s → same_run d r s ≡ true
 run_same d r s j = rw (eq-eqb (key_of d r).0 (key_of d s).0 j.first, eq-eqb (key_of d r).1 (key_of d s).1 j.last) refl
 
 run_swap : (d : Bool) (r s : Run) → SameRun d r s → SameRun d s r

@@ -16,6 +16,9 @@ first_le : (d : Bool) (r : Run) → (key_of d r).0 ≤ max r.from r.to
 first_le true r = omega arith
 first_le false r = omega arith
 
+pub below_more : (v w : ℕ) (rs : List Run) → v ≤ w → All (IsBelow v) rs → All (IsBelow w) rs
+below_more v w rs h all = λ i e k. omega (arith, h, all i e k)
+
 record SameKeys (d : Bool) (r s : Run) : Type 0 where
   first : (key_of d r).0 ≡ (key_of d s).0
   last : (key_of d r).1 ≡ (key_of d s).1

@@ -1,3 +1,2 @@
-pub mod Fan
 pub mod Run
 pub mod Twin

@@ -3,7 +3,6 @@
 
 mod expand;
 mod facts;
-mod fan;
 mod fate;
 mod gather;
 mod image;

@@ -4,9 +4,9 @@ use Rattle.std.specs.Prelude.{is_some, ◌&&◌, if◌then◌else◌}
 use Rattle.std.proofs.lemmas.List.{length-set}
 use Rattle.sgb_graph.specs.declared.refusal.Refusal.{Refusal}
 use Rattle.sgb_graph.specs.Graph.{GraphOf}
-use Rattle.sgb_lengths.specs.declared.delta.LengthsDelta.{LengthsDelta}
-use Rattle.sgb_lengths.specs.declared.spec.LengthsSpec.{LengthsSpec}
-use Rattle.sgb_lengths.specs.Lengths.{CanRevertLengths, before_lengths, lengthened, lengths_of}
+use Rattle.sgb_combine.specs.declared.delta.LengthsDelta.{LengthsDelta}
+use Rattle.sgb_combine.specs.declared.spec.LengthsSpec.{LengthsSpec}
+use Rattle.sgb_combine.specs.Lengths.{CanRevertLengths, before_lengths, lengthened, lengths_of}
 use Rattle.sgb_plan.specs.declared.part.Seed.{Seed}
 use Rattle.sgb_undo.specs.Outcome.{Accepted, Refused}
 use Rattle.sgb_script.specs.declared.command.Single.TheVariants.{Lengths}

@@ -5,8 +5,8 @@ use Rattle.sgb_graph.specs.declared.refusal.Refusal.{Refusal}
 use Rattle.sgb_graph.specs.Graph.{GraphOf, n_of, m_of}
 use Rattle.sgb_graph.specs.Delta.{LeftBy}
 use Rattle.sgb_graph.specs.Reverted.{reverted}
-use Rattle.sgb_lengths.specs.declared.spec.LengthsSpec.{LengthsSpec}
-use Rattle.sgb_lengths.specs.Lengths.{CanRevertLengths, before_lengths, draws_for, lengthened, lengths_of, refusal_of_lengths}
+use Rattle.sgb_combine.specs.declared.spec.LengthsSpec.{LengthsSpec}
+use Rattle.sgb_combine.specs.Lengths.{CanRevertLengths, before_lengths, draws_for, lengthened, lengths_of, refusal_of_lengths}
 use Rattle.sgb_plan.specs.declared.part.Seed as parts
 use Rattle.sgb_undo.specs.Outcome.{Outcome, Accepted, Refused, is_accepted}
 use Rattle.sgb_script.specs.declared.command.Single.{Single}

@@ -5,7 +5,7 @@ ghost use Rattle.std.specs.Str.{bytes_eq};
 ghost use Rattle.sgb_graph.specs.Graph.{GraphOf};
 ghost use Rattle.sgb_graph.specs.Delta.{LeftBy};
 ghost use Rattle.sgb_graph.specs.Reverted.{reverted};
-ghost use Rattle.sgb_lengths.specs.Lengths.{CanRevertLengths, before_lengths};
+ghost use Rattle.sgb_combine.specs.Lengths.{CanRevertLengths, before_lengths};
 ghost use Rattle.sgb_session.specs.Drawing.{drawn_from};
 ghost use Rattle.sgb_session.specs.Private.Making.{AtPlace, InSlot, Edits};
 ghost use Rattle.sgb_session.specs.Private.Slots.{held, slot_in, slot_with_graph};

@@ -4,7 +4,7 @@
 use crate::graphs::{Made, graph_of, insert_arcs, insert_edges};
 use sgb_flip::Flip;
 use sgb_graph::{ArcNo, Graph, Refusal};
-use sgb_lengths::{LengthsDelta, LengthsSpec, random_lengths, revert_lengths};
+use sgb_combine::{LengthsDelta, LengthsSpec, random_lengths, revert_lengths};
 use sgb_plan::Seed;
 use std::alloc::Global;
 

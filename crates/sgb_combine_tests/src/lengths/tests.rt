@@ -7,7 +7,7 @@ use crate::lengths::graphs::{
 };
 use sgb_flip::Flip;
 use sgb_graph::Refusal;
-use sgb_lengths::LengthsSpec;
+use sgb_combine::LengthsSpec;
 use sgb_plan::Seed;
 use std::alloc::Global;
 

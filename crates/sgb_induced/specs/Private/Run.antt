@@ -1,5 +1,5 @@
 -- Images as they are kept, and runs: the insertions from each image of one vertex to each of another.
-use Rattle.std.specs.Prelude.{◌≡◌, ◌≤◌, ◌<◌, ◌+◌, ◌==◌, ◌&&◌, not, ℕ, List, [], ◌∷◌, map, fold, Bool, min, max, nat_eq, slice_index_or, if◌then◌else◌}
+use Rattle.std.specs.Prelude.{◌≡◌, ◌≤◌, ◌+◌, ◌==◌, ◌&&◌, not, ℕ, List, [], ◌∷◌, map, fold, Bool, min, max, nat_eq, slice_index_or, if◌then◌else◌}
 use Rattle.std.specs.HashMap.{HashMap, get}
 use Rattle.std.specs.Int.{int_min}
 use Rattle.std.specs.List.{filter, flat_map, position, range_with_len}
@@ -29,10 +29,6 @@ numbers i = range_with_len i.start i.count
 -- every image is one of n vertices
 abbrev pub AreWithin : ℕ → List Image → Type 0
 AreWithin n is = (v : ℕ) → (image_at is v).start + (image_at is v).count ≤ n
-
--- every image stands in the place of a vertex below n
-abbrev pub IsAbove : ℕ → List Image → Type 0
-IsAbove n is = (v : ℕ) → (image_at is v).leader < n
 
 -- the map knows the first member of each class among these
 abbrev pub IsLed : {S : Type 0} → HashMap ℕ ℕ S → List Fate → Type 0

@@ -3,9 +3,9 @@ use Rattle.std.specs.Prelude.{◌≡◌, ◌⊎◌, ℕ, None, Some, Result, Ok,
 use Rattle.sgb_graph.specs.declared.refusal.Refusal.{Refusal}
 use Rattle.sgb_graph.specs.declared.refusal.Refusal.TheVariants.{NoRoom}
 use Rattle.sgb_graph.specs.Graph.{GraphOf}
-use Rattle.sgb_lengths.specs.declared.delta.LengthsDelta.{LengthsDelta}
-use Rattle.sgb_lengths.specs.declared.spec.LengthsSpec.{LengthsSpec}
-use Rattle.sgb_lengths.specs.Lengths.{CanRevertLengths, before_lengths, draws_for, lengthened, lengths_of, refusal_of_lengths}
+use Rattle.sgb_combine.specs.declared.delta.LengthsDelta.{LengthsDelta}
+use Rattle.sgb_combine.specs.declared.spec.LengthsSpec.{LengthsSpec}
+use Rattle.sgb_combine.specs.Lengths.{CanRevertLengths, before_lengths, draws_for, lengthened, lengths_of, refusal_of_lengths}
 use Rattle.sgb_plan.specs.declared.part.Seed.{Seed}
 use Rattle.sgb_plan.specs.Plan.{IsMade}
 use Rattle.sgb_random.specs.declared.spec.RandomSpec.{RandomSpec}

@@ -8,6 +8,6 @@ use Rattle.sgb_combine.proofs.intersect.insert_intersections.Given as goal
 abbrev pub invariant-loop-v : goal.invariant-loop-v
 invariant-loop-v l = record {
   left : LeftFrom l.initial.builder (flat_map (intersection_at l.directed l.first l.second) (range_with_len 0 (n_of l.first))) l.builder (intersection_at l.directed l.first l.second) l.v (n_of l.first);
-  mine : length l.met.mine.places.items ≡ n_of l.first;
-  theirs : length l.met.theirs.places.items ≡ n_of l.second;
+  mine : length l.mine.places.items ≡ n_of l.first;
+  theirs : length l.theirs.places.items ≡ n_of l.first;
 }

@@ -8,10 +8,6 @@ pub loop-i-preserved : goal.loop-i-preserved
 loop-i-preserved c =
     let value : c.index.result.now ≡ get_or c.in_ok-twins.twins.items c.loop-i.i 0 =
     c.index.ensures ∙ get_or_default c.in_ok-twins.twins.items c.loop-i.i c.index.result.now 0 (omega (arith, c.in_ok-twins.ensures.count)) in
-    record {
-      merged = kept_more c.index.result.now (omega arith)
-          (subst (IsTwin c.args.directed c.args.runs.now c.loop-i.i) (sym value) (c.in_ok-twins.ensures.twin c.loop-i.i (omega arith)))
-          c.loop-i.invariant.merged c.keep_run.ensures.runs c.keep_run.ensures.places;
-      kept = omega (arith, c.loop-i.invariant.kept, c.keep_run.ensures.kept_capacity);
-      places = omega (arith, c.loop-i.invariant.places, c.keep_run.ensures.places_capacity);
-    }
+    kept_more c.index.result.now (omega arith)
+    (subst (IsTwin c.args.directed c.args.runs.now c.loop-i.i) (sym value) (c.in_ok-twins.ensures.twin c.loop-i.i (omega arith)))
+    c.loop-i.invariant c.in_ok-keep_run.ensures.runs c.in_ok-keep_run.ensures.places

@@ -1,4 +1,4 @@
-use Rattle.sgb_lengths.specs.Lengths.{before_lengths}
+use Rattle.sgb_combine.specs.Lengths.{before_lengths}
 use Rattle.sgb_session.proofs.Tables.{written_in_slot}
 use Rattle.sgb_session.proofs.table.revert_lengths_in_slot.Goals as goal
 

@@ -1,6 +1,6 @@
 use Rattle.std.proofs.Common.{◌≡◌, ap, ◌∙◌, sym, length, map}
 use Rattle.arrayvec.proofs.ArrayVecLemmas.{items-with_items}
-use Rattle.sgb_lengths.specs.Lengths.{before_lengths}
+use Rattle.sgb_combine.specs.Lengths.{before_lengths}
 use Rattle.sgb_session.specs.declared.table.Entry.{Entry}
 use Rattle.sgb_session.specs.Table.{graph_in, with_graph}
 use Rattle.sgb_session.proofs.Tables.{slot_edited, entry_shown}

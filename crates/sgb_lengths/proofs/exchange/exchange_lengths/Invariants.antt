@@ -1,5 +1,0 @@
-use Rattle.sgb_lengths.proofs.Exchanging.{Exchanged}
-use Rattle.sgb_lengths.proofs.exchange.exchange_lengths.Given as goal
-
-abbrev pub invariant-loop-k : goal.invariant-loop-k
-invariant-loop-k l = Exchanged l.initial.graph l.initial.lengths l.graph l.lengths l.k

@@ -1,5 +1,0 @@
-use Rattle.sgb_lengths.proofs.Exchanging.{Given}
-use Rattle.sgb_lengths.proofs.exchange.give_lengths.Given as goal
-
-abbrev pub invariant-loop-k : goal.invariant-loop-k
-invariant-loop-k l = Given l.initial.graph l.lengths l.graph l.k

@@ -1,7 +1,0 @@
-use Rattle.std.proofs.Common.{ap, ◌∙◌}
-use Rattle.sgb_lengths.specs.Lengths.{with_lengths}
-use Rattle.sgb_lengths.proofs.lengths.draw_prepared.Goals as goal
-
-pub returns-clause-id : goal.returns-clause-id
-unfolding with_lengths
-returns-clause-id c = c.swap_id-id.ensures.value ∙ ap (λ g. g.id) c.exchange_lengths.ensures.graph

@@ -1,3 +1,0 @@
--- What serves private functions only.
-pub mod Prepared
-pub mod Table
