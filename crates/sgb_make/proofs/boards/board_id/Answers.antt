@@ -1,7 +1,7 @@
 use Rattle.std.proofs.Common.{rules, ap, ◌∙◌}
 use Rattle.sgb_plan.specs.Listing.{shown_at}
 use Rattle.sgb_make.proofs.Ids.{id_so}
-use Rattle.sgb_make.proofs.chess.board_id.Goals as goal
+use Rattle.sgb_make.proofs.boards.board_id.Goals as goal
 
 pub returns-clause-value : goal.returns-clause-value
 returns-clause-value c =

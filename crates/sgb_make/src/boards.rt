@@ -10,7 +10,6 @@ ghost use Rattle.sgb_make.specs.Private.Ridden.{along_all, ridden_plan};
 
 use crate::BoardSpec;
 use crate::course::Course;
-use crate::foresight::count_insertions;
 use crate::link::Links;
 use crate::position::{name_positions, zeros};
 use crate::side::Step;
@@ -103,7 +102,6 @@ fn insert_vectors(builder: &mut Builder, alloc: Global, course: &Course) -> Resu
     };
     let mut parts = zeros(alloc, course.sides.len())?;
     let mut steps = no_steps(alloc, course.sides.len())?;
-    builder.reserve(count_insertions(course, &mut parts, 0, course.most))?;
     insert_parts(
         builder,
         &mut tables,

@@ -7,7 +7,7 @@ use Rattle.sgb_simplex.specs.Points.{point_vertex}
 use Rattle.sgb_make.specs.Ride.{positions}
 use Rattle.sgb_make.specs.Private.Ridden.{ridden_plan}
 use Rattle.sgb_make.proofs.Planned.{begins, named_n}
-use Rattle.sgb_make.proofs.chess.build.Goals as goal
+use Rattle.sgb_make.proofs.boards.build.Goals as goal
 
 pub returns-in_err-name_positions : goal.returns-in_err-name_positions
 returns-in_err-name_positions c =

@@ -14,7 +14,7 @@ use Rattle.sgb_make.specs.Private.Rank.{volume, cells, IsSmall}
 use Rattle.sgb_make.specs.Private.Ridden.{ridden_plan}
 use Rattle.sgb_make.proofs.Planned.{positive-listed, too_many_sizes, too_large_piece, planned, board_plan_is, too_many_positions, few_positions}
 use Rattle.sgb_make.proofs.Volumes.{ArePositive, small_sizes, small-sides_of, cells-sides_of, length-sides_of}
-use Rattle.sgb_make.proofs.chess.board.Goals as goal
+use Rattle.sgb_make.proofs.boards.board.Goals as goal
 
 -- want of memory, or no plan
 no_plan : (s : BoardSpec) (e : Refusal) → (e ≡ NoRoom) ⊎ ((e ≡ BadSpecs) × (20 < count_of 0 (sizes_asked s))) → IsMade (plan_of_board s) (Err e)
