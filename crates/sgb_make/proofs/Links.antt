@@ -1,10 +1,10 @@
 -- Lemmas on tables of links: what they hold, and how they are made side by side.
-use Rattle.std.proofs.Common.{◌≡◌, ◌<◌, ◌≤◌, ◌+◌, ◌*◌, ◌==◌, ℕ, zero, suc, ℤ, pos, ◌*ℤ◌, List, [], ◌∷◌, length, get_or, map, drop, Bool, true, false, All, Option, Some, None, IfSome, inl, inr, refl, sym, ap, ap₂, subst, ◌∙◌, arith}
-use Rattle.std.specs.List.{flat_map, range_with_len}
+use Rattle.std.proofs.Common.{◌≡◌, ◌<◌, ◌≤◌, ◌+◌, ◌*◌, ◌==◌, ℕ, zero, suc, ℤ, pos, ◌*ℤ◌, List, [], ◌∷◌, length, get_or, map, drop, All, Option, Some, None, IfSome, inl, inr, refl, sym, ap, subst, ◌∙◌, arith}
+use Rattle.std.specs.List.{flat_map}
 use Rattle.std.specs.Option.{option_map}
 use Rattle.std.proofs.lemmas.Bool.{cases_Bool, ne_eqb}
 use Rattle.std.proofs.lemmas.Int.{ints}
-use Rattle.std.proofs.lemmas.List.{append-nil, get_or-map, get_or-replicate, length-map, length-replicate, length-drop, at_drop_more, drop_all}
+use Rattle.std.proofs.lemmas.List.{get_or-map, get_or-replicate, length-map, length-replicate, length-drop, at_drop_more, drop_all}
 use Rattle.std.proofs.lemmas.List.Elements.{All-nil, All-cons, All-map, All-replicate}
 use Rattle.std.proofs.lemmas.List.FromFn.{get_or-range_with_len, length-range_with_len}
 use Rattle.std.proofs.lemmas.Nat.{row_fits}
@@ -157,31 +157,3 @@ pub few_cells : (sides : List Side) → IsSmall sides → cells sides ≤ 65535
 unfolding cells
 few_cells [] small = omega arith
 few_cells (a ∷ sides) small = small.1
-
--- ---- a side of one coordinate, which stays where it is
-shifted_none : (base t : ℕ) → base ≡ 0 → shifted base t ≡ t
-shifted_none base zero none = refl
-shifted_none base (suc t) none = shifted-suc base t ∙ omega (arith, none)
-
-unshifted : (base : ℕ) (ts : List ℕ) → base ≡ 0 → map (shifted base) ts ≡ ts
-unshifted base [] none = refl
-unshifted base (t ∷ ts) none = ap₂ (λ u us. u ∷ us) (shifted_none base t none) (unshifted base ts none)
-
-stays : (w : Bool) (n : ℕ) → n ≡ 1 → moved (record { size = n; wraps = w }) 0 (pos 0) ≡ Some 0
-stays true n one = ap (λ k. moved (record { size = k; wraps = true }) 0 (pos 0)) one
-stays false n one = ap (λ k. moved (record { size = k; wraps = false }) 0 (pos 0)) one
-
-part_none : (s : Step) → s.by ≡ 0 → part_of s ≡ pos 0
-part_none s none =
-    elim (cases_Bool s.back) [
-      | inl back ↦ rw (back, none) refl
-      | inr on ↦ rw (on, none) refl
-    ]
-
-pub rows_same : (a : Side) (s : Step) (ts : List ℕ) → a.size ≡ 1 → s.by ≡ 0 → rows_of a (part_of s) ts ≡ ts
-unfolding rows_of row_of
-rows_same a s ts one none =
-    ap (λ n. flat_map (λ x. row_of (moved a x (part_of s)) ts) (range_with_len 0 n)) one
-    ∙ (append-nil (row_of (moved a 0 (part_of s)) ts)
-    ∙ (ap (λ z. row_of (moved a 0 z) ts) (part_none s none)
-    ∙ (ap (λ o. row_of o ts) (stays a.wraps a.size one) ∙ unshifted (0 * length ts) ts (omega arith))))

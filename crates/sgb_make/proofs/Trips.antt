@@ -55,16 +55,6 @@ pub trip_none : {a b : Builder} {all : List Insertion} {table : List ℕ} {rides
 trip_none {table = table} {rides = rides} {from = from} {at = at} {l = l} {end = end} h none left =
     left_end (left_as left.left (one_more table rides from at l end h ∙ ends rides from l (get_or table at 0) _ none))
 
--- what makes one step alone
-pub one_step : (table : List ℕ) (from : ℕ) → 0 < get_or table from 0 → insertion from (get_or table from 0 - 1) (pos 1) ∷ [] ≡ trip_from table false from
-unfolding trip
-one_step table from some = sym (goes_on false from 1 (get_or table from 0) [] some refl)
-
--- where none leads on from the first position
-pub no_trip : (b : Builder) (table : List ℕ) (rides : Bool) (from : ℕ) → from < length table → get_or table from 0 ≡ 0 → b ≡ grown b (trip_from table rides from)
-no_trip b table true from on none = trip_none {l = 1} {end = length table + 1} (omega (arith, on)) none (trip_start b table true from (length table + 1) refl on)
-no_trip b table false from on none = trip_none {l = 1} {end = 2} (omega arith) none (trip_start b table false from 2 refl on)
-
 pub trip_back : {a b : Builder} {all : List Insertion} {table : List ℕ} {rides : Bool} {from at l end : ℕ} → l < end → (rides && ((get_or table at 0 - 1) == from)) ≡ true → TripLeft a all b table rides from at l end → b ≡ grown a all
 trip_back {table = table} {rides = rides} {from = from} {at = at} {l = l} {end = end} h back left =
     left_end (left_as left.left (one_more table rides from at l end h ∙ ends_back rides from l (get_or table at 0) _ back))

@@ -1,9 +1,8 @@
 //! Standard and random graphs: the graphs that stated insertions build. Boards stand here; the others are handed on.
 #![tactic(auto)]
 
-mod chess;
+mod boards;
 mod course;
-mod foresight;
 mod law;
 mod link;
 mod position;
@@ -13,7 +12,7 @@ mod sizes;
 mod spec;
 mod vector;
 
-pub use chess::board;
+pub use boards::board;
 pub use law::ride_law;
 pub use sgb_binary::{BinarySpec, binary, binary_law, rotation_law};
 pub use sgb_perms::{PermsSpec, perms, perms_law};

@@ -126,22 +126,6 @@ pub(crate) struct Links {
     pub(crate) spare: Vec<u32>,
 }
 
-// Makes the links of a board from those of the board without its first side. Where that has one coordinate, and it stays
-// where it is, they are the same.
-fn add_side(tables: &mut Links, side: Side, step: Step) -> Result<(), AllocError>
-    requires low { All (λ t. t ≤ length tables.old.table.items) tables.old.table.items }
-    requires few { side.size * length tables.old.table.items ≤ 65535 }
-    ensures { OnOk result (tables.new.table.items ≡ rows_of side (part_of step) tables.old.table.items) }
-{
-    if side.size == 1 && step.by == 0 {
-        return Ok(());
-    }
-    tables.spare.clear();
-    append_rows(&mut tables.spare, &tables.table, side, step)?;
-    swap(&mut tables.table, &mut tables.spare);
-    Ok(())
-}
-
 // Makes the links of the vector of these steps.
 pub(crate) fn link(tables: &mut Links, sides: &[Side], steps: &[Step]) -> Result<(), AllocError>
     requires parts { length steps.now ≡ length sides.now }
@@ -152,7 +136,9 @@ pub(crate) fn link(tables: &mut Links, sides: &[Side], steps: &[Step]) -> Result
     tables.table.push(1)?;
     for done in 0..sides.len() {
         let k = sides.len() - 1 - done;
-        add_side(tables, sides[k], steps[k])?;
+        tables.spare.clear();
+        append_rows(&mut tables.spare, &tables.table, sides[k], steps[k])?;
+        swap(&mut tables.table, &mut tables.spare);
     }
     Ok(())
 }

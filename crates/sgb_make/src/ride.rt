@@ -1,5 +1,5 @@
 //! The insertions of the rides along one vector.
-ghost use Rattle.std.specs.Prelude.{◌≡◌, ◌<◌, ◌≤◌, true, false, length, map, All};
+ghost use Rattle.std.specs.Prelude.{◌≡◌, ◌<◌, ◌≤◌, ◌==◌, ◌&&◌, if◌then◌else◌, length, map, All};
 ghost use Rattle.sgb_graph.specs.Builder.{Inserts};
 ghost use Rattle.sgb_graph.specs.Graph.{n_of};
 ghost use Rattle.sgb_make.specs.Ride.{rides_along};
@@ -10,18 +10,30 @@ use crate::link::{Links, link};
 use crate::side::{Side, Step};
 use sgb_graph::{Builder, Refusal, VertexNo};
 
-// Inserts a rider's ride by the links, from one position until it ends. Where none leads on, one test tells it.
-fn insert_trip(builder: &mut Builder, table: &[u32], from: u32) -> Result<(), Refusal>
+// How many steps a ride has at most.
+fn most_steps(rides: bool, count: usize) -> usize
+    ensures most { result ≡ (if rides then count else 1) }
+    ensures few { 0 < count → result ≤ count }
+{
+    if rides { count } else { 1 }
+}
+
+// A rider is back where it began.
+fn is_back(rides: bool, from: u32, to: u32) -> bool
+    ensures { result ≡ (rides && (to == from)) }
+{
+    rides && to == from
+}
+
+// Inserts a ride by the links, from one position until it ends.
+fn insert_trip(builder: &mut Builder, table: &[u32], rides: bool, from: u32) -> Result<(), Refusal>
     requires from { from < length table.now }
     requires low { All (λ t. t ≤ length table.now) table.now }
     requires few { length table.now ≤ 65535 }
     requires count { n_of builder.old.graph ≡ length table.now }
-    ensures { Inserts builder.old builder.new (trip_from table.now true from) result }
+    ensures { Inserts builder.old builder.new (trip_from table.now rides from) result }
 {
-    if table[from as usize] == 0 {
-        return Ok(());
-    }
-    let end = table.len() + 1;
+    let end = most_steps(rides, table.len()) + 1;
     let mut at = from;
     for len in 1..end {
         let link = table[at as usize];
@@ -29,7 +41,7 @@ fn insert_trip(builder: &mut Builder, table: &[u32], from: u32) -> Result<(), Re
             return Ok(());
         }
         at = link - 1;
-        if at == from {
+        if is_back(rides, from, at) {
             return Ok(());
         }
         builder.insert(VertexNo(from), VertexNo(at), len as i64)?;
@@ -38,43 +50,14 @@ fn insert_trip(builder: &mut Builder, table: &[u32], from: u32) -> Result<(), Re
 }
 
 // Inserts the rides by the links, from each position.
-fn insert_trips(builder: &mut Builder, table: &[u32]) -> Result<(), Refusal>
+fn insert_trips(builder: &mut Builder, table: &[u32], rides: bool) -> Result<(), Refusal>
     requires low { All (λ t. t ≤ length table.now) table.now }
     requires few { length table.now ≤ 65535 }
     requires count { n_of builder.old.graph ≡ length table.now }
-    ensures { Inserts builder.old builder.new (trips table.now true) result }
+    ensures { Inserts builder.old builder.new (trips table.now rides) result }
 {
     for from in 0..table.len() {
-        insert_trip(builder, table, from as u32)?;
-    }
-    Ok(())
-}
-
-// Inserts the one step of another piece by the links, from one position.
-#[inline]
-fn insert_step(builder: &mut Builder, table: &[u32], from: u32) -> Result<(), Refusal>
-    requires from { from < length table.now }
-    requires low { All (λ t. t ≤ length table.now) table.now }
-    requires few { length table.now ≤ 65535 }
-    requires count { n_of builder.old.graph ≡ length table.now }
-    ensures { Inserts builder.old builder.new (trip_from table.now false from) result }
-{
-    let link = table[from as usize];
-    if link == 0 {
-        return Ok(());
-    }
-    builder.insert(VertexNo(from), VertexNo(link - 1), 1)
-}
-
-// Inserts the steps by the links, from each position.
-fn insert_steps(builder: &mut Builder, table: &[u32]) -> Result<(), Refusal>
-    requires low { All (λ t. t ≤ length table.now) table.now }
-    requires few { length table.now ≤ 65535 }
-    requires count { n_of builder.old.graph ≡ length table.now }
-    ensures { Inserts builder.old builder.new (trips table.now false) result }
-{
-    for from in 0..table.len() {
-        insert_step(builder, table, from as u32)?;
+        insert_trip(builder, table, rides, from as u32)?;
     }
     Ok(())
 }
@@ -93,9 +76,5 @@ pub(crate) fn insert_rides(
     ensures { Inserts builder.old builder.new (rides_along sides.now rides (map part_of steps.now)) result }
 {
     link(tables, sides, steps)?;
-    if rides {
-        insert_trips(builder, &tables.table)
-    } else {
-        insert_steps(builder, &tables.table)
-    }
+    insert_trips(builder, &tables.table, rides)
 }

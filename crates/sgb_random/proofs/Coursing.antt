@@ -9,18 +9,17 @@ use Rattle.sgb_graph.specs.declared.builder.Builder.{Builder}
 use Rattle.sgb_graph.specs.Builder.{Insertion, insertion, grown}
 use Rattle.sgb_plan.specs.Length.{drawn_length}
 use Rattle.sgb_random.specs.declared.progress.Progress.{Progress}
-use Rattle.sgb_random.specs.declared.progress.Tally.{Tally}
 use Rattle.sgb_random.specs.declared.spec.RandomSpec.{RandomSpec}
 use Rattle.sgb_random.specs.Random.{Course, joins, lowered, with_length, tried, attempted, size_of, wanted}
-use Rattle.sgb_random.specs.Private.Progress.{draws_of, insertion_of, insertions_of, key_of, key_of_insertion, keys_of, IsIndexed, IsKept, IsWithin, with_len_at}
+use Rattle.sgb_random.specs.Private.Progress.{insertion_of, insertions_of, key_of, key_of_insertion, keys_of, IsIndexed, IsKept, IsWithin, with_len_at}
 use Rattle.sgb_random.specs.Private.Table.{holds, taken, HasRoom, IsListed, IsNumbered}
 use Rattle.sgb_random.proofs.Joining.{any_key, place_key, same_count, keys-with_len_at, within-with_len_at, within_more, within_one}
 use Rattle.sgb_random.proofs.Placing.{holds_more, listed_by, numbered_put, taken_put}
 
 -- a length was drawn, with which the insertions become these
-pub kept_drawn : {s : RandomSpec} {a : Builder} {k : Course} {p q : Progress} {t u : Tally} {w x : Generator} (low high : ℤ) (es : ℤ → List Insertion) (len : ℤ) → IsKept s a k p t w → len ≡ (drawn_length low high w).len → u.made ≡ t.made + 1 → draws_of u ≡ draws_of t + (drawn_length low high w).draws → x ≡ (drawn_length low high w).rest → (int_lt s.multi (pos 0) ≡ true → (q.builder ≡ a) × (insertions_of q ≡ es len)) → (int_lt s.multi (pos 0) ≡ false → q.builder ≡ grown a (es len)) → IsKept s a (with_length low high k es) q u x
+pub kept_drawn : {s : RandomSpec} {a : Builder} {k : Course} {p q : Progress} {w x : Generator} (low high : ℤ) (es : ℤ → List Insertion) (len : ℤ) → IsKept s a k p w → len ≡ (drawn_length low high w).len → q.made ≡ p.made + 1 → q.draws ≡ p.draws + (drawn_length low high w).draws → x ≡ (drawn_length low high w).rest → (int_lt s.multi (pos 0) ≡ true → (q.builder ≡ a) × (insertions_of q ≡ es len)) → (int_lt s.multi (pos 0) ≡ false → q.builder ≡ grown a (es len)) → IsKept s a (with_length low high k es) q x
 unfolding with_length
-kept_drawn {s} {a} {k} {p} {q} {t} {u} {w} {x} low high es len kept is made draws rest listed inserted =
+kept_drawn {s} {a} {k} {p} {q} {w} {x} low high es len kept is made draws rest listed inserted =
     let same : len ≡ (drawn_length low high k.rest).len = is ∙ ap (λ g. (drawn_length low high g).len) kept.rest in
     record {
       made = made ∙ ap (λ n. n + 1) kept.made;
@@ -71,41 +70,24 @@ numbered_same {slots} {rows} {numbers} {marks} {keys} pairs beside numbered =
     subst (λ xs. IsNumbered xs numbers keys) (sym pairs) (subst (λ xs. IsNumbered rows xs keys) (sym beside) numbered)
 
 -- draws change nothing else
-pub indexed_drawn : {s : RandomSpec} {a : Builder} {k : Course} {p : Progress} {t u : Tally} {w : Generator} (i : ℕ) (x : Generator) → IsIndexed s a k p t w → u.made ≡ t.made → draws_of u ≡ draws_of t + i → IsIndexed s a (record { insertions = k.insertions; made = k.made; draws = k.draws + i; rest = x }) p u x
-indexed_drawn i x indexed made draws = record {
+pub indexed_drawn : {s : RandomSpec} {a : Builder} {k : Course} {p q : Progress} {w : Generator} (i : ℕ) (x : Generator) → IsIndexed s a k p w → q.made ≡ p.made → q.draws ≡ p.draws + i → q.builder ≡ p.builder → insertions_of q ≡ insertions_of p → q.pairs ≡ p.pairs → q.numbers ≡ p.numbers → IsIndexed s a (record { insertions = k.insertions; made = k.made; draws = k.draws + i; rest = x }) q x
+indexed_drawn {s} {a} {k} {p} {q} i x indexed made draws builder edges pairs numbers = record {
   kept = record {
     made = made ∙ indexed.kept.made;
     draws = draws ∙ ap (λ n. n + i) indexed.kept.draws;
     rest = refl;
-    listed = indexed.kept.listed;
-    inserted = indexed.kept.inserted;
+    listed = λ shorter. (builder ∙ (indexed.kept.listed shorter).0, edges ∙ (indexed.kept.listed shorter).1);
+    inserted = λ longer. builder ∙ indexed.kept.inserted longer;
   };
   ends = indexed.ends;
-  keys = indexed.keys;
-  taken = indexed.taken;
-  room = indexed.room;
-  numbers = indexed.numbers;
-}
-
--- nor does another way to count the same
-pub indexed_counted : {s : RandomSpec} {a : Builder} {k : Course} {p : Progress} {t u : Tally} {w : Generator} → IsIndexed s a k p t w → u.made ≡ t.made → draws_of u ≡ draws_of t → IsIndexed s a k p u w
-indexed_counted indexed made draws = record {
-  kept = record {
-    made = made ∙ indexed.kept.made;
-    draws = draws ∙ indexed.kept.draws;
-    rest = indexed.kept.rest;
-    listed = indexed.kept.listed;
-    inserted = indexed.kept.inserted;
-  };
-  ends = indexed.ends;
-  keys = indexed.keys;
-  taken = indexed.taken;
-  room = indexed.room;
-  numbers = indexed.numbers;
+  keys = λ once key. ap (holds key) pairs ∙ indexed.keys once key;
+  taken = λ once. ap taken pairs ∙ indexed.taken once;
+  room = λ once. subst (λ slots. wanted s < length slots) (sym pairs) (indexed.room once);
+  numbers = λ shorter. numbered_same pairs (ap (λ v. v.items) numbers) (indexed.numbers shorter);
 }
 
 -- ---- the numbers of the pairs
-module _ {s : RandomSpec} {a : Builder} {k : Course} {p : Progress} {t : Tally} {w : Generator} (u v key : ℕ) (indexed : IsIndexed s a k p t w) (few : size_of s ≤ 65535) (hu : u < size_of s) (hv : v < size_of s) (is : key ≡ key_of s.directed u v) (once : int_le s.multi (pos 0) ≡ true) where
+module _ {s : RandomSpec} {a : Builder} {k : Course} {p : Progress} {w : Generator} (u v key : ℕ) (indexed : IsIndexed s a k p w) (few : size_of s ≤ 65535) (hu : u < size_of s) (hv : v < size_of s) (is : key ≡ key_of s.directed u v) (once : int_le s.multi (pos 0) ≡ true) where
   pub found_is : holds key p.pairs ≡ list_any (joins s.directed u v) k.insertions
   found_is =
       indexed.keys once key
@@ -122,8 +104,8 @@ pub below_le : (z : ℤ) → int_lt z (pos 0) ≡ true → int_le z (pos 0) ≡ 
 below_le (pos n) is = absurd (omega (arith, ltb-true n 0 is))
 below_le (negsuc n) is = refl
 
-listed_count : {s : RandomSpec} {a : Builder} {k : Course} {p : Progress} {t : Tally} {w : Generator} → IsIndexed s a k p t w → int_lt s.multi (pos 0) ≡ true → length p.edges.items ≡ length (keys_of s k)
-listed_count {s} {a} {k} {p} {t} {w} indexed shorter =
+listed_count : {s : RandomSpec} {a : Builder} {k : Course} {p : Progress} {w : Generator} → IsIndexed s a k p w → int_lt s.multi (pos 0) ≡ true → length p.edges.items ≡ length (keys_of s k)
+listed_count {s} {a} {k} {p} {w} indexed shorter =
     sym (length-map p.edges.items insertion_of)
     ∙ (ap length (indexed.kept.listed shorter).1 ∙ sym (length-map k.insertions (key_of_insertion s.directed)))
 
@@ -135,17 +117,17 @@ pub record IsPut (slots : List ℕ) (key place : ℕ) (rows : List ℕ) : Type 0
   pub put : rows ≡ set slots place (key + 1)
 
 -- other numbers of pairs change nothing of what is kept
-pub kept_same : {s : RandomSpec} {a : Builder} {k : Course} {p q : Progress} {t : Tally} {w : Generator} → IsKept s a k p t w → q.builder ≡ p.builder → insertions_of q ≡ insertions_of p → IsKept s a k q t w
-kept_same kept builder edges = record {
-  made = kept.made;
-  draws = kept.draws;
+pub kept_same : {s : RandomSpec} {a : Builder} {k : Course} {p q : Progress} {w : Generator} → IsKept s a k p w → q.made ≡ p.made → q.draws ≡ p.draws → q.builder ≡ p.builder → insertions_of q ≡ insertions_of p → IsKept s a k q w
+kept_same kept made draws builder edges = record {
+  made = made ∙ kept.made;
+  draws = draws ∙ kept.draws;
   rest = kept.rest;
   listed = λ shorter. (builder ∙ (kept.listed shorter).0, edges ∙ (kept.listed shorter).1);
   inserted = λ longer. builder ∙ kept.inserted longer;
 }
 
-pub indexed_same : {s : RandomSpec} {a : Builder} {k : Course} {p q : Progress} {t : Tally} {w : Generator} → IsIndexed s a k p t w → IsKept s a k q t w → q.pairs ≡ p.pairs → q.numbers ≡ p.numbers → IsIndexed s a k q t w
-indexed_same {s} {a} {k} {p} {q} {t} {w} indexed kept pairs numbers = record {
+pub indexed_same : {s : RandomSpec} {a : Builder} {k : Course} {p q : Progress} {w : Generator} → IsIndexed s a k p w → IsKept s a k q w → q.pairs ≡ p.pairs → q.numbers ≡ p.numbers → IsIndexed s a k q w
+indexed_same {s} {a} {k} {p} {q} indexed kept pairs numbers = record {
   kept = kept;
   ends = indexed.ends;
   keys = λ once key. ap (holds key) pairs ∙ indexed.keys once key;
@@ -154,11 +136,11 @@ indexed_same {s} {a} {k} {p} {q} {t} {w} indexed kept pairs numbers = record {
   numbers = λ shorter. numbered_same pairs (ap (λ v. v.items) numbers) (indexed.numbers shorter);
 }
 
-pub indexed_more : {s : RandomSpec} {a : Builder} {k : Course} {p q : Progress} {t u : Tally} {w x : Generator} (low high : ℤ) (from to place : ℕ) → IsIndexed s a k p t w → from < size_of s → to < size_of s → IsKept s a (with_length low high k (λ len. k.insertions ++ insertion from to len ∷ [])) q u x → (int_le s.multi (pos 0) ≡ true → IsPut p.pairs (key_of s.directed from to) place q.pairs) → (int_lt s.multi (pos 0) ≡ true → q.numbers.items ≡ set p.numbers.items place (length p.edges.items)) → IsIndexed s a (with_length low high k (λ len. k.insertions ++ insertion from to len ∷ [])) q u x
+pub indexed_more : {s : RandomSpec} {a : Builder} {k : Course} {p q : Progress} {w x : Generator} (low high : ℤ) (u v place : ℕ) → IsIndexed s a k p w → u < size_of s → v < size_of s → IsKept s a (with_length low high k (λ len. k.insertions ++ insertion u v len ∷ [])) q x → (int_le s.multi (pos 0) ≡ true → IsPut p.pairs (key_of s.directed u v) place q.pairs) → (int_lt s.multi (pos 0) ≡ true → q.numbers.items ≡ set p.numbers.items place (length p.edges.items)) → IsIndexed s a (with_length low high k (λ len. k.insertions ++ insertion u v len ∷ [])) q x
 unfolding with_length
-indexed_more {s} {a} {k} {p} {q} {t} {u} {w} {x} low high from to place indexed hu hv kept put numbers =
-    let more = insertion from to (drawn_length low high k.rest).len in
-    let key = key_of s.directed from to in
+indexed_more {s} {a} {k} {p} {q} {w} {x} low high u v place indexed hu hv kept put numbers =
+    let more = insertion u v (drawn_length low high k.rest).len in
+    let key = key_of s.directed u v in
     let keys : map (key_of_insertion s.directed) (k.insertions ++ more ∷ []) ≡ keys_of s k ++ key ∷ [] = map-append (key_of_insertion s.directed) k.insertions (more ∷ []) in
     record {
       kept = kept;
@@ -184,9 +166,9 @@ indexed_more {s} {a} {k} {p} {q} {t} {u} {w} {x} low high from to place indexed 
           (numbered_put p.pairs p.numbers.items (keys_of s k) key place (indexed.keys once) (indexed.numbers shorter) is.below is.absent));
     }
 
-pub indexed_lower : {s : RandomSpec} {a : Builder} {k : Course} {p q : Progress} {t u : Tally} {w x : Generator} (low high : ℤ) (place : ℕ) → IsIndexed s a k p t w → IsKept s a (with_length low high k (λ len. with_len_at k.insertions place len)) q u x → q.pairs ≡ p.pairs → q.numbers ≡ p.numbers → IsIndexed s a (with_length low high k (λ len. with_len_at k.insertions place len)) q u x
+pub indexed_lower : {s : RandomSpec} {a : Builder} {k : Course} {p q : Progress} {w x : Generator} (low high : ℤ) (place : ℕ) → IsIndexed s a k p w → IsKept s a (with_length low high k (λ len. with_len_at k.insertions place len)) q x → q.pairs ≡ p.pairs → q.numbers ≡ p.numbers → IsIndexed s a (with_length low high k (λ len. with_len_at k.insertions place len)) q x
 unfolding with_length
-indexed_lower {s} {a} {k} {p} {q} {t} {u} {w} {x} low high place indexed kept pairs numbers =
+indexed_lower {s} {a} {k} {p} {q} {w} {x} low high place indexed kept pairs numbers =
     let len = (drawn_length low high k.rest).len in
     let keys : map (key_of_insertion s.directed) (with_len_at k.insertions place len) ≡ keys_of s k = keys-with_len_at s.directed k.insertions place len in
     record {
@@ -199,12 +181,12 @@ indexed_lower {s} {a} {k} {p} {q} {t} {u} {w} {x} low high place indexed kept pa
     }
 
 -- the table has room for one pair more
-pub room_is : {s : RandomSpec} {a : Builder} {k : Course} {p : Progress} {t : Tally} {w : Generator} → IsIndexed s a k p t w → length k.insertions < wanted s → int_le s.multi (pos 0) ≡ true → HasRoom p.pairs
+pub room_is : {s : RandomSpec} {a : Builder} {k : Course} {p : Progress} {w : Generator} → IsIndexed s a k p w → length k.insertions < wanted s → int_le s.multi (pos 0) ≡ true → HasRoom p.pairs
 room_is indexed less once = omega (arith, less, indexed.taken once, indexed.room once)
 
 -- beside each number of a pair stands a place of the list
-pub places_are : {s : RandomSpec} {a : Builder} {k : Course} {p : Progress} {t : Tally} {w : Generator} → IsIndexed s a k p t w → length k.insertions ≤ 1000000 → int_lt s.multi (pos 0) ≡ true → IsListed p.pairs p.numbers.items (length p.edges.items)
-places_are {s} {a} {k} {p} {t} {w} indexed few shorter =
+pub places_are : {s : RandomSpec} {a : Builder} {k : Course} {p : Progress} {w : Generator} → IsIndexed s a k p w → length k.insertions ≤ 1000000 → int_lt s.multi (pos 0) ≡ true → IsListed p.pairs p.numbers.items (length p.edges.items)
+places_are {s} {a} {k} {p} {w} indexed few shorter =
     subst (IsListed p.pairs p.numbers.items) (sym (listed_count indexed shorter))
     (listed_by p.pairs p.numbers.items (keys_of s k) (indexed.keys (below_le s.multi shorter)) (indexed.numbers shorter)
     (omega (arith, few, length-map k.insertions (key_of_insertion s.directed))))

@@ -1,6 +1,5 @@
 mod Building
 mod Coursing
-mod Dividing
 mod Following
 mod Joining
 mod Judging

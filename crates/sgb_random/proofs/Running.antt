@@ -13,10 +13,9 @@ use Rattle.sgb_plan.specs.declared.part.Seed.{Seed}
 use Rattle.sgb_plan.specs.Plan.{IsMade}
 use Rattle.sgb_plan.proofs.Planning.{refused_before}
 use Rattle.sgb_random.specs.declared.progress.Progress.{Progress}
-use Rattle.sgb_random.specs.declared.progress.Tally.{Tally}
 use Rattle.sgb_random.specs.declared.spec.RandomSpec.{RandomSpec}
 use Rattle.sgb_random.specs.Random.{Course, begun, attempted, attempts, course, plan_of_course, plan_of_random, random_plan, unless_refused, refusal_of_random, wanted, size_of}
-use Rattle.sgb_random.specs.Private.Progress.{draws_of, insertion_of, insertions_of, Follows, IsBare, IsFresh, IsIndexed, IsReady, IsWithin}
+use Rattle.sgb_random.specs.Private.Progress.{insertion_of, insertions_of, Follows, IsBare, IsFresh, IsIndexed, IsReady, IsWithin}
 use Rattle.sgb_random.specs.Private.Table.{HasRoom, IsListed}
 use Rattle.sgb_random.proofs.Coursing.{places_are, room_is}
 use Rattle.sgb_random.proofs.Following.{follows_none, follows_then}
@@ -65,22 +64,22 @@ unfolding course
 course_end s w i end = ap (attempts s w) (sym end)
 
 -- ---- what is kept while they run
--- i attempts from the builder a and the generator g have come to p, the tally t and the generator w
-pub record IsRun (s : RandomSpec) (a : Builder) (g : Generator) (p : Progress) (t : Tally) (w : Generator) (i : ℕ) : Type 0 where
-  pub indexed : IsIndexed s a (attempts s g i) p t w
-  pub follows : Follows g 0 w (draws_of t)
-  pub few_draws : draws_of t ≤ 5442 * i
+-- i attempts from the builder a and the generator g have come to p and the generator w
+pub record IsRun (s : RandomSpec) (a : Builder) (g : Generator) (p : Progress) (w : Generator) (i : ℕ) : Type 0 where
+  pub indexed : IsIndexed s a (attempts s g i) p w
+  pub follows : Follows g 0 w p.draws
+  pub few_draws : p.draws ≤ 5442 * i
   pub generator : IsGenerator w
 
-pub run_start : (s : RandomSpec) (p : Progress) (t : Tally) (g : Generator) → IsFresh s p g → draws_of t ≡ 0 → IsRun s p.builder g p t g 0
+pub run_start : (s : RandomSpec) (p : Progress) (g : Generator) → IsFresh s p g → IsRun s p.builder g p g 0
 unfolding attempts
-run_start s p t g fresh no_draws =
+run_start s p g fresh =
     let none : insertions_of p ≡ [] = ap (map insertion_of) fresh.no_edges in
     record {
       indexed = record {
         kept = record {
-          made = omega (arith, no_draws);
-          draws = no_draws;
+          made = fresh.none_made;
+          draws = fresh.no_draws;
           rest = refl;
           listed = λ shorter. (refl, none);
           inserted = λ longer. sym (grown-nil p.builder);
@@ -91,51 +90,51 @@ run_start s p t g fresh no_draws =
         room = λ once. fresh.room once;
         numbers = λ shorter. free_numbered p.pairs p.numbers.items [] fresh.no_pairs (fresh.numbers shorter);
       };
-      follows = subst (λ k. Follows g 0 g k) (sym no_draws) (follows_none g 0);
-      few_draws = omega (arith, no_draws);
+      follows = subst (λ k. Follows g 0 g k) (sym fresh.no_draws) (follows_none g 0);
+      few_draws = omega (arith, fresh.no_draws);
       generator = fresh.generator;
     }
 
-pub run_made : {s : RandomSpec} {a : Builder} {g w : Generator} {p : Progress} {t : Tally} {i : ℕ} → IsRun s a g p t w i → (attempts s g i).made ≡ t.made
+pub run_made : {s : RandomSpec} {a : Builder} {g w : Generator} {p : Progress} {i : ℕ} → IsRun s a g p w i → (attempts s g i).made ≡ p.made
 run_made run = sym run.indexed.kept.made
 
-pub run_next : {s : RandomSpec} {a : Builder} {g w x : Generator} {p q : Progress} {t u : Tally} {i : ℕ} → IsRun s a g p t w i → t.made < wanted s → IsIndexed s a (attempted s (attempts s g i)) q u x → Follows w (draws_of t) x (draws_of u) → draws_of u ≤ draws_of t + 5442 → IsGenerator x → IsRun s a g q u x (i + 1)
-run_next {s} {a} {g} {w} {x} {p} {q} {t} {u} {i} run less indexed follows few generator = record {
-  indexed = subst (λ (k : Course). IsIndexed s a k q u x) (sym (attempts_more s g i (omega (arith, less, run_made run)))) indexed;
+pub run_next : {s : RandomSpec} {a : Builder} {g w x : Generator} {p q : Progress} {i : ℕ} → IsRun s a g p w i → p.made < wanted s → IsIndexed s a (attempted s (attempts s g i)) q x → Follows w p.draws x q.draws → q.draws ≤ p.draws + 5442 → IsGenerator x → IsRun s a g q x (i + 1)
+run_next {s} {a} {g} {w} {x} {p} {q} {i} run less indexed follows few generator = record {
+  indexed = subst (λ (k : Course). IsIndexed s a k q x) (sym (attempts_more s g i (omega (arith, less, run_made run)))) indexed;
   follows = follows_then run.follows follows;
   few_draws = omega (arith, few, run.few_draws);
   generator = generator;
 }
 
 -- beside each number of a pair stands a place of the list
-pub run_places : {s : RandomSpec} {a : Builder} {g w : Generator} {p : Progress} {t : Tally} {i : ℕ} → IsRun s a g p t w i → t.made < 1000000 → int_lt s.multi (pos 0) ≡ true → IsListed p.pairs p.numbers.items (length p.edges.items)
-run_places {s} {a} {g} {w} {p} {t} {i} run few shorter =
+pub run_places : {s : RandomSpec} {a : Builder} {g w : Generator} {p : Progress} {i : ℕ} → IsRun s a g p w i → p.made < 1000000 → int_lt s.multi (pos 0) ≡ true → IsListed p.pairs p.numbers.items (length p.edges.items)
+run_places {s} {a} {g} {w} {p} {i} run few shorter =
     places_are run.indexed (omega (arith, few, (few_attempts s g i).inserted, run_made run)) shorter
 
 -- the table has room for one pair more
-pub run_room : {s : RandomSpec} {a : Builder} {g w : Generator} {p : Progress} {t : Tally} {i : ℕ} → IsRun s a g p t w i → t.made < wanted s → int_le s.multi (pos 0) ≡ true → HasRoom p.pairs
-run_room {s} {a} {g} {w} {p} {t} {i} run less once =
+pub run_room : {s : RandomSpec} {a : Builder} {g w : Generator} {p : Progress} {i : ℕ} → IsRun s a g p w i → p.made < wanted s → int_le s.multi (pos 0) ≡ true → HasRoom p.pairs
+run_room {s} {a} {g} {w} {p} {i} run less once =
     room_is run.indexed (omega (arith, less, (few_attempts s g i).inserted, run_made run)) once
 
 -- one insertion more is within the limits
-pub run_ready : {s : RandomSpec} {a : Builder} {g w : Generator} {p : Progress} {t : Tally} {i : ℕ} → IsRun s a g p t w i → refusal_of_random s ≡ None → IsBare s a → t.made < wanted s → IsReady s p.builder t.made
-run_ready {s} {a} {g} {w} {p} {t} {i} run none bare less =
-    let few : length (attempts s g i).insertions ≤ t.made = omega (arith, (few_attempts s g i).inserted, run_made run) in
+pub run_ready : {s : RandomSpec} {a : Builder} {g w : Generator} {p : Progress} {i : ℕ} → IsRun s a g p w i → refusal_of_random s ≡ None → IsBare s a → p.made < wanted s → IsReady s p.builder p.made
+run_ready {s} {a} {g} {w} {p} {i} run none bare less =
+    let few : length (attempts s g i).insertions ≤ p.made = omega (arith, (few_attempts s g i).inserted, run_made run) in
     elim (cases_Bool (int_lt s.multi (pos 0))) [
-      | inl shorter ↦ subst (λ b. IsReady s b t.made) (grown-nil a ∙ sym (run.indexed.kept.listed shorter).0) (ready s a [] t.made none bare (omega arith) less)
-      | inr longer ↦ subst (λ b. IsReady s b t.made) (sym (run.indexed.kept.inserted longer)) (ready s a (attempts s g i).insertions t.made none bare few less)
+      | inl shorter ↦ subst (λ b. IsReady s b p.made) (grown-nil a ∙ sym (run.indexed.kept.listed shorter).0) (ready s a [] p.made none bare (omega arith) less)
+      | inr longer ↦ subst (λ b. IsReady s b p.made) (sym (run.indexed.kept.inserted longer)) (ready s a (attempts s g i).insertions p.made none bare few less)
     ]
 
 -- how the run ends
-pub run_course : {s : RandomSpec} {a : Builder} {g w : Generator} {p : Progress} {t : Tally} {i : ℕ} → IsRun s a g p t w i → i ≤ 10000000 → wanted s ≤ t.made → IsIndexed s a (course s g) p t w
-run_course {s} {a} {g} {w} {p} {t} {i} run le all =
-    subst (λ (k : Course). IsIndexed s a k p t w) (sym (course_at s g i le (omega (arith, all, run_made run)))) run.indexed
+pub run_course : {s : RandomSpec} {a : Builder} {g w : Generator} {p : Progress} {i : ℕ} → IsRun s a g p w i → i ≤ 10000000 → wanted s ≤ p.made → IsIndexed s a (course s g) p w
+run_course {s} {a} {g} {w} {p} {i} run le all =
+    subst (λ (k : Course). IsIndexed s a k p w) (sym (course_at s g i le (omega (arith, all, run_made run)))) run.indexed
 
-pub run_all : {s : RandomSpec} {a : Builder} {g w : Generator} {p : Progress} {t : Tally} {i : ℕ} → IsRun s a g p t w i → i ≤ 10000000 → wanted s ≤ t.made → wanted s ≤ (course s g).made
+pub run_all : {s : RandomSpec} {a : Builder} {g w : Generator} {p : Progress} {i : ℕ} → IsRun s a g p w i → i ≤ 10000000 → wanted s ≤ p.made → wanted s ≤ (course s g).made
 run_all {s} run le all = omega (arith, (run_course run le all).kept.made, all)
 
-pub run_stuck : {s : RandomSpec} {a : Builder} {g w : Generator} {p : Progress} {t : Tally} {i : ℕ} → IsRun s a g p t w i → i ≡ 10000000 → t.made < wanted s → (course s g).made < wanted s
-run_stuck {s} {a} {g} {w} {p} {t} {i} run end less =
+pub run_stuck : {s : RandomSpec} {a : Builder} {g w : Generator} {p : Progress} {i : ℕ} → IsRun s a g p w i → i ≡ 10000000 → p.made < wanted s → (course s g).made < wanted s
+run_stuck {s} {a} {g} {w} {p} {i} run end less =
     omega (arith, less, run_made run, ap (λ (k : Course). k.made) (course_end s g i end))
 
 -- ---- what comes of a course

@@ -13,59 +13,55 @@ ghost use Rattle.sgb_random.specs.Private.Progress.{
   IsKept,
   IsLengths,
   IsReady,
-  draws_of,
   insertion_of,
   key_of,
-  with_ends,
   with_len_at,
 };
 ghost use Rattle.sgb_random.specs.Private.Table.{HasRoom, IsListed};
 
 use crate::RandomSpec;
-use crate::ends::Ends;
-use crate::progress::{Edge, Progress, Tally};
+use crate::progress::{Edge, Progress};
 use crate::spec::{repeats, shortens};
 use sgb_flip::Flip;
 use sgb_graph::{Refusal, VertexNo};
 use sgb_plan::LengthRange;
 
-// Draws two vertices and tries to join them. Where memory is wanting, the draws are counted all the same.
-#[inline(always)]
+// Draws two of the `n` vertices and tries to join them. Where memory is wanting, the draws are counted all the same.
 pub(crate) fn attempt(
     flip: &mut Flip,
     spec: &RandomSpec,
-    ends: &Ends,
+    n: u32,
     range: &LengthRange,
     progress: &mut Progress,
-    tally: &mut Tally,
 ) -> Result<(), Refusal>
-    requires size { ends.now.n ≡ size_of spec.now }
+    requires size { n ≡ size_of spec.now }
+    requires some { 0 < n }
+    requires few { n ≤ 65535 }
     requires range { IsLengths spec.now range.now }
-    requires ready { IsReady spec.now progress.old.builder tally.old.made }
+    requires ready { IsReady spec.now progress.old.builder progress.old.made }
     requires places { int_lt spec.now.multi (pos 0) ≡ true →
         IsListed progress.old.pairs progress.old.numbers.items (length progress.old.edges.items) }
     requires room { int_le spec.now.multi (pos 0) ≡ true → HasRoom progress.old.pairs }
-    requires draws { draws_of tally.old < 2 ^ 40 }
-    ensures ok { (a : Base) (c : Course) → IsIndexed spec.now a c progress.old tally.old flip.old →
-        OnOk result (IsIndexed spec.now a (attempted spec.now c) progress.new tally.new flip.new) }
+    requires draws { progress.old.draws < 2 ^ 40 }
+    ensures ok { (a : Base) (c : Course) → IsIndexed spec.now a c progress.old flip.old →
+        OnOk result (IsIndexed spec.now a (attempted spec.now c) progress.new flip.new) }
     ensures err { IfErr result (λ e. e ≡ Refusal.NoRoom) }
-    ensures follows { Follows flip.old (draws_of tally.old) flip.new (draws_of tally.new) }
-    ensures few_draws { draws_of tally.new ≤ draws_of tally.old + 5442 }
+    ensures follows { Follows flip.old progress.old.draws flip.new progress.new.draws }
+    ensures few_draws { progress.new.draws ≤ progress.old.draws + 5442 }
     ensures generator { IsGenerator flip.new }
 {
-    let from = ends.draw(flip, &mut tally.more);
-    let to = ends.draw(flip, &mut tally.more);
-    try_pair(flip, spec, range, progress, tally, from, to)
+    let from = flip.uniform(n);
+    let to = flip.uniform(n);
+    progress.draws += from.draws as u64 + to.draws as u64;
+    try_pair(flip, spec, range, progress, from.value, to.value)
 }
 
-// Tries to join two vertices, which are drawn and not counted yet.
-#[inline(always)]
+// Tries to join two vertices.
 fn try_pair(
     flip: &mut Flip,
     spec: &RandomSpec,
     range: &LengthRange,
     progress: &mut Progress,
-    tally: &mut Tally,
     from: u32,
     to: u32,
 ) -> Result<(), Refusal>
@@ -73,44 +69,40 @@ fn try_pair(
     requires from { from < size_of spec.now }
     requires to { to < size_of spec.now }
     requires range { IsLengths spec.now range.now }
-    requires ready { IsReady spec.now progress.old.builder tally.old.made }
+    requires ready { IsReady spec.now progress.old.builder progress.old.made }
     requires places { int_lt spec.now.multi (pos 0) ≡ true →
         IsListed progress.old.pairs progress.old.numbers.items (length progress.old.edges.items) }
     requires room { int_le spec.now.multi (pos 0) ≡ true → HasRoom progress.old.pairs }
-    requires draws { draws_of tally.old < 2 ^ 41 }
-    ensures ok { (a : Base) (c : Course) → IsIndexed spec.now a c progress.old (with_ends tally.old) flip.old →
-        OnOk result (IsIndexed spec.now a (tried spec.now from to c) progress.new tally.new flip.new) }
+    requires draws { progress.old.draws < 2 ^ 41 }
+    ensures ok { (a : Base) (c : Course) → IsIndexed spec.now a c progress.old flip.old →
+        OnOk result (IsIndexed spec.now a (tried spec.now from to c) progress.new flip.new) }
     ensures err { IfErr result (λ e. e ≡ Refusal.NoRoom) }
-    ensures follows { Follows flip.old (draws_of tally.old + 2) flip.new (draws_of tally.new) }
-    ensures few_draws { draws_of tally.new ≤ draws_of tally.old + 1816 }
+    ensures follows { Follows flip.old progress.old.draws flip.new progress.new.draws }
+    ensures few_draws { progress.new.draws ≤ progress.old.draws + 1814 }
     ensures generator { IsGenerator flip.new }
 {
     // It tells that the generator is one, also where nothing is drawn.
     let _ = flip.unread();
     if is_barred(spec.loops, from, to) {
-        tally.missed += 1;
         return Ok(());
     }
     if repeats(*spec) {
-        return insert(flip, spec, range, progress, tally, from, to);
+        return insert(flip, spec, range, progress, from, to);
     }
     let key = key_of(spec.directed, from, to);
     let (place, is_new) = progress.pairs.insert(key);
     if is_new {
         number(spec, progress, place);
-        return insert(flip, spec, range, progress, tally, from, to);
+        return insert(flip, spec, range, progress, from, to);
     }
     if shortens(*spec) {
         let listed = progress.numbers[place] as usize;
-        lower(flip, range, progress, tally, listed);
-        return Ok(());
+        lower(flip, range, progress, listed);
     }
-    tally.missed += 1;
     Ok(())
 }
 
 // Where lengths may be shortened, tells beside the place of a pair where its arc or edge is to be listed.
-#[inline]
 fn number(spec: &RandomSpec, progress: &mut Progress, place: usize)
     requires place { int_lt spec.now.multi (pos 0) ≡ true → place < length progress.old.numbers.items }
     requires few { int_lt spec.now.multi (pos 0) ≡ true → length progress.old.edges.items ≤ 1000000 }
@@ -119,6 +111,8 @@ fn number(spec: &RandomSpec, progress: &mut Progress, place: usize)
     ensures builder { progress.new.builder ≡ progress.old.builder }
     ensures edges { progress.new.edges ≡ progress.old.edges }
     ensures pairs { progress.new.pairs ≡ progress.old.pairs }
+    ensures made { progress.new.made ≡ progress.old.made }
+    ensures draws { progress.new.draws ≡ progress.old.draws }
 {
     if shortens(*spec) {
         progress.numbers[place] = progress.edges.len() as u32;
@@ -133,7 +127,6 @@ fn is_barred(loops: bool, from: u32, to: u32) -> bool
 }
 
 // The number of a pair, which is the same either way round where edges are inserted.
-#[inline]
 fn key_of(directed: bool, from: u32, to: u32) -> u32
     requires from { from < 65536 }
     requires to { to < 65536 }
@@ -153,26 +146,25 @@ fn insert(
     spec: &RandomSpec,
     range: &LengthRange,
     progress: &mut Progress,
-    tally: &mut Tally,
     from: u32,
     to: u32,
 ) -> Result<(), Refusal>
     requires from { from < size_of spec.now }
     requires to { to < size_of spec.now }
-    requires ready { IsReady spec.now progress.old.builder tally.old.made }
-    requires draws { draws_of tally.old < 2 ^ 42 }
-    ensures ok { (a : Base) (c : Course) → IsKept spec.now a c progress.old (with_ends tally.old) flip.old →
+    requires ready { IsReady spec.now progress.old.builder progress.old.made }
+    requires draws { progress.old.draws < 2 ^ 42 }
+    ensures ok { (a : Base) (c : Course) → IsKept spec.now a c progress.old flip.old →
         OnOk result (IsKept spec.now a
         (with_length range.now.min range.now.max c (λ len. c.insertions ++ insertion from to len ∷ []))
-        progress.new tally.new flip.new) }
+        progress.new flip.new) }
     ensures pairs { OnOk result (progress.new.pairs ≡ progress.old.pairs) }
     ensures numbers { OnOk result (progress.new.numbers ≡ progress.old.numbers) }
     ensures err { IfErr result (λ e. e ≡ Refusal.NoRoom) }
-    ensures follows { Follows flip.old (draws_of tally.old + 2) flip.new (draws_of tally.new) }
-    ensures few_draws { draws_of tally.new ≤ draws_of tally.old + 1816 }
+    ensures follows { Follows flip.old progress.old.draws flip.new progress.new.draws }
+    ensures few_draws { progress.new.draws ≤ progress.old.draws + 1814 }
     ensures generator { IsGenerator flip.new }
 {
-    let len = draw_length(flip, range, tally);
+    let len = draw_length(flip, range, progress);
     if shortens(*spec) {
         progress.edges.push(Edge { from, to, len })?;
         return Ok(());
@@ -181,29 +173,22 @@ fn insert(
 }
 
 // Draws a length, which what is listed at this place takes if it is smaller.
-#[inline(always)]
-fn lower(
-    flip: &mut Flip,
-    range: &LengthRange,
-    progress: &mut Progress,
-    tally: &mut Tally,
-    place: usize,
-)
+fn lower(flip: &mut Flip, range: &LengthRange, progress: &mut Progress, place: usize)
     requires place { place < length progress.old.edges.items }
-    requires made { tally.old.made < 1000000 }
-    requires draws { draws_of tally.old < 2 ^ 42 }
+    requires made { progress.old.made < 1000000 }
+    requires draws { progress.old.draws < 2 ^ 42 }
     ensures ok { (s : Spec) (a : Base) (c : Course) → int_lt s.multi (pos 0) ≡ true →
-        IsKept s a c progress.old (with_ends tally.old) flip.old →
+        IsKept s a c progress.old flip.old →
         IsKept s a
         (with_length range.now.min range.now.max c (λ len. with_len_at c.insertions place len))
-        progress.new tally.new flip.new }
+        progress.new flip.new }
     ensures pairs { progress.new.pairs ≡ progress.old.pairs }
     ensures numbers { progress.new.numbers ≡ progress.old.numbers }
-    ensures follows { Follows flip.old (draws_of tally.old + 2) flip.new (draws_of tally.new) }
-    ensures few_draws { draws_of tally.new ≤ draws_of tally.old + 1816 }
+    ensures follows { Follows flip.old progress.old.draws flip.new progress.new.draws }
+    ensures few_draws { progress.new.draws ≤ progress.old.draws + 1814 }
     ensures generator { IsGenerator flip.new }
 {
-    let len = draw_length(flip, range, tally);
+    let len = draw_length(flip, range, progress);
     progress.edges[place] = shortened(progress.edges[place], len);
 }
 
@@ -218,21 +203,25 @@ fn shortened(edge: Edge, len: i64) -> Edge
 }
 
 // Draws a length, and counts one more as made.
-#[inline(always)]
-fn draw_length(flip: &mut Flip, range: &LengthRange, tally: &mut Tally) -> i64
-    requires made { tally.old.made < 1000000 }
-    requires draws { draws_of tally.old < 2 ^ 42 }
+#[inline]
+fn draw_length(flip: &mut Flip, range: &LengthRange, progress: &mut Progress) -> i64
+    requires made { progress.old.made < 1000000 }
+    requires draws { progress.old.draws < 2 ^ 42 }
     ensures len { result ≡ (drawn_length range.now.min range.now.max flip.old).len }
-    ensures draws { draws_of tally.new
-        ≡ draws_of (with_ends tally.old) + (drawn_length range.now.min range.now.max flip.old).draws }
+    ensures draws { progress.new.draws
+        ≡ progress.old.draws + (drawn_length range.now.min range.now.max flip.old).draws }
     ensures rest { flip.new ≡ (drawn_length range.now.min range.now.max flip.old).rest }
-    ensures made { tally.new.made ≡ tally.old.made + 1 }
-    ensures follows { Follows flip.old (draws_of tally.old + 2) flip.new (draws_of tally.new) }
-    ensures few_draws { draws_of tally.new ≤ draws_of tally.old + 1816 }
+    ensures made { progress.new.made ≡ progress.old.made + 1 }
+    ensures builder { progress.new.builder ≡ progress.old.builder }
+    ensures edges { progress.new.edges ≡ progress.old.edges }
+    ensures pairs { progress.new.pairs ≡ progress.old.pairs }
+    ensures numbers { progress.new.numbers ≡ progress.old.numbers }
+    ensures follows { Follows flip.old progress.old.draws flip.new progress.new.draws }
+    ensures few_draws { progress.new.draws ≤ progress.old.draws + 1814 }
     ensures generator { IsGenerator flip.new }
 {
     let drawn = range.draw(flip);
-    tally.more += drawn.draws;
-    tally.made += 1;
+    progress.draws += drawn.draws;
+    progress.made += 1;
     drawn.len
 }

@@ -5,14 +5,14 @@ ghost use Rattle.sgb_flip.specs.Generator.{IsGenerator, after, seeded};
 ghost use Rattle.sgb_graph.specs.Builder.{grown};
 ghost use Rattle.sgb_plan.specs.Plan.{IsMade};
 ghost use Rattle.sgb_random.specs.Random.{course, plan_of_random, refusal_of_random, wanted};
-ghost use Rattle.sgb_random.specs.Private.Progress.{IsFresh, IsIndexed, IsLengths, bare_builder, draws_of};
+ghost use Rattle.sgb_random.specs.Private.Progress.{IsFresh, IsIndexed, IsLengths, bare_builder};
 ghost use Rattle.sgb_random.specs.Private.Table.{IsFree};
 
 use crate::RandomSpec;
 use crate::attempt::attempt;
 use crate::build::{begin, insert_edges};
-use crate::ends::Ends;
-use crate::progress::{Progress, Tally};
+use crate::pairs::Pairs;
+use crate::progress::Progress;
 use crate::spec::{judge, repeats, shortens, vertices, wanted};
 use sgb_flip::Flip;
 use sgb_graph::{Graph, Refusal};
@@ -48,11 +48,10 @@ pub fn random(
     let _ = flip.unread();
     let range = judge(*spec)?;
     let mut progress = start(alloc, spec, seed)?;
-    let mut draws = 0;
-    match draw_graph(flip, spec, &range, &mut progress, &mut draws) {
-        Ok(()) => Ok((progress.builder.finish(), draws)),
+    match draw_graph(flip, spec, &range, &mut progress) {
+        Ok(()) => Ok((progress.builder.finish(), progress.draws)),
         Err(refusal) => {
-            flip.back_by(draws);
+            flip.back_by(progress.draws);
             Err(refusal)
         }
     }
@@ -86,14 +85,23 @@ fn start(alloc: Global, spec: &RandomSpec, seed: Seed) -> Result<Progress, Refus
     ensures room { IfOk result (λ p. int_le spec.now.multi (pos 0) ≡ true → wanted spec.now < length p.pairs) }
     ensures numbers { IfOk result (λ p. int_lt spec.now.multi (pos 0) ≡ true →
         length p.numbers.items ≡ length p.pairs) }
+    ensures made { IfOk result (λ p. p.made ≡ 0) }
+    ensures draws { IfOk result (λ p. p.draws ≡ 0) }
     ensures err { IfErr result (λ e. e ≡ Refusal.NoRoom) }
 {
     let builder = begin(alloc, spec, seed)?;
     let m = wanted(*spec);
-    let edges = if shortens(*spec) { m } else { 0 };
+    let listed = if shortens(*spec) { m } else { 0 };
     let places = places(spec, m);
     let numbers = numbers(spec, places);
-    Progress::new(alloc, builder, edges, places, numbers)
+    Ok(Progress {
+        builder,
+        edges: Vec::with_capacity(alloc, listed as usize)?,
+        pairs: Pairs::new(alloc, places)?,
+        numbers: vec![in alloc; 0u32; numbers as usize]?,
+        made: 0,
+        draws: 0,
+    })
 }
 
 // How many places the table of the pairs has: a third of them stays free.
@@ -117,7 +125,6 @@ fn draw_graph(
     spec: &RandomSpec,
     range: &LengthRange,
     progress: &mut Progress,
-    draws: &mut u64,
 ) -> Result<(), Refusal>
     requires judged { refusal_of_random spec.now ≡ None }
     requires range { IsLengths spec.now range.now }
@@ -127,15 +134,12 @@ fn draw_graph(
     ensures all { OnOk result (wanted spec.now ≤ (course spec.now flip.old).made) }
     ensures err { IfErr result (λ e. (e ≡ Refusal.NoRoom)
         ⊎ ((e ≡ Refusal.Stuck) × ((course spec.now flip.old).made < wanted spec.now))) }
-    ensures draws { OnOk result (draws.new ≡ (course spec.now flip.old).draws) }
-    ensures rest { flip.new ≡ after flip.old draws.new }
-    ensures few_draws { draws.new ≤ 54420000000 }
+    ensures draws { OnOk result (progress.new.draws ≡ (course spec.now flip.old).draws) }
+    ensures rest { flip.new ≡ after flip.old progress.new.draws }
+    ensures few_draws { progress.new.draws ≤ 54420000000 }
     ensures generator { IsGenerator flip.new }
 {
-    let mut tally = Tally::new();
-    let drawn = draw_all(flip, spec, range, progress, &mut tally);
-    *draws = tally.draws();
-    drawn?;
+    draw_all(flip, spec, range, progress)?;
     if shortens(*spec) {
         insert_edges(&mut progress.builder, &progress.edges)?;
     }
@@ -143,36 +147,33 @@ fn draw_graph(
 }
 
 // Attempts until all that is wanted is made.
-#[inline(always)]
 fn draw_all(
     flip: &mut Flip,
     spec: &RandomSpec,
     range: &LengthRange,
     progress: &mut Progress,
-    tally: &mut Tally,
 ) -> Result<(), Refusal>
     requires judged { refusal_of_random spec.now ≡ None }
     requires range { IsLengths spec.now range.now }
     requires fresh { IsFresh spec.now progress.old flip.old }
-    requires no_draws { draws_of tally.old ≡ 0 }
     ensures ok { OnOk result
-        (IsIndexed spec.now progress.old.builder (course spec.now flip.old) progress.new tally.new flip.new) }
+        (IsIndexed spec.now progress.old.builder (course spec.now flip.old) progress.new flip.new) }
     ensures all { OnOk result (wanted spec.now ≤ (course spec.now flip.old).made) }
     ensures err { IfErr result (λ e. (e ≡ Refusal.NoRoom)
         ⊎ ((e ≡ Refusal.Stuck) × ((course spec.now flip.old).made < wanted spec.now))) }
-    ensures rest { flip.new ≡ after flip.old (draws_of tally.new) }
-    ensures few_draws { draws_of tally.new ≤ 54420000000 }
+    ensures rest { flip.new ≡ after flip.old progress.new.draws }
+    ensures few_draws { progress.new.draws ≤ 54420000000 }
     ensures generator { IsGenerator flip.new }
 {
     let m = wanted(*spec);
-    let ends = Ends::new(vertices(*spec));
+    let n = vertices(*spec);
     for _attempt in 0..MOST_ATTEMPTS {
-        if tally.made >= m {
+        if progress.made >= m {
             return Ok(());
         }
-        attempt(flip, spec, &ends, range, progress, tally)?;
+        attempt(flip, spec, n, range, progress)?;
     }
-    if tally.made < m {
+    if progress.made < m {
         return Err(Refusal::Stuck);
     }
     Ok(())

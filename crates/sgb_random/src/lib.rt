@@ -4,7 +4,6 @@
 mod attempt;
 mod build;
 mod draw;
-mod ends;
 mod laws;
 mod pairs;
 mod progress;

@@ -18,9 +18,6 @@ use std::marker::Model;
 // A number is multiplied by this, so that numbers that are close to each other are looked for far apart.
 const FACTOR: u32 = 0x9e37_79b1;
 
-// So many places are looked at together.
-const NEAR: usize = 4;
-
 // The numbers of the pairs, each at the first free place from the one where it is looked for first. A free place has 0,
 // and a number stands there as the next one. A number that stands in the table stays where it is.
 #[derive(Drop)]
@@ -53,7 +50,6 @@ impl Pairs {
     }
 
     // Puts a number in where it is not in the table yet. Answers its place, and whether it is new there.
-    #[inline]
     pub(crate) fn insert(&mut self, key: u32) -> (usize, bool)
         requires key { key + 1 < 2 ^ 32 }
         requires room { HasRoom self.old }
@@ -70,23 +66,7 @@ impl Pairs {
 }
 
 // The place of a number, or the free one that it is to take.
-#[inline]
 fn place_of(slots: &[u32], key: u32) -> usize
-    requires key { key + 1 < 2 ^ 32 }
-    requires table { IsTable slots.now }
-    requires room { HasRoom slots.now }
-    ensures { IsPlaceOf slots.now key result }
-{
-    let first = first_place(slots.len(), key);
-    match find_near(slots, first, key + 1) {
-        Some(place) => place,
-        None => far_place(slots, key),
-    }
-}
-
-// The same, by looking at one place after the other, over the end to the front if need be.
-#[inline(never)]
-fn far_place(slots: &[u32], key: u32) -> usize
     requires key { key + 1 < 2 ^ 32 }
     requires table { IsTable slots.now }
     requires room { HasRoom slots.now }
@@ -102,7 +82,6 @@ fn far_place(slots: &[u32], key: u32) -> usize
 }
 
 // Where a number is looked for first.
-#[inline]
 fn first_place(places: usize, key: u32) -> usize
     requires { places ≤ 2 ^ 32 }
     ensures { result ≡ first_place key places }
@@ -111,7 +90,6 @@ fn first_place(places: usize, key: u32) -> usize
 }
 
 // The first place from this one on that is free or has this.
-#[inline]
 fn find(slots: &[u32], first: usize, slot: u32) -> Option<usize>
     ensures some { IfSome result (λ place. IsFirstOf slots.now slot first place) }
     ensures none { IfNone result (IsPassed slots.now slot first (length slots.now)) }
@@ -123,27 +101,4 @@ fn find(slots: &[u32], first: usize, slot: u32) -> Option<usize>
         }
     }
     None
-}
-
-// The first of the next few places that is free or has this. All are looked at, since no jump then depends on what stands
-// there: the processor would often guess it wrong.
-#[inline]
-fn find_near(slots: &[u32], first: usize, slot: u32) -> Option<usize>
-    ensures { IfSome result (λ place. IsFirstOf slots.now slot first place) }
-{
-    let end = first.saturating_add(NEAR);
-    if end > slots.len() {
-        return None;
-    }
-    let mut found = end;
-    for place in first..end {
-        let held = slots[place];
-        let at = if held == slot || held == 0 {
-            place
-        } else {
-            end
-        };
-        found = found.min(at);
-    }
-    if found < end { Some(found) } else { None }
 }

@@ -1,11 +1,11 @@
 -- Lemmas on points as they are counted on from a number.
-use Rattle.std.proofs.Common.{◌≡◌, ◌<◌, ◌≤◌, ◌+◌, ◌-◌, ℕ, zero, suc, List, [], ◌∷◌, length, min, refl, ap, subst, ◌∙◌, arith}
+use Rattle.std.proofs.Common.{◌≡◌, ◌<◌, ◌≤◌, ◌+◌, ◌-◌, ℕ, suc, List, [], ◌∷◌, length, min, refl, ap, subst, ◌∙◌, arith}
 use Rattle.std.specs.List.{flat_map, sum, range_with_len}
 use Rattle.std.proofs.lemmas.List.{length-map}
 use Rattle.sgb_simplex.specs.Points.{points}
 use Rattle.sgb_simplex.specs.Private.Counts.{sum_from}
 use Rattle.sgb_simplex.proofs.Runs.{length_in}
-use Rattle.sgb_simplex.proofs.Simplices.{piece, points_nil, points_between, last_point, sum_cons}
+use Rattle.sgb_simplex.proofs.Simplices.{piece, points_nil, points_between, sum_cons}
 use Rattle.sgb_simplex.proofs.Sums.{sum_same}
 
 -- the points that begin with one of so many numbers, from x on
@@ -58,20 +58,11 @@ one_point s [] few fits =
     ap (λ k. length (points k [])) none ∙ ap length points_nil
 one_point s (b ∷ []) few fits =
     let empty : sum [] ≡ 0 = refl in
-    ap length (last_point s b (omega (arith, fits, empty, sum_cons b [])))
+    let run = sizes_run s [] s (s + 1 - s) in
+    let first = sizes_first s [] s (s + 1 - s) 0 (omega arith) in
+    let behind = sizes_none s [] (s + 1) 0 refl in
+    let nothing : s - s ≡ 0 = omega arith in
+    let last : length (points (s - s) []) ≡ 1 = ap (λ k. length (points k [])) nothing ∙ ap length points_nil in
+    ap length (points_between s b [] s (s + 1) fits (omega (arith, empty)) (omega (arith, fits, empty, sum_cons b [])))
+    ∙ omega (arith, run, first, behind, last)
 one_point s (b ∷ c ∷ bs) few fits = absurd (omega (arith, few))
-
--- along two, each first coordinate between these bounds leads to one
-sum_ones : (a n : ℕ) → sum_from (λ y. 1) a n ≡ n
-unfolding sum_from
-sum_ones a zero = refl
-sum_ones a (suc n) = let rest : sum_from (λ y. 1) (a + 1) n ≡ n = sum_ones (a + 1) n in omega (arith, rest)
-
-pub two_points : (s a : ℕ) (bs : List ℕ) → length bs ≡ 1 → s ≤ sum (a ∷ bs) → length (points s (a ∷ bs)) ≡ min a s + 1 - (s - sum bs)
-two_points s a bs one fits =
-    let low : ℕ = s - sum bs in
-    let n : ℕ = min a s + 1 - low in
-    ap length (points_between s a bs low (min a s + 1) fits refl refl)
-    ∙ (sizes_run s bs low n
-    ∙ (sum_same (λ y. length (points (s - y) bs)) (λ y. 1) low n (λ y from to. one_point (s - y) bs (omega (arith, one)) (omega (arith, from)))
-    ∙ sum_ones low n))

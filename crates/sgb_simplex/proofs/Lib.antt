@@ -1,4 +1,3 @@
-pub mod Blocks
 pub mod Counting
 pub mod Fronts
 pub mod Generators

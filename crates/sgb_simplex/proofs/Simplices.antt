@@ -1,5 +1,5 @@
 -- Lemmas on points: by their first coordinate, how many they are, and where one stands.
-use Rattle.std.proofs.Common.{◌≡◌, ◌<◌, ◌≤◌, ◌+◌, ◌-◌, ◌==◌, ℕ, zero, suc, List, [], ◌∷◌, ◌++◌, length, get_or, map, min, false, All, inl, inr, refl, sym, ap, subst, ◌∙◌, arith}
+use Rattle.std.proofs.Common.{◌≡◌, ◌<◌, ◌≤◌, ◌+◌, ◌-◌, ◌==◌, ℕ, zero, suc, List, [], ◌∷◌, length, get_or, map, min, false, All, inl, inr, refl, sym, ap, subst, ◌∙◌, arith}
 use Rattle.std.specs.Cmp.Lexicographic.{pointwise}
 use Rattle.std.specs.List.{flat_map, filter, sum, slice_index, range_with_len}
 use Rattle.std.proofs.lemmas.Bool.{eq-eqb, ne_eqb}
@@ -69,16 +69,6 @@ points_between s b bs low high less is end =
     points_cons s b bs
     ∙ (ap (λ n. flat_map (piece s bs) (range_with_len 0 n)) (sym end)
     ∙ cut_below (piece s bs) 0 low (high - low) high low (omega (arith, inside)) (omega arith) (λ x from to. ap (map (λ t. x ∷ t)) (points_none (s - x) bs (omega (arith, to, is)))))
-
--- along one coordinate the sum is the point
-pub last_point : (s b : ℕ) → s ≤ b → points s (b ∷ []) ≡ (s ∷ []) ∷ []
-last_point s b less =
-    let empty : sum [] ≡ 0 = refl in
-    let one : s + 1 - s ≡ 1 = omega arith in
-    let none : s - s ≡ 0 = omega arith in
-    points_between s b [] s (s + 1) (omega (arith, less, empty, sum_cons b [])) (omega (arith, empty)) (omega (arith, less))
-    ∙ (ap (λ n. flat_map (piece s []) (range_with_len s n)) one
-    ∙ ap (λ ts. map (λ t. s ∷ t) ts ++ []) (ap (λ k. points k []) none ∙ points_nil))
 
 -- ---- how many
 length_piece : (s : ℕ) (bs : List ℕ) (x : ℕ) → length (piece s bs x) ≡ length (points (s - x) bs)

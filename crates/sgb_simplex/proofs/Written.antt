@@ -1,11 +1,10 @@
 -- Points as they are written one behind the other, each behind a prefix.
-use Rattle.std.proofs.Common.{◌≡◌, ◌<◌, ◌≤◌, ◌+◌, ◌-◌, ℕ, suc, List, [], ◌∷◌, ◌++◌, length, get_or, set, take, drop, map, min, refl, sym, ap, ap₂, subst, ◌∙◌, arith, append_assoc}
+use Rattle.std.proofs.Common.{◌≡◌, ◌<◌, ◌≤◌, ◌+◌, ◌-◌, ℕ, suc, List, [], ◌∷◌, ◌++◌, length, set, take, drop, map, min, refl, sym, ap, ap₂, subst, ◌∙◌, arith, append_assoc}
 use Rattle.std.specs.List.{flat_map, sum, range_with_len}
 use Rattle.std.proofs.lemmas.List.Concat.{flat_map-append}
-use Rattle.std.proofs.lemmas.List.{append-nil, drop_all, drop_more, take_all, take_more_set, take-take, take-set}
-use Rattle.std.proofs.Math.ListN.{length-set}
+use Rattle.std.proofs.lemmas.List.{append-nil, drop_all, take_all, take-take, take-set}
 use Rattle.sgb_simplex.specs.Points.{points}
-use Rattle.sgb_simplex.proofs.Simplices.{piece, points_nil, points_between, last_point, sum_cons}
+use Rattle.sgb_simplex.proofs.Simplices.{piece, points_nil, points_between}
 
 -- these lists, each behind the prefix
 abbrev pub written : List ℕ → List (List ℕ) → List ℕ
@@ -29,19 +28,6 @@ written_all bounds point place left at long none =
     ap₂ (λ s l. written (take place point) (points s l)) none no_bounds
     ∙ (ap (written (take place point)) points_nil
     ∙ (append-nil (take place point ++ []) ∙ (append-nil (take place point) ∙ take_all place point (omega (arith, at, long)))))
-
--- where one is left, it is what is left of the sum
-pub written_last : (bounds point : List ℕ) (place left : ℕ) → place + 1 ≡ length bounds → length point ≡ length bounds → left ≤ sum (drop place bounds) → written (take place point) (points left (drop place bounds)) ≡ set point place left
-written_last bounds point place left at long fits =
-    let b : ℕ = get_or bounds place 0 in
-    let cut : drop place bounds ≡ b ∷ [] = drop_more bounds place 0 (omega (arith, at)) ∙ ap (λ l. b ∷ l) (drop_all (place + 1) bounds (omega (arith, at))) in
-    let parts : sum (drop place bounds) ≡ sum (b ∷ []) = ap sum cut in
-    let empty : sum [] ≡ 0 = refl in
-    ap (λ l. written (take place point) (points left l)) cut
-    ∙ (ap (written (take place point)) (last_point left b (omega (arith, fits, parts, empty, sum_cons b [])))
-    ∙ (append-nil (take place point ++ left ∷ [])
-    ∙ (sym (take_more_set point place left (omega (arith, at, long)))
-    ∙ take_all (place + 1) (set point place left) (omega (arith, at, long, length-set point place left)))))
 
 -- the list was to be followed by all points with this sum and these bounds; those that begin with x and more are left
 pub record LeftToWrite (start prefix : List ℕ) (s : ℕ) (all rest now : List ℕ) (x end : ℕ) : Type 0 where

@@ -1,11 +1,11 @@
 //! Pairs of points by codes: the overlap of two points is the count of ones that their codes share.
-ghost use Rattle.std.specs.Prelude.{◌≡◌, ◌≤◌, ◌<◌, ◌+◌, ◌-◌, ◌∷◌, [], pos, length, get_or, IfOk, if◌then◌else◌};
-ghost use Rattle.std.specs.List.{sum, slice_index, list_any, range_with_len};
+ghost use Rattle.std.specs.Prelude.{◌≡◌, ◌<◌, ◌+◌, ◌-◌, ◌∷◌, [], pos, length, get_or, IfOk, if◌then◌else◌};
+ghost use Rattle.std.specs.List.{sum, slice_index};
 ghost use Rattle.sgb_graph.specs.Builder.{Inserts, insertion};
 ghost use Rattle.sgb_graph.specs.Graph.{n_of};
 ghost use Rattle.sgb_simplex.specs.Points.{points};
 ghost use Rattle.sgb_simplex.specs.Overlap.{has_size, is_partner, pairs, pairs_to};
-ghost use Rattle.sgb_simplex.specs.Private.Codes.{code_from, pairs_among, AreCodes};
+ghost use Rattle.sgb_simplex.specs.Private.Codes.{code_from, AreCodes};
 ghost use Rattle.sgb_simplex.specs.Private.Counts.{IsPoint};
 
 use crate::list::PointList;
@@ -37,8 +37,8 @@ fn code_of(list: &PointList, point: &[u32]) -> u64
     code
 }
 
-/// Inserts the pairs of points whose overlap is one of these sizes. It is called, and not set in, so
-/// that its loops stay short.
+/// Inserts the pairs of points whose overlap is one of these sizes. It is not inlined, so that its loops
+/// stay short.
 #[inline(never)]
 pub(crate) fn insert_coded_pairs(
     builder: &mut Builder,
@@ -73,89 +73,7 @@ fn insert_coded_pairs_to(
         (pairs_to (points list.now.total list.now.bounds.items) size_bits v) result }
 {
     let code = codes[v as usize];
-    let blocks = (v + 1) / 8;
-    for block in 0..blocks {
-        insert_coded_block(builder, list, codes, 8 * block, v, code, size_bits)?;
-    }
-    insert_coded_pairs_among(builder, list, codes, 8 * blocks, v + 1, v, code, size_bits)
-}
-
-// Inserts those of the eight points from `u` on with the point `v`, which has this code. Most blocks have no pair, and
-// are told by one test.
-#[inline]
-fn insert_coded_block(
-    builder: &mut Builder,
-    list: &PointList,
-    codes: &[u64],
-    u: u32,
-    v: u32,
-    code: u64,
-    size_bits: u64,
-) -> Result<(), Refusal>
-    requires all { n_of builder.old.graph ≡ list.now.count }
-    requires room { sum list.now.bounds.items < 64 }
-    requires codes { AreCodes list.now.bounds.items (points list.now.total list.now.bounds.items) codes.now }
-    requires u { u + 8 ≤ list.now.count }
-    requires v { v < list.now.count }
-    requires code { code ≡ slice_index codes.now v }
-    ensures { Inserts builder.old builder.new
-        (pairs_among (points list.now.total list.now.bounds.items) size_bits v u 8) result }
-{
-    if !has_coded_partner(list, codes, u, v, code, size_bits) {
-        return Ok(());
-    }
-    insert_coded_pairs_among(builder, list, codes, u, u + 8, v, code, size_bits)
-}
-
-// One of the eight points from `u` on has such an overlap with the point `v`, which has this code. All eight are looked
-// at, so that there is no branch for each.
-#[inline]
-fn has_coded_partner(
-    list: &PointList,
-    codes: &[u64],
-    u: u32,
-    v: u32,
-    code: u64,
-    size_bits: u64,
-) -> bool
-    requires room { sum list.now.bounds.items < 64 }
-    requires codes { AreCodes list.now.bounds.items (points list.now.total list.now.bounds.items) codes.now }
-    requires u { u + 8 ≤ list.now.count }
-    requires v { v < list.now.count }
-    requires code { code ≡ slice_index codes.now v }
-    ensures { result ≡ list_any (is_partner (points list.now.total list.now.bounds.items) size_bits v) (range_with_len u 8) }
-{
-    let start = u as usize;
-    let mut found = false;
-    for other in &codes[start..start + 8] {
-        found |= has_low_size(size_bits, (other & code).count_ones());
-    }
-    found
-}
-
-// Inserts those of the points from `first` up to `end`, which is not among them, with the point `v`, which has this code.
-#[inline]
-fn insert_coded_pairs_among(
-    builder: &mut Builder,
-    list: &PointList,
-    codes: &[u64],
-    first: u32,
-    end: u32,
-    v: u32,
-    code: u64,
-    size_bits: u64,
-) -> Result<(), Refusal>
-    requires all { n_of builder.old.graph ≡ list.now.count }
-    requires room { sum list.now.bounds.items < 64 }
-    requires codes { AreCodes list.now.bounds.items (points list.now.total list.now.bounds.items) codes.now }
-    requires order { first ≤ end }
-    requires end { end ≤ list.now.count }
-    requires v { v < list.now.count }
-    requires code { code ≡ slice_index codes.now v }
-    ensures { Inserts builder.old builder.new
-        (pairs_among (points list.now.total list.now.bounds.items) size_bits v first (end - first)) result }
-{
-    for u in first..end {
+    for u in 0..v + 1 {
         insert_coded_pair(builder, list, codes, u, v, code, size_bits)?;
     }
     Ok(())
@@ -188,7 +106,7 @@ fn insert_coded_pair(
     insert_found(builder, u, v)
 }
 
-// Inserts a pair. It is called, and not set in, so that the loop over all pairs stays short.
+// Inserts a pair. It is not inlined, so that the loop over all pairs stays short.
 #[inline(never)]
 fn insert_found(builder: &mut Builder, u: u32, v: u32) -> Result<(), Refusal>
     requires u { u < n_of builder.old.graph }

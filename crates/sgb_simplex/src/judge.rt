@@ -33,7 +33,7 @@ pub(crate) fn sum_of(bounds: &[u32]) -> u32
 }
 
 // Counts on from `found` those whose coordinates from `place` on have the sum `left`, where 65,536 stands for more; the
-// bounds of these coordinates have the sum `room`. Of two coordinates the first tells the second, so none is counted.
+// bounds of these coordinates have the sum `room`.
 fn count_from(bounds: &[u32], place: usize, left: u32, room: u32, found: u32) -> u32
     requires place { place ≤ length bounds.now }
     requires room { room ≡ sum (drop place bounds.now) }
@@ -47,13 +47,8 @@ fn count_from(bounds: &[u32], place: usize, left: u32, room: u32, found: u32) ->
     }
     let bound = bounds[place];
     let behind = room - bound;
-    let least = left.saturating_sub(behind);
-    let most = bound.min(left);
-    if bounds.len() - place == 2 {
-        return (found + (most + 1 - least)).min(65_536);
-    }
     let mut count = found;
-    for x in least..most + 1 {
+    for x in left.saturating_sub(behind)..bound.min(left) + 1 {
         count = count_from(bounds, place + 1, left - x, behind, count);
         if count > 65_535 {
             return count;

@@ -164,10 +164,6 @@ fn list_from(
     if place == bounds.len() {
         return list.extend_from_slice(point);
     }
-    if place + 1 == bounds.len() {
-        point[place] = left;
-        return list.extend_from_slice(point);
-    }
     let bound = bounds[place];
     let behind = room - bound;
     for x in left.saturating_sub(behind)..bound.min(left) + 1 {

@@ -12,7 +12,6 @@ use Rattle.sgb_plan.specs.declared.part.Seed.{Seed}
 use Rattle.sgb_plan.specs.Plan.{no_letters, with_named}
 use Rattle.sgb_random.specs.declared.progress.Edge.{Edge}
 use Rattle.sgb_random.specs.declared.progress.Progress.{Progress}
-use Rattle.sgb_random.specs.declared.progress.Tally.{Tally}
 use Rattle.sgb_random.specs.declared.spec.RandomSpec.{RandomSpec}
 use Rattle.sgb_random.specs.Random.{Course, numbered, numbers_each, random_id, size_of, wanted}
 use Rattle.sgb_random.specs.Private.Table.{holds, taken, IsFree, IsNumbered}
@@ -38,19 +37,11 @@ key_of_insertion directed e = key_of directed e.from e.to
 abbrev pub IsWithin : ℕ → Insertion → Type 0
 IsWithin n e = (e.from < n) × (e.to < n)
 
--- two draws of each attempt, and those beyond them
-abbrev pub draws_of : Tally → ℕ
-draws_of t = 2 * (t.made + t.missed) + t.more
-
--- two numbers more are drawn, for an attempt that is not counted yet
-abbrev pub with_ends : Tally → Tally
-with_ends t = record { made = t.made; missed = t.missed; more = t.more + 2 }
-
 -- The course is kept, with the generator. Its insertions are made from the builder `a`; where lengths may be shortened,
 -- they are listed instead.
-pub record IsKept (s : RandomSpec) (a : Builder) (c : Course) (p : Progress) (t : Tally) (w : Generator) : Type 0 where
-  pub made : t.made ≡ c.made
-  pub draws : draws_of t ≡ c.draws
+pub record IsKept (s : RandomSpec) (a : Builder) (c : Course) (p : Progress) (w : Generator) : Type 0 where
+  pub made : p.made ≡ c.made
+  pub draws : p.draws ≡ c.draws
   pub rest : w ≡ c.rest
   pub listed : int_lt s.multi (pos 0) ≡ true → (p.builder ≡ a) × (insertions_of p ≡ c.insertions)
   pub inserted : int_lt s.multi (pos 0) ≡ false → p.builder ≡ grown a c.insertions
@@ -61,8 +52,8 @@ keys_of s c = map (key_of_insertion s.directed) c.insertions
 
 -- And where a pair is joined once only, the numbers of the pairs stand in the table; and beside them the places of their
 -- insertions, where lengths may be shortened.
-pub record IsIndexed (s : RandomSpec) (a : Builder) (c : Course) (p : Progress) (t : Tally) (w : Generator) : Type 0 where
-  pub kept : IsKept s a c p t w
+pub record IsIndexed (s : RandomSpec) (a : Builder) (c : Course) (p : Progress) (w : Generator) : Type 0 where
+  pub kept : IsKept s a c p w
   pub ends : All (IsWithin (size_of s)) c.insertions
   pub keys : int_le s.multi (pos 0) ≡ true → (key : ℕ) → holds key p.pairs ≡ list_any (λ k. key == k) (keys_of s c)
   pub taken : int_le s.multi (pos 0) ≡ true → taken p.pairs ≡ length c.insertions
@@ -82,6 +73,8 @@ pub record IsFresh (s : RandomSpec) (p : Progress) (w : Generator) : Type 0 wher
   pub no_pairs : IsFree p.pairs
   pub room : int_le s.multi (pos 0) ≡ true → wanted s < length p.pairs
   pub numbers : int_lt s.multi (pos 0) ≡ true → length p.numbers.items ≡ length p.pairs
+  pub none_made : p.made ≡ 0
+  pub no_draws : p.draws ≡ 0
   pub generator : IsGenerator w
 
 -- one insertion more is within the limits

@@ -36,11 +36,6 @@ pub record IsFirstOf (slots : List ℕ) (slot from place : ℕ) : Type 0 where
   pub passed : IsPassed slots slot from place
   pub here : (get_or slots place 0 ≡ 0) ⊎ (get_or slots place 0 ≡ slot)
 
--- what the places from `from` to `place` tell of the first that is free or has this: `found` is that one, or `end` where none is
-abbrev pub IsSeen : List ℕ → ℕ → ℕ → ℕ → ℕ → ℕ → Type 0
-IsSeen slots slot from place end found =
-    ((found ≡ end) × IsPassed slots slot from place) ⊎ ((found < place) × IsFirstOf slots slot from found)
-
 -- the place of a number, or the one that it is to take
 pub record IsPlaceOf (slots : List ℕ) (key place : ℕ) : Type 0 where
   pub below : place < length slots

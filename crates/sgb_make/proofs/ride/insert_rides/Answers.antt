@@ -1,8 +1,8 @@
-use Rattle.std.proofs.Common.{◌≡◌, List, length, map, true, false, ap, sym, subst, ◌∙◌, arith}
+use Rattle.std.proofs.Common.{◌≡◌, List, length, map, ap, sym, subst, ◌∙◌, arith}
 use Rattle.std.proofs.lemmas.List.{length-map}
 use Rattle.sgb_graph.specs.Builder.{Insertion, Inserts}
 use Rattle.sgb_make.specs.Ride.{rides_along}
-use Rattle.sgb_make.specs.Private.Link.{part_of, trips, links}
+use Rattle.sgb_make.specs.Private.Link.{part_of, trips}
 use Rattle.sgb_make.proofs.Links.{length-links, table_low, few_cells}
 use Rattle.sgb_make.proofs.Rides.{rides_are_trips}
 use Rattle.sgb_make.proofs.ride.insert_rides.Goals as goal
@@ -21,34 +21,10 @@ insert_trips-requires-clause-count c =
     let long = length-links c.args.sides.now (map part_of c.args.steps.now) (length-map c.args.steps.now part_of ∙ c.requires.parts) in
     omega (arith, ap length (c.deref.ensures.value ∙ c.in_ok-link.ensures), long, c.requires.count)
 
-pub returns-then-rides : goal.returns-then-rides
-returns-then-rides c =
+pub returns : goal.returns
+returns c =
     let v = map part_of c.args.steps.now in
-    let same : trips c.deref.result.now true ≡ rides_along c.args.sides.now c.args.rides v =
-    ap (λ t. trips t true) (c.deref.ensures.value ∙ c.in_ok-link.ensures)
-    ∙ (ap (trips (links c.args.sides.now v)) (sym c.if-rides.true)
-    ∙ sym (rides_are_trips c.args.sides.now v c.args.rides (length-map c.args.steps.now part_of ∙ c.requires.parts))) in
+    let same : trips c.deref.result.now c.args.rides ≡ rides_along c.args.sides.now c.args.rides v =
+    ap (λ t. trips t c.args.rides) (c.deref.ensures.value ∙ c.in_ok-link.ensures)
+    ∙ sym (rides_are_trips c.args.sides.now v c.args.rides (length-map c.args.steps.now part_of ∙ c.requires.parts)) in
     subst (λ (es : List Insertion). Inserts c.args.builder.now c.insert_trips.new.builder es c.insert_trips.result) same c.insert_trips.ensures
-
-pub insert_steps-requires-clause-low : goal.insert_steps-requires-clause-low
-insert_steps-requires-clause-low c =
-    table_low c.deref-else-rides.result.now c.args.sides.now c.args.steps.now 0 c.requires.parts (c.deref-else-rides.ensures.value ∙ c.in_ok-link.ensures)
-
-pub insert_steps-requires-clause-few : goal.insert_steps-requires-clause-few
-insert_steps-requires-clause-few c =
-    let long = length-links c.args.sides.now (map part_of c.args.steps.now) (length-map c.args.steps.now part_of ∙ c.requires.parts) in
-    omega (arith, ap length (c.deref-else-rides.ensures.value ∙ c.in_ok-link.ensures), long, few_cells c.args.sides.now c.requires.small)
-
-pub insert_steps-requires-clause-count : goal.insert_steps-requires-clause-count
-insert_steps-requires-clause-count c =
-    let long = length-links c.args.sides.now (map part_of c.args.steps.now) (length-map c.args.steps.now part_of ∙ c.requires.parts) in
-    omega (arith, ap length (c.deref-else-rides.ensures.value ∙ c.in_ok-link.ensures), long, c.requires.count)
-
-pub returns-else-rides : goal.returns-else-rides
-returns-else-rides c =
-    let v = map part_of c.args.steps.now in
-    let same : trips c.deref-else-rides.result.now false ≡ rides_along c.args.sides.now c.args.rides v =
-    ap (λ t. trips t false) (c.deref-else-rides.ensures.value ∙ c.in_ok-link.ensures)
-    ∙ (ap (trips (links c.args.sides.now v)) (sym c.if-rides.false)
-    ∙ sym (rides_are_trips c.args.sides.now v c.args.rides (length-map c.args.steps.now part_of ∙ c.requires.parts))) in
-    subst (λ (es : List Insertion). Inserts c.args.builder.now c.insert_steps.new.builder es c.insert_steps.result) same c.insert_steps.ensures

@@ -1,7 +1,6 @@
-use Rattle.std.proofs.Common.{true}
 use Rattle.sgb_make.specs.Private.Link.{trip_from}
 use Rattle.sgb_make.proofs.Trips.{TripLeft}
 use Rattle.sgb_make.proofs.ride.insert_trip.Given as goal
 
 abbrev pub invariant-loop-len : goal.invariant-loop-len
-invariant-loop-len l = TripLeft l.fn.builder (trip_from l.table true l.from) l.builder l.table true l.from l.at l.len l.end
+invariant-loop-len l = TripLeft l.fn.builder (trip_from l.table l.rides l.from) l.builder l.table l.rides l.from l.at l.len l.end

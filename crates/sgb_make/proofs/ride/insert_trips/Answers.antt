@@ -1,4 +1,4 @@
-use Rattle.std.proofs.Common.{length, arith, true}
+use Rattle.std.proofs.Common.{length, arith}
 use Rattle.std.proofs.lemmas.Result.{err_from_is_err_and}
 use Rattle.sgb_graph.proofs.Inserting.{from_start, from_some, from_refused, from_end, from_n}
 use Rattle.sgb_make.specs.Private.Link.{trip_from, trips}
@@ -6,7 +6,7 @@ use Rattle.sgb_make.proofs.ride.insert_trips.Goals as goal
 
 pub loop-from-init : goal.loop-from-init
 unfolding trips
-loop-from-init c = from_start c.args.builder.now (trip_from c.args.table.now true) (length c.args.table.now)
+loop-from-init c = from_start c.args.builder.now (trip_from c.args.table.now c.args.rides) (length c.args.table.now)
 
 pub insert_trip-requires-clause-count : goal.insert_trip-requires-clause-count
 insert_trip-requires-clause-count c = omega (arith, from_n c.loop-from.invariant)

@@ -2,13 +2,11 @@ use Rattle.std.proofs.Common.{◌≡◌, ◌++◌, ◌∷◌, [], pos, true, fal
 use Rattle.std.specs.List.{position_or_len}
 use Rattle.std.proofs.lemmas.List.{get_or_default}
 use Rattle.sgb_graph.specs.Builder.{insertion}
-use Rattle.sgb_random.specs.declared.progress.Tally.{Tally}
 use Rattle.sgb_random.specs.Random.{Course, joins, lowered, with_length}
 use Rattle.sgb_random.specs.Private.Table.{holds}
 use Rattle.sgb_random.specs.Private.Progress.{IsIndexed, insertion_of, with_len_at}
 use Rattle.std.proofs.lemmas.Result.{on_ok_weaker}
-use Rattle.sgb_random.proofs.Coursing.{tried_barred, tried_again, tried_new, tried_shorter, tried_skipped, found_is, place_is, kept_same, indexed_counted, indexed_same, indexed_more, indexed_lower, with_length_same, on_ok_both, not_false, not_true, below_le, IsPut}
-use Rattle.sgb_random.proofs.Following.{follows_same}
+use Rattle.sgb_random.proofs.Coursing.{tried_barred, tried_again, tried_new, tried_shorter, tried_skipped, found_is, place_is, kept_same, indexed_same, indexed_more, indexed_lower, with_length_same, on_ok_both, not_false, not_true, below_le, IsPut}
 use Rattle.sgb_random.proofs.Joining.{lowered_at}
 use Rattle.sgb_random.proofs.Placing.{put_again}
 use Rattle.sgb_random.proofs.attempt.try_pair.Goals as goal
@@ -16,15 +14,9 @@ use Rattle.sgb_random.proofs.attempt.try_pair.Goals as goal
 pub returns-then-is_barred-clause-ok : goal.returns-then-is_barred-clause-ok
 returns-then-is_barred-clause-ok c = λ a k indexed.
     let p = c.args.progress.now in
-    let t = c.args.tally.now in
-    let missed : Tally = record t { missed = t.missed + 1 } in
     let w = c.args.flip.now in
-    subst (λ (x : Course). IsIndexed c.args.spec.now a x p missed w)
-    (sym (tried_barred c.args.spec.now c.args.from c.args.to k (sym c.is_barred.ensures ∙ c.if-is_barred.true)))
-    (indexed_counted indexed refl (omega arith))
-
-pub returns-then-is_barred-clause-follows : goal.returns-then-is_barred-clause-follows
-returns-then-is_barred-clause-follows c = follows_same c.args.flip.now (omega arith)
+    subst (λ (x : Course). IsIndexed c.args.spec.now a x p w)
+    (sym (tried_barred c.args.spec.now c.args.from c.args.to k (sym c.is_barred.ensures ∙ c.if-is_barred.true))) indexed
 
 pub returns-then-repeats-clause-ok : goal.returns-then-repeats-clause-ok
 returns-then-repeats-clause-ok c = λ a k indexed.
@@ -33,7 +25,7 @@ returns-then-repeats-clause-ok c = λ a k indexed.
     let again : int_le s.multi (pos 0) ≡ false = not_true (int_le s.multi (pos 0)) (sym c.repeats.ensures ∙ c.if-repeats.true) in
     on_ok_weaker c.insert.result
     (λ kept.
-    subst (λ (x : Course). IsIndexed s a x c.insert.new.progress c.insert.new.tally c.insert.new.flip)
+    subst (λ (x : Course). IsIndexed s a x c.insert.new.progress c.insert.new.flip)
     (ap₂ (λ low high. with_length low high k (λ len. k.insertions ++ insertion c.args.from c.args.to len ∷ [])) c.requires.range.0 c.requires.range.1
     ∙ sym (tried_again s c.args.from c.args.to k (sym c.is_barred.ensures ∙ c.if-is_barred.false) again))
     (indexed_more r.min r.max c.args.from c.args.to 0 indexed c.requires.from c.requires.to kept
@@ -61,10 +53,10 @@ returns-then-is_new-clause-ok c = λ a k indexed.
     let once : int_le s.multi (pos 0) ≡ true = not_false (int_le s.multi (pos 0)) (sym c.repeats.ensures ∙ c.if-repeats.false) in
     let absent : holds key p.pairs ≡ false = not_true (holds key p.pairs) (sym c.insert-place.ensures.is_new ∙ c.if-is_new.true) in
     on_ok_both more.result
-    (more.ensures.ok a k (kept_same indexed.kept n.builder (ap (λ v. map insertion_of v.items) n.edges)))
+    (more.ensures.ok a k (kept_same indexed.kept n.made n.draws n.builder (ap (λ v. map insertion_of v.items) n.edges)))
     (on_ok_both {R = (more.new.progress.pairs ≡ c.number.new.progress.pairs) × (more.new.progress.numbers ≡ c.number.new.progress.numbers)} more.result more.ensures.pairs more.ensures.numbers (λ pairs numbers. (pairs, numbers)))
     (λ kept same.
-    subst (λ (x : Course). IsIndexed s a x more.new.progress more.new.tally more.new.flip)
+    subst (λ (x : Course). IsIndexed s a x more.new.progress more.new.flip)
     (ap₂ (λ low high. with_length low high k (λ len. k.insertions ++ insertion u v len ∷ [])) c.requires.range.0 c.requires.range.1
     ∙ sym (tried_new s u v k (sym c.is_barred.ensures ∙ c.if-is_barred.false) once
     (sym (found_is u v key indexed c.requires.few c.requires.from c.requires.to c.key_of-key.ensures once) ∙ absent)))
@@ -109,9 +101,9 @@ returns-then-shortens-clause-ok c = λ a k indexed.
     ∙ (get_or_default p.numbers.items place c.index.result.now 0 below
     ∙ place_is u v key indexed c.requires.few c.requires.from c.requires.to c.key_of-key.ensures once place shorter c.insert-place.ensures.place held) in
     let lower = indexed_lower r.min r.max c.index.result.now indexed
-    (c.lower.ensures.ok s a k shorter (kept_same indexed.kept refl refl))
+    (c.lower.ensures.ok s a k shorter (kept_same indexed.kept refl refl refl refl))
     (c.lower.ensures.pairs ∙ (c.insert-place.ensures.put ∙ put_again key p.pairs place held)) c.lower.ensures.numbers in
-    subst (λ (x : Course). IsIndexed s a x c.lower.new.progress c.lower.new.tally c.lower.new.flip)
+    subst (λ (x : Course). IsIndexed s a x c.lower.new.progress c.lower.new.flip)
     (ap₂ (λ low high. with_length low high k (λ len. with_len_at k.insertions c.index.result.now len)) c.requires.range.0 c.requires.range.1
     ∙ (with_length_same s.min s.max k (λ len. with_len_at k.insertions c.index.result.now len) (λ len. lowered s.directed u v len k.insertions)
     (λ len. ap (λ i. with_len_at k.insertions i len) listed ∙ sym (lowered_at s.directed u v len k.insertions))
@@ -120,23 +112,18 @@ returns-then-shortens-clause-ok c = λ a k indexed.
     shorter)))
     lower
 
-pub returns-clause-ok : goal.returns-clause-ok
-returns-clause-ok c = λ a k indexed.
+pub returns-else-shortens-clause-ok : goal.returns-else-shortens-clause-ok
+returns-else-shortens-clause-ok c = λ a k indexed.
     let s = c.args.spec.now in
     let p = c.args.progress.now in
-    let t = c.args.tally.now in
-    let missed : Tally = record t { missed = t.missed + 1 } in
     let u = c.args.from in
     let v = c.args.to in
     let key = c.key_of-key.result in
     let once : int_le s.multi (pos 0) ≡ true = not_false (int_le s.multi (pos 0)) (sym c.repeats.ensures ∙ c.if-repeats.false) in
     let present : holds key p.pairs ≡ true = not_false (holds key p.pairs) (sym c.insert-place.ensures.is_new ∙ c.if-is_new.false) in
     let held : get_or p.pairs c.insert-place.result.0 0 ≡ key + 1 = c.insert-place.ensures.here ∙ ap (λ b. if b then 0 else key + 1) c.if-is_new.false in
-    subst (λ (x : Course). IsIndexed s a x (record p { pairs = c.insert-place.new.self }) missed c.args.flip.now)
+    subst (λ (x : Course). IsIndexed s a x (record p { pairs = c.insert-place.new.self }) c.args.flip.now)
     (sym (tried_skipped s u v k (sym c.is_barred.ensures ∙ c.if-is_barred.false) once
     (sym (found_is u v key indexed c.requires.few c.requires.from c.requires.to c.key_of-key.ensures once) ∙ present)
     (sym c.shortens.ensures ∙ c.if-shortens.false)))
-    (indexed_counted (indexed_same indexed (kept_same indexed.kept refl refl) (c.insert-place.ensures.put ∙ put_again key p.pairs c.insert-place.result.0 held) refl) refl (omega arith))
-
-pub returns-clause-follows : goal.returns-clause-follows
-returns-clause-follows c = follows_same c.args.flip.now (omega arith)
+    (indexed_same indexed (kept_same indexed.kept refl refl refl refl) (c.insert-place.ensures.put ∙ put_again key p.pairs c.insert-place.result.0 held) refl)

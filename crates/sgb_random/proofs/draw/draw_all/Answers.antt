@@ -5,17 +5,17 @@ use Rattle.sgb_random.proofs.Running.{run_start, run_next, run_places, run_ready
 use Rattle.sgb_random.proofs.draw.draw_all.Goals as goal
 
 pub loop-attempt-init : goal.loop-attempt-init
-loop-attempt-init c = run_start c.args.spec.now c.args.progress.now c.args.tally.now c.args.flip.now c.requires.fresh c.requires.no_draws
+loop-attempt-init c = run_start c.args.spec.now c.args.progress.now c.args.flip.now c.requires.fresh
 
-pub returns-then-tally-m-clause-ok : goal.returns-then-tally-m-clause-ok
-returns-then-tally-m-clause-ok c = run_course c.loop-attempt.invariant (omega arith) (omega (arith, c.wanted-m.ensures.value))
+pub returns-then-progress-m-clause-ok : goal.returns-then-progress-m-clause-ok
+returns-then-progress-m-clause-ok c = run_course c.loop-attempt.invariant (omega arith) (omega (arith, c.wanted-m.ensures.value))
 
-pub returns-then-tally-m-clause-all : goal.returns-then-tally-m-clause-all
-returns-then-tally-m-clause-all c =
+pub returns-then-progress-m-clause-all : goal.returns-then-progress-m-clause-all
+returns-then-progress-m-clause-all c =
     run_all c.loop-attempt.invariant (omega arith) (omega (arith, c.wanted-m.ensures.value))
 
-pub returns-then-tally-m-clause-rest : goal.returns-then-tally-m-clause-rest
-returns-then-tally-m-clause-rest c = follows_start c.requires.fresh.generator c.loop-attempt.invariant.follows
+pub returns-then-progress-m-clause-rest : goal.returns-then-progress-m-clause-rest
+returns-then-progress-m-clause-rest c = follows_start c.requires.fresh.generator c.loop-attempt.invariant.follows
 
 pub attempt-requires-clause-ready : goal.attempt-requires-clause-ready
 attempt-requires-clause-ready c =
@@ -40,12 +40,12 @@ loop-attempt-preserved c =
     (c.in_ok-attempt.ensures.ok c.args.progress.now.builder (attempts c.args.spec.now c.args.flip.now c.loop-attempt._attempt) run.indexed)
     c.attempt.ensures.follows c.attempt.ensures.few_draws c.attempt.ensures.generator
 
-pub returns-then-tally-m-2-clause-err : goal.returns-then-tally-m-2-clause-err
-returns-then-tally-m-2-clause-err c =
+pub returns-then-progress-m-2-clause-err : goal.returns-then-progress-m-2-clause-err
+returns-then-progress-m-2-clause-err c =
     inr (refl, run_stuck c.loop-attempt.invariant (omega arith) (omega (arith, c.wanted-m.ensures.value)))
 
-pub returns-then-tally-m-2-clause-rest : goal.returns-then-tally-m-2-clause-rest
-returns-then-tally-m-2-clause-rest c = follows_start c.requires.fresh.generator c.loop-attempt.invariant.follows
+pub returns-then-progress-m-2-clause-rest : goal.returns-then-progress-m-2-clause-rest
+returns-then-progress-m-2-clause-rest c = follows_start c.requires.fresh.generator c.loop-attempt.invariant.follows
 
 pub returns-clause-ok : goal.returns-clause-ok
 returns-clause-ok c = run_course c.loop-attempt.invariant (omega arith) (omega (arith, c.wanted-m.ensures.value))

@@ -2,4 +2,4 @@ use Rattle.sgb_random.proofs.Running.{IsRun}
 use Rattle.sgb_random.proofs.draw.draw_all.Given as goal
 
 abbrev pub invariant-loop-attempt : goal.invariant-loop-attempt
-invariant-loop-attempt l = IsRun l.spec l.initial.progress.builder l.initial.flip l.progress l.tally l.flip l._attempt
+invariant-loop-attempt l = IsRun l.spec l.initial.progress.builder l.initial.flip l.progress l.flip l._attempt

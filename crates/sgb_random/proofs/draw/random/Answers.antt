@@ -24,6 +24,8 @@ draw_graph-requires-clause-fresh c =
       no_pairs = fresh.pairs;
       room = fresh.room;
       numbers = fresh.numbers;
+      none_made = fresh.made;
+      no_draws = fresh.draws;
       generator = c.unread.ensures.generator;
     }
 

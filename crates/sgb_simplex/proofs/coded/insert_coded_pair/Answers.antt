@@ -1,12 +1,22 @@
-use Rattle.std.proofs.Common.{◌≡◌, ◌∷◌, [], ℕ, pos, List, bit_and, refl, ap, ◌∙◌, arith}
+use Rattle.std.proofs.Common.{◌≡◌, ◌<◌, ◌∷◌, [], ℕ, pos, List, Bool, length, bit_and, refl, sym, ap, ◌∙◌, arith}
 use Rattle.std.specs.Int.Count.{ones}
-use Rattle.std.specs.List.{slice_index}
+use Rattle.std.specs.List.{sum, slice_index}
 use Rattle.sgb_graph.specs.Builder.{insertion}
 use Rattle.sgb_simplex.specs.Points.{points}
-use Rattle.sgb_simplex.specs.Overlap.{is_partner}
-use Rattle.sgb_simplex.proofs.Blocks.{partner, low}
+use Rattle.sgb_simplex.specs.Overlap.{has_size, is_partner}
+use Rattle.sgb_simplex.specs.Private.Codes.{AreCodes}
 use Rattle.sgb_simplex.proofs.Inserted.{none_inserted, some_inserted}
+use Rattle.sgb_simplex.proofs.Ones.{overlap_is, overlap_low}
+use Rattle.sgb_simplex.proofs.Simplices.{all_points}
 use Rattle.sgb_simplex.proofs.coded.insert_coded_pair.Goals as goal
+
+partner : (total : ℕ) (bounds codes : List ℕ) (bits u v n : ℕ) (r : Bool) → AreCodes bounds (points total bounds) codes → u < length (points total bounds) → v < length (points total bounds) → r ≡ has_size bits n → n ≡ ones (bit_and (slice_index codes u) (slice_index codes v)) → is_partner (points total bounds) bits v u ≡ r
+partner total bounds codes bits u v n r known first second asked is =
+    sym (asked ∙ ap (has_size bits) (overlap_is (all_points total bounds u [] first) (all_points total bounds v [] second) (slice_index codes u) (slice_index codes v) n (known.at u first) (known.at v second) is))
+
+low : (total : ℕ) (bounds codes : List ℕ) (u v n : ℕ) → AreCodes bounds (points total bounds) codes → u < length (points total bounds) → v < length (points total bounds) → n ≡ ones (bit_and (slice_index codes u) (slice_index codes v)) → sum bounds < 64 → n < 64
+low total bounds codes u v n known first second is room =
+    overlap_low (all_points total bounds u [] first) (all_points total bounds v [] second) (slice_index codes u) (slice_index codes v) n (known.at u first) (known.at v second) is room
 
 -- how many ones two codes share, where the second is at hand
 shared : (codes : List ℕ) (u code v : ℕ) → code ≡ slice_index codes v → ones (bit_and (slice_index codes u) code) ≡ ones (bit_and (slice_index codes u) (slice_index codes v))

@@ -1,8 +1,7 @@
-use Rattle.std.proofs.Common.{◌≡◌, ◌+◌, ◌∷◌, ℕ, List, length, get_or, drop, ap, arith}
+use Rattle.std.proofs.Common.{◌≡◌, ◌+◌, ◌∷◌, ℕ, List, get_or, drop, ap, arith}
 use Rattle.std.specs.List.{sum}
 use Rattle.std.proofs.lemmas.List.{drop_more, length-drop}
-use Rattle.sgb_simplex.specs.Points.{points}
-use Rattle.sgb_simplex.proofs.Counting.{count_start, count_step, count_over, count_end, one_point, two_points}
+use Rattle.sgb_simplex.proofs.Counting.{count_start, count_step, count_over, count_end, one_point}
 use Rattle.sgb_simplex.proofs.Simplices.{sum_cons}
 use Rattle.sgb_simplex.proofs.judge.+count_from.Goals as goal
 
@@ -10,18 +9,6 @@ pub returns-then-bounds-place-le1 : goal.returns-then-bounds-place-le1
 returns-then-bounds-place-le1 t c =
     let rest : List ℕ = drop c.args.place c.args.bounds.now in
     omega (arith, one_point c.args.left rest (omega (arith, length-drop c.args.place c.args.bounds.now)) (omega arith))
-
-pub returns-then-bounds-place-eq2 : goal.returns-then-bounds-place-eq2
-returns-then-bounds-place-eq2 t c =
-    let bounds : List ℕ = c.args.bounds.now in
-    let place : ℕ = c.args.place in
-    let b : ℕ = get_or bounds place 0 in
-    let rest : List ℕ = drop (place + 1) bounds in
-    let cut : drop place bounds ≡ b ∷ rest = drop_more bounds place 0 (omega arith) in
-    let parts : sum (drop place bounds) ≡ sum (b ∷ rest) = ap sum cut in
-    let same : length (points c.args.left (drop place bounds)) ≡ length (points c.args.left (b ∷ rest)) = ap (λ l. length (points c.args.left l)) cut in
-    let two = two_points c.args.left b rest (omega (arith, length-drop (place + 1) bounds)) (omega (arith, parts)) in
-    omega (arith, same, two, parts, sum_cons b rest)
 
 pub loop-x-init : goal.loop-x-init
 loop-x-init t c =
@@ -32,7 +19,7 @@ loop-x-init t c =
     let cut : drop place bounds ≡ b ∷ rest = drop_more bounds place 0 (omega arith) in
     let parts : sum (drop place bounds) ≡ sum (b ∷ rest) = ap sum cut in
     record {
-      left = count_start c.args.found c.args.left b (drop place bounds) rest c.saturating_sub-least.result (c.min-most.result + 1) cut (omega arith) (omega (arith, parts, sum_cons b rest)) (omega arith);
+      left = count_start c.args.found c.args.left b (drop place bounds) rest c.saturating_sub-x.result (c.min-x-end.result + 1) cut (omega arith) (omega (arith, parts, sum_cons b rest)) (omega arith);
       few = c.requires.few;
     }
 

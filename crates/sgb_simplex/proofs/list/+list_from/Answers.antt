@@ -3,7 +3,7 @@ use Rattle.std.specs.List.{sum}
 use Rattle.std.proofs.lemmas.List.{drop_all, drop_more, take_more_set}
 use Rattle.sgb_simplex.specs.Points.{points}
 use Rattle.sgb_simplex.proofs.Simplices.{sum_cons}
-use Rattle.sgb_simplex.proofs.Written.{written, written_all, written_last, left_start, left_step, left_end, kept_prefix}
+use Rattle.sgb_simplex.proofs.Written.{written, written_all, left_start, left_step, left_end, kept_prefix}
 use Rattle.sgb_simplex.proofs.list.+list_from.Goals as goal
 
 on_ok : {T E : Type 0} (r : Result T E) (new whole old : List ℕ) → new ≡ (if is_ok r then whole else old) → OnOk r (new ≡ whole)
@@ -18,14 +18,6 @@ returns-then-place-bounds-clause-ok t c =
     let old : List ℕ = c.args.list.now.items in
     on_ok c.extend_from_slice.result c.extend_from_slice.new.self.items (old ++ written (take c.args.place c.args.point.now) (points c.args.left (drop c.args.place c.args.bounds.now))) old
     (c.extend_from_slice.ensures.items ∙ ap (λ l. if is_ok c.extend_from_slice.result then old ++ l else old) (sym all))
-
-pub returns-then-place-bounds-2-clause-ok : goal.returns-then-place-bounds-2-clause-ok
-returns-then-place-bounds-2-clause-ok t c =
-    let wrote = written_last c.args.bounds.now c.args.point.now c.args.place c.args.left (omega arith) (omega arith) (omega arith) in
-    let old : List ℕ = c.args.list.now.items in
-    let made = c.extend_from_slice-then-place-bounds-2 in
-    on_ok made.result made.new.self.items (old ++ written (take c.args.place c.args.point.now) (points c.args.left (drop c.args.place c.args.bounds.now))) old
-    (made.ensures.items ∙ ap (λ l. if is_ok made.result then old ++ l else old) (sym wrote))
 
 pub returns-in_err-list_from-clause-kept : goal.returns-in_err-list_from-clause-kept
 returns-in_err-list_from-clause-kept t c =

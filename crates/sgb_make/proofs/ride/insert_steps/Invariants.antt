@@ -1,7 +1,0 @@
-use Rattle.std.proofs.Common.{length, false}
-use Rattle.sgb_graph.proofs.Inserting.{LeftFrom}
-use Rattle.sgb_make.specs.Private.Link.{trip_from, trips}
-use Rattle.sgb_make.proofs.ride.insert_steps.Given as goal
-
-abbrev pub invariant-loop-from : goal.invariant-loop-from
-invariant-loop-from l = LeftFrom l.fn.builder (trips l.table false) l.builder (trip_from l.table false) l.from (length l.table)

@@ -1,9 +1,0 @@
-use Rattle.std.proofs.Common.{◌-◌}
-use Rattle.sgb_graph.proofs.Inserting.{LeftFrom}
-use Rattle.sgb_simplex.specs.Points.{points}
-use Rattle.sgb_simplex.specs.Private.Codes.{pairs_among}
-use Rattle.sgb_simplex.proofs.Inserted.{pair_of}
-use Rattle.sgb_simplex.proofs.coded.insert_coded_pairs_among.Given as goal
-
-abbrev pub invariant-loop-u : goal.invariant-loop-u
-invariant-loop-u l = LeftFrom l.initial.builder (pairs_among (points l.list.total l.list.bounds.items) l.size_bits l.v l.first (l.end - l.first)) l.builder (pair_of (points l.list.total l.list.bounds.items) l.size_bits l.v) l.u l.end
