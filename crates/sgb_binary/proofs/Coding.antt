@@ -13,8 +13,8 @@ use Rattle.std.proofs.lemmas.List.Elements.{All-nil, All-cons, All-head, All-tai
 use Rattle.std.proofs.lemmas.Slice.Eq.{bytes_eq-Decides}
 use Rattle.indexmap.specs.IndexSet.{insert_key}
 use Rattle.sgb_graph.specs.Builder.{insertion}
-use Rattle.sgb_plan.specs.declared.key.Key.{Key}
-use Rattle.sgb_plan.specs.Key.{bytes_of}
+use denote.Ref.{Bor}
+use Rattle.sgb_binary.specs.Private.Names.{bytes_of}
 use Rattle.sgb_plan.proofs.Distincts.{position_agree}
 use Rattle.sgb_binary.specs.Rotation.{tree_fronts, turned, turned_at, number_in, targets, rotations_at}
 use Rattle.sgb_binary.specs.Private.Code.{leaf, code_of, codes_of, number_among, IsLetter, IsName, AreNames}
@@ -273,7 +273,7 @@ code_added names i code codes after are less is shown put =
     ∙ ap codes_of (sym (take_more names i [] less))))
 
 -- the name that one of the keys is
-pub name_at : (keys : List Key) (i : ℕ) (d : Key) → i < length keys → bytes_of (get_or keys i d) ≡ get_or (map bytes_of keys) i []
+pub name_at : (keys : List (Bor (List ℕ))) (i : ℕ) (d : Bor (List ℕ)) → i < length keys → bytes_of (get_or keys i d) ≡ get_or (map bytes_of keys) i []
 name_at keys i d less = sym (get_or-map bytes_of keys i d [] less)
 
 -- ---- the insertions at a place

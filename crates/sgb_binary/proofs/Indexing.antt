@@ -9,16 +9,16 @@ use Rattle.std.proofs.lemmas.List.Folds.{list_any_none}
 use Rattle.std.proofs.lemmas.Slice.Eq.{bytes_eq-Decides}
 use Rattle.indexmap.specs.IndexSet.{insert_key}
 use Rattle.sgb_plan.specs.Distinct.{Distinct}
-use Rattle.sgb_plan.specs.declared.key.Key.{Key}
-use Rattle.sgb_plan.specs.Key.{bytes_of}
+use denote.Ref.{Bor}
+use Rattle.sgb_binary.specs.Private.Names.{bytes_of}
 use Rattle.sgb_binary.specs.Private.Listing.{pieces}
 
 -- the names that are keys
-abbrev pub names_of : List Key → List (List ℕ)
+abbrev pub names_of : List (Bor (List ℕ)) → List (List ℕ)
 names_of keys = map bytes_of keys
 
 -- ---- a name that is new
-name_new : (keys : List Key) (name : List ℕ) (rest : List (List ℕ)) → Distinct (names_of keys ++ (name ∷ rest)) → list_any (λ key. pointwise ◌==◌ name (bytes_of key)) keys ≡ false
+name_new : (keys : List (Bor (List ℕ))) (name : List ℕ) (rest : List (List ℕ)) → Distinct (names_of keys ++ (name ∷ rest)) → list_any (λ key. pointwise ◌==◌ name (bytes_of key)) keys ≡ false
 name_new keys name rest apart =
     list_any_none (λ key. pointwise ◌==◌ name (bytes_of key)) keys
     (λ i d h.
@@ -35,14 +35,14 @@ name_new keys name rest apart =
       | inr other ↦ other
     ])
 
-pub name_added : (keys : List Key) (name : Key) (rest : List (List ℕ)) → Distinct (names_of keys ++ (bytes_of name ∷ rest))
+pub name_added : (keys : List (Bor (List ℕ))) (name : Bor (List ℕ)) (rest : List (List ℕ)) → Distinct (names_of keys ++ (bytes_of name ∷ rest))
     → names_of (insert_key (λ a b. pointwise ◌==◌ (bytes_of a) (bytes_of b)) keys name) ≡ names_of keys ++ bytes_of name ∷ []
 name_added keys name rest apart =
     let new = name_new keys (bytes_of name) rest apart in
     rw new (map-append bytes_of keys (name ∷ []))
 
 -- the names up to one are keys; this one goes last
-pub name_more : (names : List (List ℕ)) (i : ℕ) (keys after : List Key) (name : Key) → Distinct names → i < length names → bytes_of name ≡ get_or names i [] → names_of keys ≡ take i names
+pub name_more : (names : List (List ℕ)) (i : ℕ) (keys after : List (Bor (List ℕ))) (name : Bor (List ℕ)) → Distinct names → i < length names → bytes_of name ≡ get_or names i [] → names_of keys ≡ take i names
     → after ≡ insert_key (λ a b. pointwise ◌==◌ (bytes_of a) (bytes_of b)) keys name → names_of after ≡ take (i + 1) names
 name_more names i keys after name apart less is shown put =
     let rest : List (List ℕ) = drop (i + 1) names in

@@ -1,3 +1,4 @@
 pub mod Code
 pub mod Listing
+pub mod Names
 pub mod Span

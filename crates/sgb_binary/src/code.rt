@@ -4,20 +4,19 @@ ghost use Rattle.std.specs.List.{flat_map};
 ghost use Rattle.std.specs.Option.{option_to_list};
 ghost use Rattle.sgb_graph.specs.Builder.{Inserts};
 ghost use Rattle.sgb_graph.specs.Graph.{n_of};
-ghost use Rattle.sgb_plan.specs.Key.{bytes_of};
+ghost use Rattle.sgb_binary.specs.Private.Names.{bytes_of};
 ghost use Rattle.sgb_binary.specs.Rotation.{tree_fronts, turned_at, rotations, rotations_from};
 ghost use Rattle.sgb_binary.specs.Private.Code.{leaf, code_of, codes_of, number_among, AreNames};
 
 use indexmap::IndexSet;
 use sgb_graph::{Builder, Refusal, VertexNo};
-use sgb_plan::Key;
 use std::alloc::Global;
 
 /// Inserts from each tree in order to each that it turns into.
 pub(crate) fn insert_by_code(
     builder: &mut Builder,
     alloc: Global,
-    names: &[Key<'_>],
+    names: &[&[u8]],
 ) -> Result<(), Refusal>
     requires vertices { n_of builder.old.graph ≡ length names.now }
     requires few { length names.now ≤ 65535 }
@@ -32,14 +31,14 @@ pub(crate) fn insert_by_code(
 }
 
 // The codes of the names, each at its name's number.
-fn index_codes(alloc: Global, names: &[Key<'_>]) -> Result<IndexSet<u64>, Refusal>
+fn index_codes(alloc: Global, names: &[&[u8]]) -> Result<IndexSet<u64>, Refusal>
     requires { AreNames (map bytes_of names.now) }
     ensures keys { IfOk result (λ codes. codes.keys ≡ codes_of (map bytes_of names.now)) }
     ensures err { IfErr result (λ e. e ≡ Refusal.NoRoom) }
 {
     let mut codes = IndexSet::with_capacity(alloc, names.len())?;
     for name in names {
-        codes.insert(code_of(name.bytes()))?;
+        codes.insert(code_of(name))?;
     }
     Ok(codes)
 }
@@ -66,7 +65,7 @@ fn leaf(letter: u8) -> u64
 // Inserts from the vertex with this number to each that it turns into.
 fn insert_from_code(
     builder: &mut Builder,
-    names: &[Key<'_>],
+    names: &[&[u8]],
     v: u32,
     codes: &IndexSet<u64>,
 ) -> Result<(), Refusal>
@@ -77,7 +76,7 @@ fn insert_from_code(
     requires vertex { v < length names.now }
     ensures { Inserts builder.old builder.new (rotations_from (map bytes_of names.now) v) result }
 {
-    let word = names[v as usize].bytes();
+    let word = names[v as usize];
     let code = code_of(word);
     for place in 0..word.len() {
         if let Some(target) = find_code(codes, word, code, place) {

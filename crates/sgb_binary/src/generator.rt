@@ -1,7 +1,7 @@
 //! Makes graphs of binary trees.
 ghost use Rattle.std.specs.Prelude.{◌≡◌, ◌≤◌, ◌≤ℤ◌, ◌<◌, pos, unsigned_abs, length, map, All, Ok, IsErrOf};
 ghost use Rattle.sgb_graph.specs.Text.{IsText};
-ghost use Rattle.sgb_plan.specs.Key.{bytes_of};
+ghost use Rattle.sgb_binary.specs.Private.Names.{bytes_of};
 ghost use Rattle.sgb_plan.specs.Plan.{IsMade, Names};
 ghost use Rattle.sgb_simplex.specs.Room.{MayWant};
 ghost use Rattle.sgb_binary.specs.Binary.{plan_of_binary, binary_plan, is_binary, height_within, tree_vertex};
@@ -12,7 +12,7 @@ use crate::judge::count_trees;
 use crate::lister::list_trees;
 use crate::rotation::insert_rotations;
 use sgb_graph::{Builder, Graph, Refusal, Types};
-use sgb_plan::{Key, Part, id_of, label_of};
+use sgb_plan::{Part, id_of, label_of};
 use std::alloc::Global;
 
 /// The graph `binary` of binary trees: a vertex for each tree with `n` dots and at most the height, named by its text,
@@ -77,13 +77,13 @@ fn make_graph(alloc: Global, n: u32, most: u32, directed: bool) -> Result<Graph,
 }
 
 // A vertex for each tree.
-fn name_vertices(builder: &mut Builder, alloc: Global, trees: &[Key<'_>]) -> Result<(), Refusal>
+fn name_vertices(builder: &mut Builder, alloc: Global, trees: &[&[u8]]) -> Result<(), Refusal>
     requires { All IsText (map bytes_of trees.now) }
     ensures { Names builder.old builder.new (map tree_vertex (map bytes_of trees.now)) result }
 {
     builder.reserve_vertices(trees.len())?;
     for tree in trees {
-        let label = label_of(alloc, tree.bytes())?;
+        let label = label_of(alloc, tree)?;
         builder.push_named(label)?;
     }
     Ok(())

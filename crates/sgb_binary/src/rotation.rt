@@ -3,7 +3,7 @@ ghost use Rattle.std.specs.Prelude.{◌≡◌, ◌<◌, ◌≤◌, ◌+◌, leng
 ghost use Rattle.std.specs.Option.{option_to_list};
 ghost use Rattle.sgb_graph.specs.Builder.{Inserts};
 ghost use Rattle.sgb_graph.specs.Graph.{n_of};
-ghost use Rattle.sgb_plan.specs.Key.{bytes_of};
+ghost use Rattle.sgb_binary.specs.Private.Names.{bytes_of};
 ghost use Rattle.sgb_plan.specs.Distinct.{Distinct};
 ghost use Rattle.sgb_binary.specs.Private.Code.{IsName};
 ghost use Rattle.sgb_binary.specs.Rotation.{tree_fronts, targets, rotations, rotations_of};
@@ -12,14 +12,13 @@ use crate::code::insert_by_code;
 use crate::index::{index_names, number_of};
 use indexmap::IndexSet;
 use sgb_graph::{Builder, Refusal, VertexNo};
-use sgb_plan::Key;
 use std::alloc::Global;
 
 /// Inserts from each tree in order to each that it turns into: by the codes of the names, where a code has room for one.
 pub(crate) fn insert_rotations(
     builder: &mut Builder,
     alloc: Global,
-    names: &[Key<'_>],
+    names: &[&[u8]],
     width: usize,
 ) -> Result<(), Refusal>
     requires vertices { n_of builder.old.graph ≡ length names.now }
@@ -39,10 +38,10 @@ pub(crate) fn insert_rotations(
 // How many insertions there are at most, so that room for them is taken once. A tree with n dots has n - 1 below others;
 // in all trees together as many stand to the left as to the right, since the mirror image of each is among them, and
 // only those to the left are turned.
-fn count_rotations(names: &[Key<'_>]) -> usize {
+fn count_rotations(names: &[&[u8]]) -> usize {
     match names.first() {
         Some(name) => {
-            let dots = name.bytes().len() / 2;
+            let dots = name.len() / 2;
             names.len().saturating_mul(dots.saturating_sub(1)) / 2
         }
         None => 0,
@@ -53,7 +52,7 @@ fn count_rotations(names: &[Key<'_>]) -> usize {
 fn insert_by_name(
     builder: &mut Builder,
     alloc: Global,
-    index: &IndexSet<Key<'_>>,
+    index: &IndexSet<&[u8]>,
 ) -> Result<(), Refusal>
     requires vertices { n_of builder.old.graph ≡ length index.now.keys }
     requires few { length index.now.keys ≤ 65535 }
@@ -62,7 +61,7 @@ fn insert_by_name(
     let mut word = Vec::new(alloc);
     for (v, name) in index.as_slice().iter().enumerate() {
         word.clear();
-        word.extend_from_slice(name.bytes())?;
+        word.extend_from_slice(name)?;
         insert_from(builder, index, v as u32, &mut word)?;
     }
     Ok(())
@@ -71,7 +70,7 @@ fn insert_by_name(
 // Inserts from the vertex with this name to each that it turns into.
 fn insert_from(
     builder: &mut Builder,
-    index: &IndexSet<Key<'_>>,
+    index: &IndexSet<&[u8]>,
     v: u32,
     word: &mut [u8],
 ) -> Result<(), Refusal>
@@ -89,7 +88,7 @@ fn insert_from(
 }
 
 // The number of what the word turns into at this place; the word is put back.
-fn find_turned(index: &IndexSet<Key<'_>>, word: &mut [u8], place: usize) -> Option<usize>
+fn find_turned(index: &IndexSet<&[u8]>, word: &mut [u8], place: usize) -> Option<usize>
     requires { place < length word.old }
     ensures value { option_to_list result ≡ targets (map bytes_of index.now.keys) word.old place }
     ensures same { word.new ≡ word.old }

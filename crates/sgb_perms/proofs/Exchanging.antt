@@ -28,19 +28,17 @@ swap_apart front x y back n long =
     ∙ append_assoc front (y ∷ []) (x ∷ back)))))
 
 -- a list around two neighbours
-pub record Around (a : List ℕ) (place : ℕ) : Type 0 where
-  pub front : List ℕ
-  pub back : List ℕ
-  pub x : ℕ
-  pub y : ℕ
-  pub first : x ≡ get_or a place 0
-  pub second : y ≡ get_or a (place + 1) 0
-  pub before : a ≡ front ++ x ∷ y ∷ back
-  pub after : exchanged a place ≡ front ++ y ∷ x ∷ back
-  pub at : length front ≡ place
-  pub greater : is_descent a place ≡ true → y < x
+record Around (a : List ℕ) (place : ℕ) : Type 0 where
+  front : List ℕ
+  back : List ℕ
+  x : ℕ
+  y : ℕ
+  before : a ≡ front ++ x ∷ y ∷ back
+  after : exchanged a place ≡ front ++ y ∷ x ∷ back
+  at : length front ≡ place
+  greater : is_descent a place ≡ true → y < x
 
-pub around : (a : List ℕ) (place : ℕ) → place + 1 < length a → Around a place
+around : (a : List ℕ) (place : ℕ) → place + 1 < length a → Around a place
 around a place within =
     let x = get_or a place 0 in
     let y = get_or a (place + 1) 0 in
@@ -54,8 +52,6 @@ around a place within =
       back = back;
       x = x;
       y = y;
-      first = refl;
-      second = refl;
       before = whole;
       after = ap (λ l. exchanged l place) whole ∙ swap_apart front x y back place (length-take-le place a (omega arith));
       at = length-take-le place a (omega arith);

@@ -12,4 +12,3 @@ pub mod Looking
 pub mod Counting
 pub mod Runs
 pub mod Moves
-pub mod Digits

@@ -50,8 +50,10 @@ pub rises_so : (row a : List ℕ) (place : ℕ) → row ≡ a → get_or row pla
 rises_so row a place same le =
     le-ltb (get_or a (place + 1) 0) (get_or a place 0) (subst (λ r. get_or r place 0 ≤ get_or r (place + 1) 0) same le)
 
-pub place_so : (rows : List (List ℕ)) (row after a : List ℕ) (place to : ℕ) → row ≡ a → after ≡ exchanged row place → to ≡ place_of rows after → to ≡ place_of rows (exchanged a place)
-place_so rows row after a place to same put is = is ∙ ap (place_of rows) (put ∙ ap (λ r. exchanged r place) same)
+pub place_so : (rows : List (List ℕ)) (row after a : List ℕ) (place to : ℕ) → row ≡ a → after ≡ exchanged row place → LeadsWithin rows a → place + 1 < length a → is_descent a place ≡ true → (place_of rows after < length rows → to ≡ place_of rows after) → to ≡ place_of rows (exchanged a place)
+place_so rows row after a place to same put leads low descends found =
+    let moved : after ≡ exchanged a place = put ∙ ap (λ r. exchanged r place) same in
+    found (subst (λ r. place_of rows r < length rows) (sym moved) (leads place low descends)) ∙ ap (place_of rows) moved
 
 pub row_back : (row after last a : List ℕ) (place : ℕ) → place + 1 < length a → row ≡ a → after ≡ exchanged row place → last ≡ exchanged after place → last ≡ a
 row_back row after last a place within same put back =

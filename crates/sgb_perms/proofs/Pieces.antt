@@ -1,8 +1,7 @@
 -- Lemmas on pieces of one width.
-use Rattle.std.proofs.Common.{◌≡◌, ◌<◌, ◌≤◌, ◌+◌, ◌*◌, ℕ, zero, suc, List, [], ◌∷◌, ◌++◌, length, get_or, take, drop, All, refl, subst, sym, ap, ap₂, ◌∙◌, arith}
+use Rattle.std.proofs.Common.{◌≡◌, ◌<◌, ◌≤◌, ◌+◌, ◌*◌, ℕ, zero, suc, List, [], ◌∷◌, ◌++◌, length, get_or, take, drop, refl, sym, ap, ap₂, ◌∙◌, arith}
 use Rattle.std.proofs.Math.Nat.{mul-le-mul_left}
-use Rattle.std.proofs.lemmas.List.{length-drop, length-take-le, take_all, take-append-le, drop-append-le, drop-drop, nil_from_length}
-use Rattle.std.proofs.lemmas.List.Elements.{All-nil, All-cons}
+use Rattle.std.proofs.lemmas.List.{length-drop, take_all, take-append-le, drop-append-le, drop-drop, nil_from_length}
 use Rattle.sgb_perms.specs.declared.rows.Rows.TheInside.{Inside}
 use Rattle.sgb_perms.specs.Private.Rows.{RowsOf, pieces, rows_of, IsRows, with_rows}
 
@@ -24,14 +23,6 @@ pieces_push (suc n) w xs row filled long =
     rw one_on
     (ap₂ (λ p ps. p ∷ ps) (take-append-le w xs row fits)
     (ap (pieces (n + 1) w) (drop-append-le w xs row fits) ∙ pieces_push n w (drop w xs) row rest long))
-
-pub pieces_long : (n w : ℕ) (xs : List ℕ) → length xs ≡ n * w → All (λ row. length row ≡ w) (pieces n w xs)
-unfolding pieces
-pieces_long zero w xs filled = All-nil (λ row. length row ≡ w)
-pieces_long (suc n) w xs filled =
-    let more : suc n * w ≡ w + n * w = omega arith in
-    let rest : length (drop w xs) ≡ n * w = length-drop w xs ∙ omega arith in
-    All-cons (λ row. length row ≡ w) (take w xs) (pieces n w (drop w xs)) (length-take-le w xs (omega arith)) (pieces_long n w (drop w xs) rest)
 
 pub get_or-pieces : (n w : ℕ) (xs : List ℕ) (i : ℕ) (d : List ℕ) → i < n → get_or (pieces n w xs) i d ≡ take w (drop (i * w) xs)
 unfolding pieces
@@ -57,10 +48,6 @@ length_shown r v is = ap (λ (w : RowsOf). length w.rows) (sym is) ∙ length-pi
 
 pub width_shown : (r : Inside) (v : RowsOf) → rows_of r ≡ v → v.width ≡ r.width
 width_shown r v is = ap (λ (w : RowsOf). w.width) (sym is)
-
-pub rows_long : (r : Inside) (v : RowsOf) → rows_of r ≡ v → IsRows r → All (λ row. length row ≡ v.width) v.rows
-rows_long r v is sound =
-    subst (λ (w : RowsOf). All (λ row. length row ≡ w.width) w.rows) is (pieces_long r.count r.width r.kinds.items sound.filled)
 
 pub end_within : (r : Inside) (v : RowsOf) (place : ℕ) → rows_of r ≡ v → IsRows r → place < length v.rows → place * r.width + r.width ≤ length r.kinds.items
 end_within r v place is sound less =

@@ -2,4 +2,3 @@ pub mod Counted
 pub mod Listed
 pub mod Places
 pub mod Rows
-pub mod Sets

@@ -39,6 +39,6 @@ pub fn perms(alloc: Global, spec: &PermsSpec) -> Result<Graph, Refusal>
     let mut builder = Builder::new(alloc, id, Types::none(), spec.directed);
     name_vertices(&mut builder, alloc, &rows)?;
     let places = index_places(alloc, &rows)?;
-    insert_exchanges(&mut builder, alloc, &rows, places)?;
+    insert_exchanges(&mut builder, alloc, &rows, &places)?;
     Ok(builder.finish())
 }

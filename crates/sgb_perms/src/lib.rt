@@ -7,7 +7,6 @@ mod facts;
 mod generate;
 mod judge;
 mod listing;
-mod lookup;
 mod names;
 mod places;
 mod rows;

@@ -1,5 +1,5 @@
 //! Rows of one width, one behind another in one buffer.
-ghost use Rattle.std.specs.Prelude.{◌≡◌, ◌≤◌, ◌<◌, ◌∷◌, [], All, length, slice_index_or, IfOk};
+ghost use Rattle.std.specs.Prelude.{◌≡◌, ◌≤◌, ◌<◌, ◌∷◌, [], length, slice_index_or, IfOk};
 
 use sgb_graph::Refusal;
 use std::alloc::{AllocError, Global};
@@ -59,7 +59,6 @@ impl Rows {
     pub(crate) fn width(&self) -> usize
         ensures value { result ≡ self.now.width }
         ensures narrow { result ≤ 255 }
-        ensures long { All (λ row. length row ≡ self.now.width) self.now.rows }
     {
         self.width
     }

@@ -37,19 +37,13 @@ Distinct-range_with_len a n i j d less below same =
     let low : i < n = omega arith in
     omega (arith, get_or-range_with_len a n i d low, get_or-range_with_len a n j d high, same)
 
--- by a function that tells apart those elements of which P holds
-pub Distinct-map_where : {X Y : Type 0} (f : X → Y) (P : X → Type 0) (xs : List X) → ((x y : X) → P x → P y → f x ≡ f y → x ≡ y) → All P xs → Distinct xs → Distinct (map f xs)
-Distinct-map_where f P [] tells all apart = Distinct-nil
-Distinct-map_where f P (x ∷ xs) tells all apart =
-    Distinct-cons (f x) (map f xs)
-    (All-map (λ z. f x ≢ z) f xs
-    (λ k d below same.
-    Distinct-head x xs apart k d below
-    (tells x (get_or xs k d) (All-head P x xs all) (All-tail P x xs all k d below) same)))
-    (Distinct-map_where f P xs tells (All-tail P x xs all) (Distinct-tail x xs apart))
-
+-- by a function that tells them apart
 pub Distinct-map : {X Y : Type 0} (f : X → Y) (xs : List X) → ((x y : X) → f x ≡ f y → x ≡ y) → Distinct xs → Distinct (map f xs)
-Distinct-map f xs tells apart = Distinct-map_where f (λ x. Unit {0}) xs (λ x y a b. tells x y) (λ k d below. tt) apart
+Distinct-map f [] tells apart = Distinct-nil
+Distinct-map f (x ∷ xs) tells apart =
+    Distinct-cons (f x) (map f xs)
+    (All-map (λ z. f x ≢ z) f xs (λ k d below same. Distinct-head x xs apart k d below (tells x (get_or xs k d) same)))
+    (Distinct-map f xs tells (Distinct-tail x xs apart))
 
 -- ---- lists that are joined
 pub All-flat_map : {X Y : Type 0} (Q : Y → Type 0) (f : X → List Y) (xs : List X) → All (λ x. All Q (f x)) xs → All Q (flat_map f xs)

@@ -1,6 +1,5 @@
 pub mod Distinct
 pub mod Id
-pub mod Key
 pub mod Length
 pub mod Listing
 pub mod Name

@@ -3,7 +3,6 @@
 
 mod append;
 mod id;
-mod key;
 mod length;
 mod listing;
 mod name;
@@ -11,7 +10,6 @@ mod part;
 mod text;
 
 pub use id::{id_of, id_of_one, id_of_two};
-pub use key::Key;
 pub use length::{DrawnLength, LengthRange};
 pub use listing::{list_of, shown_at};
 pub use name::{append_dotted, dotted};

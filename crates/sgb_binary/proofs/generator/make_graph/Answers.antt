@@ -6,7 +6,7 @@ use Rattle.sgb_graph.specs.Graph.{IsGraph}
 use Rattle.sgb_graph.specs.Text.{IsText}
 use Rattle.sgb_graph.proofs.Inserting.{RefusesInsertions}
 use Rattle.sgb_plan.specs.Distinct.{Distinct}
-use Rattle.sgb_plan.specs.Key.{bytes_of}
+use Rattle.sgb_binary.specs.Private.Names.{bytes_of}
 use Rattle.sgb_plan.specs.Plan.{Plan}
 use Rattle.sgb_plan.proofs.Planning.{RefusesNames, made, refused_names, refused_insertions}
 use Rattle.sgb_binary.specs.Binary.{binary_plan, tree_vertex}

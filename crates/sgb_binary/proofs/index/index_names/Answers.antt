@@ -1,6 +1,6 @@
 use Rattle.std.proofs.Common.{◌<◌, length, ap, ◌∙◌, arith}
 use Rattle.std.proofs.lemmas.List.{length-map, take_all}
-use Rattle.sgb_plan.specs.Key.{bytes_of}
+use Rattle.sgb_binary.specs.Private.Names.{bytes_of}
 use Rattle.sgb_binary.proofs.Coding.{name_at}
 use Rattle.sgb_binary.proofs.Indexing.{names_of, name_more}
 use Rattle.sgb_binary.proofs.index.index_names.Goals as goal
@@ -11,9 +11,9 @@ loop-name-init c = ap names_of c.in_ok-index.ensures.empty
 pub loop-name-preserved : goal.loop-name-preserved
 loop-name-preserved c =
     let less : c.loop-name.name-index < length c.args.names.now = c.loop-name-test.true in
-    name_more (names_of c.args.names.now) c.loop-name.name-index c.loop-name.index.keys c.insert.new.self.keys c.new.result c.requires
+    name_more (names_of c.args.names.now) c.loop-name.name-index c.loop-name.index.keys c.insert.new.self.keys _ c.requires
     (omega (arith, less, length-map c.args.names.now bytes_of))
-    (c.new.ensures ∙ (c.bytes.ensures ∙ (c.name-item.is ∙ name_at c.args.names.now c.loop-name.name-index _ less)))
+    (name_at c.args.names.now c.loop-name.name-index _ less)
     c.loop-name.invariant c.in_ok-insert.ensures.keys
 
 pub returns-clause-keys : goal.returns-clause-keys

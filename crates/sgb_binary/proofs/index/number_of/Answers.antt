@@ -1,8 +1,7 @@
 use Rattle.std.proofs.Common.{◌==◌, ap, sym, ◌∙◌}
 use Rattle.std.specs.Cmp.Lexicographic.{pointwise}
-use Rattle.std.specs.List.{position}
 use Rattle.std.specs.Option.{option_to_list}
-use Rattle.sgb_plan.specs.Key.{bytes_of}
+use Rattle.sgb_binary.specs.Private.Names.{bytes_of}
 use Rattle.sgb_binary.proofs.Turning.{position-map}
 use Rattle.sgb_binary.proofs.index.number_of.Goals as goal
 
@@ -10,5 +9,4 @@ pub returns-clause-value : goal.returns-clause-value
 returns-clause-value c =
     ap option_to_list
     (c.get_index_of.ensures.index
-    ∙ (ap (λ name. position (pointwise ◌==◌ name) c.args.index.now.keys) c.lent.ensures
-    ∙ sym (position-map (pointwise ◌==◌ c.args.name.now) bytes_of c.args.index.now.keys)))
+    ∙ sym (position-map (pointwise ◌==◌ c.args.name.now) bytes_of c.args.index.now.keys))

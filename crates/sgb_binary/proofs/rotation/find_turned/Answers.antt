@@ -3,7 +3,7 @@ use Rattle.std.specs.Option.{option_to_list}
 use borrow.Rule.Slice.PartMut.{put_mid}
 use Rattle.std.specs.List.{starts_with}
 use Rattle.std.proofs.lemmas.List.{take_rest}
-use Rattle.sgb_plan.specs.Key.{bytes_of}
+use Rattle.sgb_binary.specs.Private.Names.{bytes_of}
 use Rattle.sgb_binary.specs.Rotation.{number_in, tree_fronts, turned}
 use Rattle.sgb_binary.proofs.Turning.{behind_dot, turned_part, turned_is, turned_back, targets_none, targets_no_tree, targets_one}
 use Rattle.sgb_binary.proofs.rotation.find_turned.Goals as goal

@@ -2,7 +2,7 @@ use Rattle.std.proofs.Common.{length, map, ap, subst, ◌∙◌, arith}
 use Rattle.std.proofs.lemmas.List.{length-map}
 use Rattle.sgb_graph.specs.Builder.{Inserts}
 use Rattle.sgb_graph.specs.Graph.{n_of}
-use Rattle.sgb_plan.specs.Key.{bytes_of}
+use Rattle.sgb_binary.specs.Private.Names.{bytes_of}
 use Rattle.sgb_binary.specs.Rotation.{rotations}
 use Rattle.sgb_binary.proofs.rotation.insert_rotations.Goals as goal
 

@@ -159,14 +159,8 @@ returns-in_err-name_vertices-clause-made c =
     rw (p.1, p.2)
     (names_refused s counts most rows c.new-builder.result c.in_err-name_vertices.field-0.0 known are begun_so c.in_err-name_vertices.ensures)
 
-pub index_places-requires-clause-kinds : goal.index_places-requires-clause-kinds
-index_places-requires-clause-kinds c =
-    let counts = take c.in_ok-kinds.kinds c.counts_of.new.places in
-    let few : length counts ≤ 16 = omega (arith, ap length c.in_ok-kinds.ensures.counts, c.in_ok-kinds.ensures.kinds) in
-    subst (All (λ row. All (λ kind. kind < 16) row)) (sym (ap (λ (r : RowsOf). r.rows) c.in_ok-rows.ensures.ok)) (kinds_low counts c.most_of-most.result few)
-
-pub index_places-requires-clause-apart : goal.index_places-requires-clause-apart
-index_places-requires-clause-apart c =
+pub index_places-requires : goal.index_places-requires
+index_places-requires c =
     subst Distinct (sym (ap (λ (r : RowsOf). r.rows) c.in_ok-rows.ensures.ok)) (arrangements_differ (take c.in_ok-kinds.kinds c.counts_of.new.places) c.most_of-most.result)
 
 pub insert_exchanges-requires-clause-vertices : goal.insert_exchanges-requires-clause-vertices

@@ -1,7 +1,7 @@
 use Rattle.std.proofs.Common.{length}
 use Rattle.sgb_graph.proofs.Inserting.{LeftFrom}
 use Rattle.sgb_perms.specs.Perms.{exchanges, exchanges_of, row_at}
-use Rattle.sgb_perms.proofs.exchanges.insert_by_bytes.Given as goal
+use Rattle.sgb_perms.proofs.exchanges.insert_exchanges.Given as goal
 
 abbrev pub invariant-loop-v : goal.invariant-loop-v
 invariant-loop-v l =
