@@ -2,7 +2,6 @@
 ghost use Rattle.std.specs.Prelude.{◌≡◌, ◌⊎◌, IfOk, IfErr, IsTrue, ◌==◌, slice_index, codes, Some, None};
 ghost use Rattle.std.specs.List.{list_all};
 ghost use Rattle.std.specs.Option.{option_and_then};
-ghost use Rattle.sgb_script.specs.Arguments.{none};
 ghost use Rattle.sgb_script.specs.Commands.{line_of_command};
 ghost use Rattle.sgb_script.specs.Line.{line_of, line_of_words, takes_memory, is_printable_byte};
 ghost use Rattle.sgb_script.specs.Private.Reading.{Reads};
@@ -67,13 +66,31 @@ fn line_of_command(
 {
     match command {
         "seed" => seed(words),
-        "next" => alone(Line::Change(Single::Next), words),
+        "next" => {
+            words.end()?;
+            Ok(Line::Change(Single::Next))
+        }
         "unif" => unif(words),
-        "gen" => alone(Line::Query(Query::Gen), words),
-        "undo" => alone(Line::Undo, words),
-        "redo" => alone(Line::Redo, words),
-        "group" => alone(Line::Group, words),
-        "end" => alone(Line::End, words),
+        "gen" => {
+            words.end()?;
+            Ok(Line::Query(Query::Gen))
+        }
+        "undo" => {
+            words.end()?;
+            Ok(Line::Undo)
+        }
+        "redo" => {
+            words.end()?;
+            Ok(Line::Redo)
+        }
+        "group" => {
+            words.end()?;
+            Ok(Line::Group)
+        }
+        "end" => {
+            words.end()?;
+            Ok(Line::End)
+        }
         "graph" => makers::empty(words),
         "arc" => edits::arc(words),
         "edge" => edits::edge(words),
@@ -84,7 +101,10 @@ fn line_of_command(
         "label" => edits::label(alloc, words),
         "id" => edits::id(alloc, words),
         "drop" => edits::drop_graph(words),
-        "list" => alone(Line::Query(Query::List), words),
+        "list" => {
+            words.end()?;
+            Ok(Line::Query(Query::List))
+        }
         "show" => show(words),
         "board" => makers::board(words),
         "simplex" => makers::simplex(words),
@@ -102,15 +122,6 @@ fn line_of_command(
         "load" => load(words),
         _ => Err(ShellRefusal::ScriptSyntax),
     }
-}
-
-// The line of a command that takes no arguments.
-#[inline(always)]
-fn alone(line: Line, words: &Words<'_>) -> Result<Line, ShellRefusal>
-    ensures { Reads (option_and_then (none line) words.now) result }
-{
-    words.end()?;
-    Ok(line)
 }
 
 #[inline(never)]

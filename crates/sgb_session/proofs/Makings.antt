@@ -3,6 +3,7 @@ use Rattle.std.proofs.Common.{◌≡◌, ◌<◌, ◌+◌, ◌-◌, ℕ, ℤ, Li
 use Rattle.std.proofs.Math.Seq.{take-append_seam}
 use Rattle.std.specs.Prelude.{is_none, is_ok, unwrap_or}
 use Rattle.sgb_graph.specs.declared.refusal.Refusal.{Refusal}
+use Rattle.sgb_graph.specs.declared.refusal.Refusal.TheVariants as graphs
 use Rattle.sgb_graph.specs.Graph.{GraphOf, n_of, m_of}
 use Rattle.sgb_plan.specs.declared.part.Seed.{Seed}
 use Rattle.sgb_plan.specs.declared.part.Seed.TheVariants as seeds
@@ -22,7 +23,7 @@ use Rattle.sgb_session.specs.Make.{empty_graph, graph_made, generator_after, kep
 use Rattle.sgb_session.specs.Source.{source_of, turned_back, CanTurnBack}
 use Rattle.sgb_session.specs.State.{State, step, before, can_revert, may_want, unless, entering, refusal_of_making}
 use Rattle.sgb_session.specs.Table.{find, graph_in, graph_named}
-use Rattle.sgb_session.specs.Private.Making.{MakesGraph, Performs, may_lack, with_made}
+use Rattle.sgb_session.specs.Private.Making.{MakesGraph, Performs, CanUnmake, unmade, may_lack, with_made}
 use Rattle.sgb_session.specs.Private.Working.{random_draws}
 use Rattle.sgb_session.proofs.Sessions.{state, no_room_is}
 
@@ -87,6 +88,64 @@ made_still d t m plan (Err e) same lacks stays keeps made = (
     | inl room ↦ inl (room, lacks)
     | inr refuses ↦ inr (same ∙ refuses)
   ],
+)
+
+-- the generator behind a graph that is not kept
+can_unmake_kept : (d : Drawing) (m : Maker) → CanUnmake (kept_of d m) (generator_after d m)
+can_unmake_kept d (Empty n) = tt
+can_unmake_kept d (Board spec) = tt
+can_unmake_kept d (Simplex spec) = tt
+can_unmake_kept d (Subsets spec) = tt
+can_unmake_kept d (Perms spec) = tt
+can_unmake_kept d (Binary spec) = tt
+can_unmake_kept d (Random spec seed) = can_turn_back seed d (random_draws spec (drawn_from seed d))
+can_unmake_kept d (Complement g spec) = tt
+can_unmake_kept d (Gunion g h spec) = tt
+can_unmake_kept d (Intersection g h directed) = tt
+can_unmake_kept d (Product g h spec) = tt
+can_unmake_kept d (Induced g description spec) = tt
+can_unmake_kept d (Load text rule) = tt
+
+unmade_kept : (d : Drawing) (m : Maker) → unmade (kept_of d m) (generator_after d m) ≡ d
+unmade_kept d (Empty n) = refl
+unmade_kept d (Board spec) = refl
+unmade_kept d (Simplex spec) = refl
+unmade_kept d (Subsets spec) = refl
+unmade_kept d (Perms spec) = refl
+unmade_kept d (Binary spec) = refl
+unmade_kept d (Random spec seed) = is_turned_back seed d (random_draws spec (drawn_from seed d))
+unmade_kept d (Complement g spec) = refl
+unmade_kept d (Gunion g h spec) = refl
+unmade_kept d (Intersection g h directed) = refl
+unmade_kept d (Product g h spec) = refl
+unmade_kept d (Induced g description spec) = refl
+unmade_kept d (Load text rule) = refl
+
+pub can_unmake : (d e : Drawing) (t : List Entry) (m : Maker) (a : GraphOf × SingleDelta) → MakesGraph d e t m (Ok a) → CanUnmake a.1 e
+can_unmake d e t m a made =
+    subst (λ f. CanUnmake a.1 f) (sym made.1) (subst (λ k. CanUnmake k (generator_after d m)) (sym made.2) (can_unmake_kept d m))
+
+may_lack_made : (m : Maker) (g : GraphOf) → may_lack m (Ok g) ≡ true
+may_lack_made (Empty n) g = refl
+may_lack_made (Board spec) g = refl
+may_lack_made (Simplex spec) g = refl
+may_lack_made (Subsets spec) g = refl
+may_lack_made (Perms spec) g = refl
+may_lack_made (Binary spec) g = refl
+may_lack_made (Random spec seed) g = refl
+may_lack_made (Complement f spec) g = refl
+may_lack_made (Gunion f h spec) g = refl
+may_lack_made (Intersection f h directed) g = refl
+may_lack_made (Product f h spec) g = refl
+may_lack_made (Induced f description spec) g = refl
+may_lack_made (Load text rule) g = refl
+
+-- a graph for which there is no box
+pub not_boxed : (d e f : Drawing) (t : List Entry) (m : Maker) (a : GraphOf × SingleDelta) → MakesGraph d e t m (Ok a) → f ≡ unmade a.1 e
+    → MakesGraph d f t m (Err graphs.NoRoom)
+not_boxed d e f t m a made back = (
+  back ∙ (ap (unmade a.1) made.1 ∙ (ap (λ k. unmade k (generator_after d m)) made.2 ∙ unmade_kept d m)),
+  inl (refl, ap (may_lack m) made.0 ∙ may_lack_made m a.0),
 )
 
 -- a graph that was made

@@ -7,7 +7,7 @@ ghost use Rattle.sgb_session.specs.Edits.{refusal_from};
 ghost use Rattle.sgb_session.specs.Private.Making.{Judges, Performs};
 ghost use Rattle.sgb_session.specs.State.{is_spent};
 
-use crate::making::{find_operands, goes_on, make_graph};
+use crate::making::{find_operands, goes_on, make_boxed};
 use crate::mark::Mark;
 use crate::reply::{SingleDelta, SingleReply};
 use crate::table::{MOST_GRAPHS, Table};
@@ -57,6 +57,15 @@ impl Base {
         }
     }
 
+    // Seeds the generator.
+    fn seed(&mut self, seed: i64) -> Result<(SingleDelta, SingleReply), ShellRefusal>
+        ensures { Performs self.old self.new (commands.Seed seed) result }
+    {
+        let before = self.generator;
+        self.generator = Mark::new(seed);
+        Ok((SingleDelta::Seed(before), SingleReply::Done))
+    }
+
     // Draws one number.
     fn draw(&mut self) -> Result<(SingleDelta, SingleReply), ShellRefusal>
         ensures { Performs self.old self.new commands.Next result }
@@ -94,16 +103,17 @@ impl Base {
         ensures { Performs self.old self.new (commands.Make name maker.now) result }
     {
         let operands = self.judge(&name, maker)?;
-        match make_graph(
+        match make_boxed(
             self.alloc,
             &mut self.generator,
             &self.table,
             operands,
             maker,
         ) {
-            Ok((graph, delta)) => {
+            Ok((boxed, delta)) => {
+                let graph = boxed.get();
                 let reply = SingleReply::Made(name, graph.n(), graph.m());
-                self.table.push(name, graph);
+                self.table.push(name, boxed);
                 Ok((delta, reply))
             }
             Err(refusal) => Err(refusal_of(refusal)),
@@ -234,6 +244,7 @@ impl Reversible for Base {
     /// Performs a command. Only a new graph, a new arc or edge, new lengths and a text take memory: a text before
     /// anything is judged, a new arc or edge and a graph without arcs only where the command is accepted, and other new
     /// graphs and lengths once their names and the generator are good.
+    #[inline(always)]
     fn apply(&mut self, command: &Single) -> Result<(SingleDelta, SingleReply), ShellRefusal>
         ensures accepted { IfOk result (λ a. step self.old command.now ≡ Accepted self.new a.0 a.1) }
         ensures can_revert { IfOk result (λ a. can_revert self.new a.0) }
@@ -244,11 +255,7 @@ impl Reversible for Base {
         ensures memory { IfErr result (λ r. (takes_memory command.now ≡ true) ⊎ (step self.old command.now ≡ Refused r)) }
     {
         match command {
-            Single::Seed(seed) => {
-                let before = self.generator;
-                self.generator = Mark::new(*seed);
-                Ok((SingleDelta::Seed(before), SingleReply::Done))
-            }
+            Single::Seed(seed) => self.seed(*seed),
             Single::Next => self.draw(),
             Single::Unif(bound) => self.draw_below(*bound),
             Single::Make(name, maker) => self.make(*name, maker),
@@ -258,6 +265,7 @@ impl Reversible for Base {
         }
     }
 
+    #[inline(always)]
     fn revert(&mut self, delta: SingleDelta) {
         match delta {
             SingleDelta::Seed(mark) => self.generator = mark,

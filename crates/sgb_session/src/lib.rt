@@ -4,6 +4,7 @@
 #![tactic(auto)]
 
 mod base;
+mod boxed;
 mod edit;
 mod making;
 mod mark;
@@ -12,6 +13,7 @@ mod session;
 mod table;
 
 pub use base::{Base, MOST_DRAWS, MOST_UNIFORM};
+pub use boxed::Boxed;
 pub use mark::Mark;
 pub use reply::{Delta, Reply, SingleDelta, SingleReply, Source};
 pub use session::Session;

@@ -3,11 +3,12 @@ ghost use Rattle.std.specs.Prelude.{◌≡◌, ◌<◌, ◌^◌, ◌&&◌, [], �
 ghost use Rattle.sgb_script.specs.declared.command.Maker.TheVariants.{Empty, Random, Load};
 ghost use Rattle.sgb_session.specs.Drawing.{drawn_from};
 ghost use Rattle.sgb_session.specs.Make.{empty_graph, goes_on};
-ghost use Rattle.sgb_session.specs.Private.Making.{StandAt, Finds, AnswersGraph, MakesGraph, with_made};
+ghost use Rattle.sgb_session.specs.Private.Making.{StandAt, Finds, AnswersGraph, MakesGraph, CanUnmake, unmade, with_made};
 ghost use Rattle.sgb_session.specs.State.{is_spent};
 ghost use Rattle.sgb_session.specs.Table.{find, has_all};
 ghost use Rattle.sgb_text.specs.Read.{read_as};
 
+use crate::boxed::Boxed;
 use crate::mark::Mark;
 use crate::reply::SingleDelta;
 use crate::table::Table;
@@ -57,8 +58,41 @@ pub(crate) fn goes_on(maker: &Maker) -> bool
     matches!(maker, Maker::Random(_, Seed::Current))
 }
 
-/// Makes a graph. Its operands stand at these places.
-pub(crate) fn make_graph(
+/// Makes a graph, in a box. Its operands stand at these places.
+pub(crate) fn make_boxed(
+    alloc: Global,
+    generator: &mut Mark,
+    table: &Table,
+    operands: (usize, usize),
+    maker: &Maker,
+) -> Result<(Boxed<Graph>, SingleDelta), Refusal>
+    requires operands { StandAt table.now maker.now operands }
+    requires fresh { (goes_on maker.now && is_spent generator.old) ≡ false }
+    ensures { MakesGraph generator.old generator.new table.now maker.now result }
+{
+    let (graph, delta) = make_graph(alloc, generator, table, operands, maker)?;
+    match Boxed::new(alloc, graph) {
+        Ok(boxed) => Ok((boxed, delta)),
+        Err(_) => {
+            unmake(generator, delta);
+            Err(Refusal::NoRoom)
+        }
+    }
+}
+
+// Turns the generator back behind a graph that is not kept.
+fn unmake(generator: &mut Mark, delta: SingleDelta)
+    requires { CanUnmake delta generator.old }
+    ensures { generator.new ≡ unmade delta generator.old }
+{
+    match delta {
+        SingleDelta::MadeBy(source) => generator.turn_back(source),
+        _other => {}
+    }
+}
+
+// Makes a graph.
+fn make_graph(
     alloc: Global,
     generator: &mut Mark,
     table: &Table,

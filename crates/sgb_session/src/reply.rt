@@ -1,5 +1,6 @@
 //! What a command leaves for its undoing, and what it replies.
 
+use crate::boxed::Boxed;
 use crate::mark::Mark;
 use sgb_combine::LengthsDelta;
 use sgb_graph::{ArcNo, Graph, GraphDelta};
@@ -40,7 +41,7 @@ pub enum SingleDelta {
     /// The graph at this place got new lengths.
     Lengths(usize, LengthsDelta, Source),
     /// The graph that left the table, with its place and its name.
-    Dropped(usize, Name, Graph),
+    Dropped(usize, Name, Boxed<Graph>),
 }
 
 /// What turns the generator back after random work.

@@ -73,7 +73,7 @@ impl Session {
         requires { place < length self.now.table }
         ensures { result.now ≡ graph_in self.now.table place }
     {
-        &self.base.table.entry(place).graph
+        self.base.table.graph(place)
     }
 
     /// The place of the graph of this name.
@@ -112,6 +112,7 @@ impl Reversible for Session {
     ///
     /// A single command as [`Base`] does. A group, unless it is empty, for its members' deltas and replies before the
     /// first member is performed, and then as each member does.
+    #[inline(always)]
     fn apply(&mut self, command: &Command) -> Result<(Delta, Reply), ShellRefusal>
         ensures accepted { IfOk result (λ a. step self.old command.now ≡ Accepted self.new a.0 a.1) }
         ensures can_revert { IfOk result (λ a. can_revert self.new a.0) }
@@ -122,8 +123,10 @@ impl Reversible for Session {
     {
         match command {
             Command::One(single) => {
-                let (delta, reply) = self.base.apply(single)?;
-                Ok((Delta::One(delta), Reply::One(reply)))
+                match self.base.apply(single) {
+                    Ok((delta, reply)) => Ok((Delta::One(delta), Reply::One(reply))),
+                    Err(refusal) => Err(refusal),
+                }
             }
             Command::Group(members) => {
                 match apply_all(self.alloc, &mut self.base, members.as_slice()) {
@@ -136,6 +139,7 @@ impl Reversible for Session {
     }
 
     /// Undoes a command, or each member of a group, the last first. Does not allocate.
+    #[inline(always)]
     fn revert(&mut self, delta: Delta) {
         match delta {
             Delta::One(single) => self.base.revert(single),

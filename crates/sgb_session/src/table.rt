@@ -12,6 +12,7 @@ ghost use Rattle.sgb_session.specs.Private.Slots.{held, slot_in, slot_with_graph
 ghost use Rattle.sgb_session.specs.Private.Working.{Lengthens};
 ghost use Rattle.sgb_session.specs.Table.{find, entry_in, graph_in, with_graph};
 
+use crate::boxed::Boxed;
 use crate::edit::make_edit;
 use crate::mark::Mark;
 use crate::reply::{SingleReply, Source};
@@ -30,10 +31,10 @@ pub const MOST_GRAPHS: usize = 64;
 #[derive(Drop)]
 pub struct Entry {
     pub(crate) name: Name,
-    pub(crate) graph: Graph,
+    pub(crate) graph: Boxed<Graph>,
 }
 
-/// The graphs in their order. They lie in the table itself, and none is ever copied.
+/// The graphs in their order. Each lies in a box of its own, and none is ever copied.
 #[derive(Drop)]
 pub(crate) struct Table {
     // A place that is used holds an entry.
@@ -86,7 +87,7 @@ impl Table {
         requires { place < length self.now }
         ensures { result.now ≡ graph_in self.now place }
     {
-        &self.entry(place).graph
+        self.entry(place).graph.get()
     }
 
     /// Where the graph of this name stands.
@@ -97,7 +98,7 @@ impl Table {
     }
 
     /// Puts a graph last.
-    pub(crate) fn push(&mut self, name: Name, graph: Graph)
+    pub(crate) fn push(&mut self, name: Name, graph: Boxed<Graph>)
         requires { length self.old < 64 }
         ensures { self.new ≡ self.old ++ record { name = name; graph = graph } ∷ [] }
     {
@@ -113,7 +114,7 @@ impl Table {
     }
 
     /// Puts a graph at a place, before those that stand from there on.
-    pub(crate) fn insert(&mut self, place: usize, name: Name, graph: Graph)
+    pub(crate) fn insert(&mut self, place: usize, name: Name, graph: Boxed<Graph>)
         requires place { place ≤ length self.old }
         requires few { length self.old < 64 }
         ensures { self.new ≡ insert self.old place (record { name = name; graph = graph }) }
@@ -216,7 +217,7 @@ fn edit_slot(
     ensures { InSlot (Edits edit.now result) slots.old slots.new place }
 {
     match &mut slots[place] {
-        Some(entry) => make_edit(alloc, &mut entry.graph, edit),
+        Some(entry) => make_edit(alloc, &mut entry.graph.inner, edit),
         None => unreachable!(),
     }
 }
@@ -228,7 +229,7 @@ fn revert_slot(slots: &mut [Option<Entry>], place: usize, delta: GraphDelta)
     ensures { slots.new ≡ slot_with_graph slots.old place (reverted (held (slot_in slots.old place)).graph delta) }
 {
     match &mut slots[place] {
-        Some(entry) => entry.graph.revert(delta),
+        Some(entry) => entry.graph.inner.revert(delta),
         None => unreachable!(),
     }
 }
@@ -247,7 +248,7 @@ fn lengthen_slot(
     ensures { InSlot (λ g h. Lengthens spec.now seed generator.old generator.new g h result) slots.old slots.new place }
 {
     match &mut slots[place] {
-        Some(entry) => generator.lengths(alloc, &mut entry.graph, spec, seed),
+        Some(entry) => generator.lengths(alloc, &mut entry.graph.inner, spec, seed),
         None => unreachable!(),
     }
 }
@@ -259,7 +260,7 @@ fn revert_lengths_in_slot(slots: &mut [Option<Entry>], place: usize, delta: Leng
     ensures { slots.new ≡ slot_with_graph slots.old place (before_lengths delta (held (slot_in slots.old place)).graph) }
 {
     match &mut slots[place] {
-        Some(entry) => revert_lengths(&mut entry.graph, delta),
+        Some(entry) => revert_lengths(&mut entry.graph.inner, delta),
         None => unreachable!(),
     }
 }

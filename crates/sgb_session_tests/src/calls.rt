@@ -3,7 +3,7 @@
 use crate::lines::{named, one};
 use sgb_graph::{ArcNo, Graph, Refusal, VertexNo};
 use sgb_script::{Command, Name, ShellRefusal};
-use sgb_session::{Delta, Mark, Reply, Session, SingleDelta, SingleReply, Source};
+use sgb_session::{Boxed, Delta, Mark, Reply, Session, SingleDelta, SingleReply, Source};
 use sgb_undo::Reversible;
 use std::alloc::Global;
 use std::process::Abort;
@@ -105,7 +105,7 @@ fn drops_b(alloc: Global, session: &mut Session, line: &[u8]) -> Result<bool, Fa
 }
 
 fn dropped_b(alloc: Global, name: Name) -> Result<SingleDelta, Refusal> {
-    let graph = graph_b(alloc)?;
+    let graph = Boxed::new(alloc, graph_b(alloc)?)?;
     Ok(SingleDelta::Dropped(1, name, graph))
 }
 

@@ -2,7 +2,7 @@
 ghost use Rattle.std.specs.Prelude.{◌≡◌, ◌≤◌, ◌++◌, ◌∷◌, ◌==◌, ◌&&◌, ◌||◌, [], true, false, List, ℕ, codes, length, take, drop};
 ghost use Rattle.std.specs.List.{list_all, prefix_len};
 ghost use Rattle.std.specs.Str.{bytes_eq};
-ghost use Rattle.sgb_shell.specs.Unit.{takes_text, takes_members, is_end};
+ghost use Rattle.sgb_shell.specs.Unit.{takes_text, takes_members, takes_lines, is_end};
 ghost use Rattle.sgb_shell.specs.Private.Holding.{front_of};
 
 use arrayvec::ArrayVec;
@@ -80,8 +80,14 @@ impl FirstBytes {
         is_load(front(self.bytes.as_slice()))
     }
 
-    /// Whether the line begins a group.
-    pub(crate) fn takes_members(&self) -> bool
+    /// Whether the line takes a text or begins a group.
+    pub(crate) fn takes_lines(&self) -> bool
+        ensures { (line : List ℕ) → self.now ≡ front_of line → result ≡ takes_lines line }
+    {
+        self.takes_text() || self.takes_members()
+    }
+
+    fn takes_members(&self) -> bool
         ensures { (line : List ℕ) → self.now ≡ front_of line → result ≡ takes_members line }
     {
         is_group(self.bytes.as_slice())

@@ -29,8 +29,8 @@ pub use sgb_script::{
     Single, parse,
 };
 pub use sgb_session::{
-    Base, Delta, Entry, MOST_DRAWS, MOST_GRAPHS, MOST_UNIFORM, Mark, Reply, Session, SingleDelta,
-    SingleReply, Source,
+    Base, Boxed, Delta, Entry, MOST_DRAWS, MOST_GRAPHS, MOST_UNIFORM, Mark, Reply, Session,
+    SingleDelta, SingleReply, Source,
 };
 pub use sgb_text::CheckRule;
 pub use status::exit_status;

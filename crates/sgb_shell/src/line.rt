@@ -1,6 +1,6 @@
 //! A line of a script, as it is handed to its unit.
 ghost use Rattle.std.specs.Prelude.{◌≡◌, true, false, List, ℕ, MatchOption};
-ghost use Rattle.sgb_shell.specs.Unit.{takes_text, takes_members, is_dot, is_end};
+ghost use Rattle.sgb_shell.specs.Unit.{takes_text, takes_lines, is_dot, is_end};
 ghost use Rattle.sgb_shell.specs.Private.Holding.{is_above};
 ghost use Rattle.sgb_shell.specs.Private.Line.{IsLine};
 
@@ -26,13 +26,13 @@ impl<'a> ScriptLine<'a> {
         }
     }
 
-    /// Whether the line begins a group.
-    pub(crate) fn takes_members(&self) -> bool
-        ensures { (line : List ℕ) → IsLine line self.now → result ≡ takes_members line }
+    /// Whether other lines belong to the unit of the line.
+    pub(crate) fn takes_lines(&self) -> bool
+        ensures { (line : List ℕ) → IsLine line self.now → result ≡ takes_lines line }
     {
         match self {
-            ScriptLine::Whole(bytes) => FirstBytes::of(bytes).takes_members(),
-            ScriptLine::Long(first) => first.takes_members(),
+            ScriptLine::Whole(bytes) => FirstBytes::of(bytes).takes_lines(),
+            ScriptLine::Long(first) => first.takes_lines(),
         }
     }
 

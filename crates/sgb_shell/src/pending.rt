@@ -1,7 +1,7 @@
 //! A unit of the script that is not finished.
 ghost use Rattle.std.specs.Prelude.{◌≡◌, List, ℕ, true, false};
 ghost use Rattle.sgb_shell.specs.Group.{closes};
-ghost use Rattle.sgb_shell.specs.Unit.{ScriptUnit, opened, with_line, takes_text, takes_members};
+ghost use Rattle.sgb_shell.specs.Unit.{ScriptUnit, opened, with_line, takes_lines};
 ghost use Rattle.sgb_shell.specs.Private.Line.{IsLine};
 ghost use Rattle.sgb_shell.specs.Private.Gathering.{IsGathered, IsRefused, Closes};
 
@@ -30,24 +30,17 @@ pub(crate) enum OpenUnit {
 }
 
 impl Pending {
-    /// The unit that a line begins which takes a text.
-    pub(crate) fn text(alloc: Global, number: u64, line: &ScriptLine<'_>) -> Pending
-        ensures { (l : List ℕ) → IsLine l line.now → takes_text l ≡ true → IsGathered (opened number l) result }
+    /// The unit that a line begins.
+    #[inline(never)]
+    pub(crate) fn new(alloc: Global, number: u64, line: &ScriptLine<'_>) -> Pending
+        ensures { (l : List ℕ) → IsLine l line.now → takes_lines l ≡ true → IsGathered (opened number l) result }
     {
-        Pending {
-            number,
-            unit: OpenUnit::Text(OpenText::new(alloc, line)),
-        }
-    }
-
-    /// The group that a line begins.
-    pub(crate) fn group(alloc: Global, number: u64, line: &ScriptLine<'_>) -> Pending
-        ensures { (l : List ℕ) → IsLine l line.now → takes_text l ≡ false → takes_members l ≡ true → IsGathered (opened number l) result }
-    {
-        Pending {
-            number,
-            unit: OpenUnit::Group(OpenGroup::new(alloc, line)),
-        }
+        let unit = if line.takes_text() {
+            OpenUnit::Text(OpenText::new(alloc, line))
+        } else {
+            OpenUnit::Group(OpenGroup::new(alloc, line))
+        };
+        Pending { number, unit }
     }
 
     /// Whether the line ends the unit.

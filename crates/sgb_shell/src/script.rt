@@ -13,7 +13,7 @@ use std::io::{Read, Write};
 /// The most bytes of a script.
 pub const SCRIPT_LIMIT: usize = 16_777_216;
 
-const CHUNK: usize = 4096;
+const CHUNK: usize = 65_536;
 
 /// How a run ended, with the reader and the writer that it was given.
 #[derive(Debug, Drop)]

@@ -69,12 +69,8 @@ fn begin(
     ensures { (l : List ℕ) → IsLine l line.now → pending.old ≡ None → IsBegun journal.old
         → Settles (unit_by number None l) journal.old journal.new pending.new result }
 {
-    if line.takes_text() {
-        *pending = Some(Pending::text(alloc, number, line));
-        return None;
-    }
-    if line.takes_members() {
-        *pending = Some(Pending::group(alloc, number, line));
+    if line.takes_lines() {
+        *pending = Some(Pending::new(alloc, number, line));
         return None;
     }
     Some((number, answer_line(alloc, journal, line)))

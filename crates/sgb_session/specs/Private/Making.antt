@@ -21,6 +21,7 @@ use Rattle.sgb_session.specs.Edits.{Edited, edited, edit_has_text, edit_takes_me
 use Rattle.sgb_session.specs.Drawing.{Drawing}
 use Rattle.sgb_session.specs.Make.{operands, graph_made, generator_after, kept_of}
 use Rattle.sgb_session.specs.Private.Slots.{held, slot_in, slot_with_graph}
+use Rattle.sgb_session.specs.Source.{turned_back, CanTurnBack}
 use Rattle.sgb_session.specs.State.{State, step, before, can_revert, may_want, refusal_of_making}
 use Rattle.sgb_session.specs.Table.{find, graph_in, has_all, with_graph}
 
@@ -83,6 +84,15 @@ AnswersGraph m made (Err r) = ((r ≡ graphs.NoRoom) × (may_lack m made ≡ tru
 abbrev pub MakesGraph : Drawing → Drawing → List Entry → Maker → Result (GraphOf × SingleDelta) Refusal → Type 0
 MakesGraph old new t m (Ok a) = (graph_made old t m ≡ Ok a.0) × (new ≡ generator_after old m) × (a.1 ≡ kept_of old m)
 MakesGraph old new t m (Err r) = (new ≡ old) × AnswersGraph m (graph_made old t m) (Err r)
+
+-- the generator behind a graph that is not kept
+abbrev pub unmade : SingleDelta → Drawing → Drawing
+unmade (kept.MadeBy source) d = turned_back source d
+unmade k d = d
+
+abbrev pub CanUnmake : SingleDelta → Drawing → Type 0
+CanUnmake (kept.MadeBy source) d = CanTurnBack source d
+CanUnmake k d = Unit {0}
 
 -- a graph that leaves the generator alone
 abbrev pub with_made : Result GraphOf Refusal → Result (GraphOf × SingleDelta) Refusal
