@@ -100,7 +100,7 @@ bench_combine: $(BENCH)/plain_combine
 	python3 bench/compare.py --same --turns 20 $(BENCH)/combine/crates/combine_bench/out/combine_bench $(BENCH)/plain_combine
 
 bench_text: $(BENCH)/plain_text
-	sh bench/build.sh text "sgb_graph sgb_parts sgb_grammar sgb_text" $(BENCH)
+	sh bench/build.sh text "sgb_graph sgb_grammar sgb_text" $(BENCH)
 	python3 bench/compare.py --same --turns 20 $(BENCH)/text/crates/text_bench/out/text_bench $(BENCH)/plain_text
 
 bench_flip: $(BENCH)/plain_flip
