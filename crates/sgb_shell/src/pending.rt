@@ -35,11 +35,11 @@ impl Pending {
     pub(crate) fn new(alloc: Global, number: u64, line: &ScriptLine<'_>) -> Pending
         ensures { (l : List ℕ) → IsLine l line.now → takes_lines l ≡ true → IsGathered (opened number l) result }
     {
-        let unit = if line.takes_text() {
-            OpenUnit::Text(OpenText::new(alloc, line))
-        } else {
-            OpenUnit::Group(OpenGroup::new(alloc, line))
-        };
+        if line.takes_text() {
+            let unit = OpenUnit::Text(OpenText::new(alloc, line));
+            return Pending { number, unit };
+        }
+        let unit = OpenUnit::Group(OpenGroup::new(alloc, line));
         Pending { number, unit }
     }
 
