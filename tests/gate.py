@@ -2,6 +2,7 @@
 """Proves, tests and tells how far it is, one line a crate or part. What the prover says goes to a log.
 
     gate.py prove   proves the program's crates, over what earlier runs kept, and leaves the program as bin/sgb
+    gate.py library proves the crate in this folder alone, for `prove`
     gate.py quick   checks and tests the crates that changed, and those above them, over the same work; no edits
     gate.py test    the merge gate: all proofs and tests from nothing, the edits, and the proved program at work
 """
@@ -103,7 +104,7 @@ def prove_crate(log, crate):
     if crate.makes_rlib() and crate.is_built():
         print('%-12s was proved before' % crate.name, flush=True)
         return True
-    words = ['rt', 'lib'] if crate.makes_rlib() else ['rt', 'run', '--', '--version']
+    words = [sys.executable, os.path.abspath(__file__), 'library'] if crate.makes_rlib() else ['rt', 'run', '--', '--version']
     status, lines, _ = log.call(words, crate.folder)
     counts = re.findall(r'(?m)^logic=proved .*functions=(\d+)', '\n'.join(lines))
     # (what another checkout on this machine proved of the same files is taken over without a count)
@@ -115,12 +116,21 @@ def prove_crate(log, crate):
     return is_proved
 
 
+def library():
+    """Proves the crate in this folder over the libraries below it, which are proved, and leaves its library. `rt lib` does the same, but
+    waits for all other runs over the same libraries."""
+    rtlib.guarded()
+    folder = os.getcwd()
+    crate = next(it for it in rtlib.crates_below(os.path.dirname(os.path.dirname(folder))) if it.folder == folder)
+    return crate.build_rlib(['--jobs', '1'], anew=False)
+
+
 def prove():
-    """Proves the program's crates, two at a time where there is room, and leaves the program where it is run."""
+    """Proves the program's crates, as many at a time as there are processors and memory, and leaves the program where it is run."""
     log = Log('prove')
     program = next(it for it in crates() if it.is_program)
     left, running, proved = [*program.below(), program], {}, set()
-    lanes = 2 if rt.processors() >= 4 and rt.free() > 12_000_000_000 else 1
+    lanes = max(1, min(rt.processors(), rt.free() // MEMORY))
     with ThreadPoolExecutor(lanes) as pool:
         while left or running:
             ready = [it for it in left if proved >= {below.name for below in it.below()}]
@@ -289,7 +299,7 @@ class Gate:
             yield 'program', [sys.executable, 'tests/program.py', PROGRAM]
 
 
-COMMANDS = {'prove': prove, 'quick': quick, 'test': lambda: Gate().run()}
+COMMANDS = {'prove': prove, 'library': library, 'quick': quick, 'test': lambda: Gate().run()}
 
 
 if __name__ == '__main__':
