@@ -2,9 +2,9 @@
 //! reason graphs are handed about with their refusals.
 
 use crate::graphs::{Made, graph_of, insert_arcs, insert_edges};
+use sgb_combine::{LengthsDelta, LengthsSpec, random_lengths, revert_lengths};
 use sgb_flip::Flip;
 use sgb_graph::{ArcNo, Graph, Refusal};
-use sgb_combine::{LengthsDelta, LengthsSpec, random_lengths, revert_lengths};
 use sgb_plan::Seed;
 use std::alloc::Global;
 

@@ -2,9 +2,9 @@
 
 use crate::graphs::{Made, has_id};
 use crate::lengths::graphs::{has_lengths, lengthen, paired};
+use sgb_combine::LengthsSpec;
 use sgb_flip::Flip;
 use sgb_graph::Refusal;
-use sgb_combine::LengthsSpec;
 use sgb_plan::Seed;
 use std::alloc::Global;
 

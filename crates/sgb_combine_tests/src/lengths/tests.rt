@@ -5,9 +5,9 @@ use crate::lengths::graphs::{
     Kept, has_lengths, keeps_id, keeps_lengths, kept, lengthen, lengthen_and_back, mixed, paired,
     without,
 };
+use sgb_combine::LengthsSpec;
 use sgb_flip::Flip;
 use sgb_graph::Refusal;
-use sgb_combine::LengthsSpec;
 use sgb_plan::Seed;
 use std::alloc::Global;
 
