@@ -113,6 +113,10 @@ class Function:
         is_whole = not lines[self.above(lines) - 1].endswith(']')
         return is_whole and not re.search(own_call, body.partition('{')[2]) and '#[cycle' not in attributes
 
+    def tells(self, lines):
+        """Whether it has clauses of its own in place of its trait's: a goal of its own says that they tell what the trait's do."""
+        return bool(self.owner and any(self.owner[1:]) and any('ensures' in it for it in lines[self.head:self.lines[0] + 1]))
+
     def names(self, name, lines):
         """Whether its body names this in these lines of its file."""
         return any(re.search(r'\b%s\b' % name, it) for it in lines[self.lines[0]:self.lines[1] + 1])
@@ -362,7 +366,7 @@ def leave_out(crate, turned, room):
         code, lines = codes[path].split('\n'), rtlib.text_of('%s/%s' % (room, path)).split('\n')
         for it in functions:
             (start, end), above = it.lines, it.above(code)
-            if it.key in turned or end - start < 2 or it.owner and len(it.owner) == 1 or not it.is_alone(code):
+            if it.key in turned or end - start < 2 or it.owner and len(it.owner) == 1 or not it.is_alone(code) or it.tells(lines):
                 continue
             lines[start + 1:end] = [LEFT_OUT] + [''] * (end - start - 2)
             lines[above:it.head] = ['' if 'tactic(' in line else line for line in lines[above:it.head]]
