@@ -9,9 +9,8 @@ use Rattle.sgb_graph.specs.declared.refusal.Refusal.TheVariants.{NoRoom, TooLarg
 use Rattle.sgb_graph.specs.Graph.{n_of}
 use Rattle.sgb_graph.specs.New.{bare_graph}
 use Rattle.sgb_graph.specs.Text.{IsText, is_text_byte}
-use Rattle.sgb_plan.specs.Plan.{Plan, IsMade, with_named}
+use Rattle.sgb_plan.specs.Plan.{Plan, IsMade, with_named, MayAllocate}
 use Rattle.sgb_plan.proofs.Planning.{begun, many_vertices, n-with_named}
-use Rattle.sgb_simplex.specs.Room.{MayWant}
 use Rattle.sgb_binary.specs.Binary.{binary_plan, tree_vertex}
 use Rattle.sgb_binary.specs.Tree.{words, is_low_tree, trees}
 use Rattle.sgb_binary.specs.Private.Code.{IsName}
@@ -60,7 +59,7 @@ refused_trees n most directed (inl none) = inl none
 refused_trees n most directed (inr large) =
     many_vertices (binary_plan n most directed) large.0 (omega (arith, large.1, length-map (trees n most) tree_vertex))
 
-pub may_want : (n most : ℕ) (directed : Bool) (count : ℕ) → (count ≡ length (trees n most)) × (count ≤ 65535) → MayWant (Ok (binary_plan n most directed))
+pub may_want : (n most : ℕ) (directed : Bool) (count : ℕ) → (count ≡ length (trees n most)) × (count ≤ 65535) → MayAllocate (Ok (binary_plan n most directed))
 may_want n most directed count few = omega (arith, few.0, few.1, length-map (trees n most) tree_vertex)
 
 -- the builder with its vertices, from the names in the index

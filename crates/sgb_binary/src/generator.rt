@@ -2,8 +2,7 @@
 ghost use Rattle.std.specs.Prelude.{◌≡◌, ◌≤◌, ◌≤ℤ◌, ◌<◌, pos, unsigned_abs, length, map, All, Ok, IsErrOf};
 ghost use Rattle.sgb_graph.specs.Text.{IsText};
 ghost use Rattle.sgb_binary.specs.Private.Names.{bytes_of};
-ghost use Rattle.sgb_plan.specs.Plan.{IsMade, Names};
-ghost use Rattle.sgb_simplex.specs.Room.{MayWant};
+ghost use Rattle.sgb_plan.specs.Plan.{IsMade, Names, MayAllocate};
 ghost use Rattle.sgb_binary.specs.Binary.{plan_of_binary, binary_plan, is_binary, height_within, tree_vertex};
 
 use crate::BinarySpec;
@@ -24,7 +23,7 @@ use std::alloc::Global;
 /// than 65,535 trees, which takes no memory to tell, or more than 1,000,000 numbers would be given out.
 pub fn binary(alloc: Global, spec: &BinarySpec) -> Result<Graph, Refusal>
     ensures made { IsMade (plan_of_binary spec.now) result }
-    ensures room { IsErrOf result Refusal.NoRoom → MayWant (plan_of_binary spec.now) }
+    ensures room { IsErrOf result Refusal.NoRoom → MayAllocate (plan_of_binary spec.now) }
 {
     if !is_binary(spec) {
         return Err(Refusal::BadSpecs);
@@ -58,7 +57,7 @@ fn height_within(n: u32, height: u64) -> u32
 fn make_graph(alloc: Global, n: u32, most: u32, directed: bool) -> Result<Graph, Refusal>
     requires { n ≤ 100 }
     ensures made { IsMade (Ok (binary_plan n most directed)) result }
-    ensures room { IsErrOf result Refusal.NoRoom → MayWant (Ok (binary_plan n most directed)) }
+    ensures room { IsErrOf result Refusal.NoRoom → MayAllocate (Ok (binary_plan n most directed)) }
 {
     let count = count_trees(n, most)?;
     let id = id_of(

@@ -3,7 +3,7 @@ use Rattle.std.proofs.Common.{◌≡◌, ◌<◌, ◌≤◌, ℕ, ℤ, pos, List
 use Rattle.std.proofs.lemmas.List.FromFn.{fill_by_all, get_or-map-range_with_len, length-map-range_with_len}
 use Rattle.std.specs.List.{range_with_len}
 use Rattle.sgb_graph.specs.Graph.{GraphOf, ArcOf, made_of, arc_at}
-use Rattle.sgb_graph.proofs.Graphs.{same_graph}
+use Rattle.sgb_graph.specs.Private.SameLaws.{same_graph}
 use Rattle.sgb_combine.specs.declared.delta.LengthsDelta.{LengthsDelta}
 use Rattle.sgb_combine.specs.Lengths.{with_length, length_of, lengthened_at, with_lengths, lengths_of, before_lengths, CanRevertLengths}
 

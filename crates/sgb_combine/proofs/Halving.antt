@@ -12,7 +12,7 @@ use Rattle.sgb_graph.proofs.Graphs.{listed_live, one_owner, owner_is}
 use Rattle.sgb_graph.proofs.Halves.{pair_tip, pair_up}
 use Rattle.sgb_graph.proofs.PairedLemmas.{below_all}
 use Rattle.sgb_graph.proofs.TakeOut.{some_entry}
-use Rattle.sgb_operand.specs.Operand.{tip_number}
+use Rattle.sgb_graph.specs.Operand.{tip_number}
 use Rattle.sgb_combine.specs.Drawing.{drawing, drawing_at, is_drawing}
 use Rattle.sgb_combine.proofs.Counting.{occurs_filter, occurs_walk, occurs_halves}
 use Rattle.sgb_combine.proofs.Filled.{drawing_before, drawing_more}

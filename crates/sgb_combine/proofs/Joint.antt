@@ -5,7 +5,7 @@ use Rattle.std.proofs.lemmas.Bool.{cases_Bool, and_parts}
 use Rattle.sgb_graph.specs.Graph.{GraphOf, IsGraph, n_of}
 use Rattle.sgb_graph.specs.Builder.{along, Insertion}
 use Rattle.sgb_graph.specs.declared.spoke.Spoke.{Spoke}
-use Rattle.sgb_operand.specs.Operand.{spokes}
+use Rattle.sgb_graph.specs.Operand.{spokes}
 use Rattle.sgb_combine.specs.Gunion.{is_candidate}
 use Rattle.sgb_combine.specs.Intersection.{firsts, longer, leading_to, joints, intersection_at}
 use Rattle.sgb_combine.specs.Lowest.{lowest, add_or_lower}

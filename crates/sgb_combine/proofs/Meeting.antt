@@ -8,8 +8,8 @@ use Rattle.sgb_graph.specs.Graph.{GraphOf, IsGraph, n_of}
 use Rattle.sgb_graph.specs.Edit.{entry_at}
 use Rattle.sgb_graph.specs.Paired.{walk}
 use Rattle.sgb_graph.specs.declared.spoke.Spoke.{Spoke}
-use Rattle.sgb_operand.specs.Operand.{spoke_of, spokes, IsWithin}
-use Rattle.sgb_operand.proofs.Spokes.{spokes_within}
+use Rattle.sgb_graph.specs.Operand.{spoke_of, spokes, IsWithin}
+use Rattle.sgb_graph.proofs.Spokes.{spokes_within}
 use Rattle.sgb_combine.specs.Combined.{is_upward}
 use Rattle.sgb_combine.specs.Gunion.{candidates, is_candidate}
 use Rattle.sgb_combine.specs.Private.Both.{passing}

@@ -5,8 +5,8 @@ use Rattle.std.proofs.lemmas.List.Elements.{filter-append}
 use Rattle.sgb_graph.specs.Graph.{GraphOf, IsGraph, n_of}
 use Rattle.sgb_graph.specs.Builder.{along, Insertion}
 use Rattle.sgb_graph.specs.declared.spoke.Spoke.{Spoke}
-use Rattle.sgb_operand.specs.Operand.{spokes, IsWithin}
-use Rattle.sgb_operand.proofs.Spokes.{spokes_within}
+use Rattle.sgb_graph.specs.Operand.{spokes, IsWithin}
+use Rattle.sgb_graph.proofs.Spokes.{spokes_within}
 use Rattle.sgb_combine.specs.declared.spec.ProductSpec.{ProductSpec}
 use Rattle.sgb_combine.specs.Combined.{is_upward}
 use Rattle.sgb_combine.specs.Product.{has_single, has_double, pair_number, first_steps, second_steps, both_steps, product_at}

@@ -8,7 +8,7 @@ use Rattle.sgb_graph.specs.Edit.{entry_at}
 use Rattle.sgb_graph.specs.Paired.{walk, without_halves}
 use Rattle.sgb_graph.proofs.Graphs.{no_arcs_past}
 use Rattle.sgb_graph.specs.declared.spoke.Spoke.{Spoke}
-use Rattle.sgb_operand.specs.Operand.{spokes, spoke_of, IsWithin}
+use Rattle.sgb_graph.specs.Operand.{spokes, spoke_of, IsWithin}
 use Rattle.sgb_combine.specs.Gunion.{candidates, is_candidate}
 
 -- the spoke at a place, and what stands where none does

@@ -7,8 +7,8 @@ use Rattle.std.proofs.lemmas.List.{length-append, length-drop, get_or_append_lef
 use Rattle.std.proofs.lemmas.List.Elements.{All-filter}
 use Rattle.sgb_graph.specs.Graph.{GraphOf, IsGraph, n_of}
 use Rattle.sgb_graph.specs.declared.spoke.Spoke.{Spoke}
-use Rattle.sgb_operand.specs.Operand.{spokes, IsWithin}
-use Rattle.sgb_operand.proofs.Spokes.{spokes_within}
+use Rattle.sgb_graph.specs.Operand.{spokes, IsWithin}
+use Rattle.sgb_graph.proofs.Spokes.{spokes_within}
 use Rattle.sgb_combine.specs.declared.spec.ProductSpec.{ProductSpec}
 use Rattle.sgb_combine.specs.Combined.{is_upward}
 use Rattle.sgb_combine.specs.Private.Pruned.{pruned, pruned_at}

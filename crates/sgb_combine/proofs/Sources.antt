@@ -12,7 +12,7 @@ use Rattle.sgb_graph.specs.Paired.{walk, without_halves, is_loop, is_loop_pair, 
 use Rattle.sgb_graph.proofs.Counts.{sum_some, occurs_no, occurs_yes, occurs_more}
 use Rattle.sgb_graph.proofs.Graphs.{owner_is}
 use Rattle.sgb_graph.proofs.Halves.{pair_tip, pair_down}
-use Rattle.sgb_operand.specs.Operand.{tip_number}
+use Rattle.sgb_graph.specs.Operand.{tip_number}
 use Rattle.sgb_combine.specs.Drawing.{drawing, drawing_at, is_drawing, place_in, source_of}
 use Rattle.sgb_combine.specs.Lengths.{refusal_of_arcs}
 use Rattle.sgb_combine.proofs.Filled.{drawing_before, drawing_more}

@@ -6,7 +6,7 @@ use Rattle.std.proofs.lemmas.Bool.{cases_Bool, cases_lt, eqb-true, lt-ltb, le-lt
 use Rattle.std.proofs.lemmas.List.Elements.{All-head, All-tail, filter-append}
 use Rattle.sgb_graph.proofs.Inserting.{flat_map-filter}
 use Rattle.sgb_graph.specs.declared.spoke.Spoke.{Spoke}
-use Rattle.sgb_operand.specs.Operand.{IsWithin}
+use Rattle.sgb_graph.specs.Operand.{IsWithin}
 use Rattle.sgb_combine.specs.Combined.{is_upward}
 use Rattle.sgb_combine.specs.Product.{pair_number, first_steps, second_steps, both_steps}
 use Rattle.sgb_combine.specs.Private.Pruned.{is_above, scaled, double, double_steps, inner, outer, doubles_over}

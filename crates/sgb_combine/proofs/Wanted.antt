@@ -8,7 +8,7 @@ use Rattle.std.proofs.lemmas.Map.Views.{any-filter_same}
 use Rattle.sgb_graph.specs.Builder.{Insertion}
 use Rattle.sgb_graph.proofs.Inserting.{map-filter}
 use Rattle.sgb_graph.specs.declared.spoke.Spoke.{Spoke}
-use Rattle.sgb_operand.specs.Operand.{IsWithin}
+use Rattle.sgb_graph.specs.Operand.{IsWithin}
 use Rattle.sgb_combine.specs.declared.spec.ComplementSpec.{ComplementSpec}
 use Rattle.sgb_combine.specs.Complement.{leads_to, is_wanted, unit_step, wanted_steps}
 use Rattle.sgb_combine.specs.Lowest.{lowest}

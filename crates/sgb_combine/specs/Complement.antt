@@ -5,7 +5,7 @@ use Rattle.sgb_graph.specs.declared.refusal.Refusal.{Refusal}
 use Rattle.sgb_graph.specs.Graph.{GraphOf, n_of}
 use Rattle.sgb_graph.specs.Builder.{Insertion, insertion}
 use Rattle.sgb_graph.specs.declared.spoke.Spoke.{Spoke}
-use Rattle.sgb_operand.specs.Operand.{refusal_of_operand, spokes}
+use Rattle.sgb_graph.specs.Operand.{refusal_of_operand, spokes}
 use Rattle.sgb_plan.specs.Id.{id_of_one, flag_text}
 use Rattle.sgb_plan.specs.Plan.{Plan, plan_unless, no_letters}
 use Rattle.sgb_combine.specs.declared.spec.ComplementSpec.{ComplementSpec}

@@ -5,7 +5,7 @@ use Rattle.sgb_flip.specs.Generator.{Generator}
 use Rattle.sgb_graph.specs.Graph.{GraphOf, n_of}
 use Rattle.sgb_graph.specs.Edit.{entry_at}
 use Rattle.sgb_graph.specs.Paired.{walk}
-use Rattle.sgb_operand.specs.Operand.{tip_number}
+use Rattle.sgb_graph.specs.Operand.{tip_number}
 use Rattle.sgb_plan.specs.Length.{drawn_length}
 
 -- an arc of v's walk draws, but where edges are meant and it leads to an earlier vertex

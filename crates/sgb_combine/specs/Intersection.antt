@@ -6,7 +6,7 @@ use Rattle.sgb_graph.specs.declared.refusal.Refusal.{Refusal}
 use Rattle.sgb_graph.specs.Graph.{GraphOf, n_of}
 use Rattle.sgb_graph.specs.Builder.{along, Insertion}
 use Rattle.sgb_graph.specs.declared.spoke.Spoke.{Spoke}
-use Rattle.sgb_operand.specs.Operand.{spokes}
+use Rattle.sgb_graph.specs.Operand.{spokes}
 use Rattle.sgb_plan.specs.Id.{id_of_two, flag_text}
 use Rattle.sgb_plan.specs.Plan.{Plan, plan_unless, no_letters}
 use Rattle.sgb_combine.specs.Combined.{refusal_of_operands, vertices_of, is_upward}

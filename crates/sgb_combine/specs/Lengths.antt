@@ -8,7 +8,7 @@ use Rattle.sgb_graph.specs.declared.refusal.Refusal.TheVariants.{BadOperand}
 use Rattle.sgb_graph.specs.Edit.{refusal_unless}
 use Rattle.sgb_graph.specs.Graph.{GraphOf, ArcOf, made_of, arc_at}
 use Rattle.sgb_graph.specs.Paired.{is_paired}
-use Rattle.sgb_operand.specs.Operand.{refusal_of_operand}
+use Rattle.sgb_graph.specs.Operand.{refusal_of_operand}
 use Rattle.sgb_plan.specs.declared.part.Seed.{Seed}
 use Rattle.sgb_plan.specs.declared.part.Part.TheVariants.{Number, Count, Flag, Drawn}
 use Rattle.sgb_plan.specs.Id.{id_of_one, part_text}

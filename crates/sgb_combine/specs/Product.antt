@@ -3,6 +3,7 @@ use Rattle.std.specs.Prelude.{◌+◌, ◌*◌, ℕ, ℤ, pos, List, [], ◌∷�
 use Rattle.std.specs.List.{flat_map, filter, list_all, range_with_len}
 use Rattle.std.specs.Fmt.{signed_decimal}
 use Rattle.std.specs.Int.{int_min}
+use Rattle.std.specs.Option.{option_or}
 use Rattle.std.specs.Ordering.{int_eq}
 use Rattle.sgb_graph.specs.declared.refusal.Refusal.{Refusal}
 use Rattle.sgb_graph.specs.declared.refusal.Refusal.TheVariants.{BadSpecs, BadOperand}
@@ -11,11 +12,11 @@ use Rattle.sgb_graph.specs.New.{six_zeros}
 use Rattle.sgb_graph.specs.Edit.{refusal_unless}
 use Rattle.sgb_graph.specs.Builder.{along, Insertion}
 use Rattle.sgb_graph.specs.declared.spoke.Spoke.{Spoke}
-use Rattle.sgb_operand.specs.Operand.{spokes}
+use Rattle.sgb_graph.specs.Operand.{spokes}
 use Rattle.sgb_plan.specs.Id.{id_of_two, flag_text}
 use Rattle.sgb_plan.specs.Plan.{Named, Plan, plan_unless, no_letters}
 use Rattle.sgb_combine.specs.declared.spec.ProductSpec.{ProductSpec}
-use Rattle.sgb_combine.specs.Combined.{first_refusal, refusal_of_operands, is_upward}
+use Rattle.sgb_combine.specs.Combined.{refusal_of_operands, is_upward}
 
 -- 0 is the cartesian product, 1 the direct one, 2 the strong one, which has the arcs of both
 abbrev pub is_kind : ℤ → Bool
@@ -44,7 +45,7 @@ is_short_name v = nat_le (length v.label) 4095
 abbrev pub refusal_of_product : GraphOf → GraphOf → ProductSpec → Option Refusal
 refusal_of_product g h spec =
     refusal_unless (is_kind spec.kind) BadSpecs
-    (first_refusal (refusal_of_operands g h)
+    (option_or (refusal_of_operands g h)
     (refusal_unless (list_all is_short_name (pair_names g h)) BadOperand None))
 
 -- one step: along an arc of a, or else along an arc of b

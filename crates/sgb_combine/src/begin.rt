@@ -1,12 +1,21 @@
 //! The builder that a combination begins with: its id, and vertices that are named as those of a graph.
-ghost use Rattle.std.specs.Prelude.{◌≡◌, ◌≤◌, length};
+ghost use Rattle.std.specs.Prelude.{◌≡◌, ◌≤◌, length, IfErr, OnOk, Some, None};
 ghost use Rattle.sgb_plan.specs.Plan.{Names};
-ghost use Rattle.sgb_combine.specs.Combined.{vertices_of};
+ghost use Rattle.sgb_combine.specs.Combined.{refusal_of_operands, vertices_of};
 ghost use Rattle.sgb_combine.specs.Private.Begin.{Begins};
 
-use sgb_graph::{Builder, Graph, Refusal, Text, Types, VertexNo};
+use sgb_graph::{Builder, Graph, Refusal, Text, Types, VertexNo, check_operand};
 use sgb_plan::label_of;
 use std::alloc::Global;
+
+// Refuses two operands as the first of them that is refused. Does not allocate.
+pub(crate) fn check_operands(first: &Graph, second: &Graph) -> Result<(), Refusal>
+    ensures ok { OnOk result (refusal_of_operands first.now second.now ≡ None) }
+    ensures err { IfErr result (λ e. refusal_of_operands first.now second.now ≡ Some e) }
+{
+    check_operand(first)?;
+    check_operand(second)
+}
 
 // A builder with this id and the vertices of the graph, by their names alone, and with room for so many insertions.
 pub(crate) fn begin_as(

@@ -2,12 +2,11 @@
 ghost use Rattle.std.specs.Prelude.{◌≡◌, ◌<◌, ◌∷◌, ◌++◌, [], All, IsSome, OnOk};
 ghost use Rattle.std.specs.List.{filter};
 ghost use Rattle.sgb_graph.specs.Graph.{n_of, arc_at};
-ghost use Rattle.sgb_operand.specs.Operand.{spokes};
+ghost use Rattle.sgb_graph.specs.Operand.{spokes};
 ghost use Rattle.sgb_combine.specs.Gunion.{is_candidate};
 ghost use Rattle.sgb_combine.specs.Private.Both.{passing};
 
-use sgb_graph::{ArcNo, Graph, VertexNo, Walk};
-use sgb_operand::{Spoke, spoke_at};
+use sgb_graph::{ArcNo, Graph, Spoke, VertexNo, Walk, spoke_at};
 use std::alloc::{AllocError, Global};
 
 // Which spokes are sought: those of this vertex to one of n vertices, and not below it where edges are made.

@@ -7,8 +7,7 @@ ghost use Rattle.sgb_combine.specs.Lengths.{refusal_of_arcs, with_lengths};
 ghost use Rattle.sgb_combine.specs.Private.Table.{drawn_over, written};
 
 use sgb_flip::Flip;
-use sgb_graph::{ArcNo, Graph, VertexNo};
-use sgb_operand::spoke_at;
+use sgb_graph::{ArcNo, Graph, VertexNo, spoke_at};
 use sgb_plan::LengthRange;
 
 // Draws the lengths of the arcs into a table by number, and answers how many draws they took. What the table holds for

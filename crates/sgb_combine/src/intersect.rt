@@ -1,18 +1,17 @@
 //! Intersections.
-ghost use Rattle.std.specs.Prelude.{◌≡◌, ◌<◌, All};
+ghost use Rattle.std.specs.Prelude.{◌≡◌, ◌<◌, All, Ok, IsErrOf};
 ghost use Rattle.std.specs.List.{flat_map, range_with_len};
 ghost use Rattle.sgb_graph.specs.Graph.{n_of};
 ghost use Rattle.sgb_graph.specs.Builder.{Inserts};
-ghost use Rattle.sgb_operand.specs.Operand.{IsWithin};
-ghost use Rattle.sgb_plan.specs.Plan.{IsMade};
-ghost use Rattle.sgb_combine.specs.Intersection.{longer, joints, intersection_at, plan_of_intersection};
+ghost use Rattle.sgb_graph.specs.Operand.{IsWithin};
+ghost use Rattle.sgb_plan.specs.Plan.{IsMade, MayAllocate};
+ghost use Rattle.sgb_combine.specs.Intersection.{longer, joints, intersection_at, intersection_plan, plan_of_intersection};
 
-use crate::begin::{begin_as, room_of};
+use crate::begin::{begin_as, check_operands, room_of};
 use crate::both::Both;
 use crate::lowest::Lowest;
 use crate::run::insert_spoke;
-use sgb_graph::{Builder, Graph, Refusal, VertexNo};
-use sgb_operand::{Spoke, check_operand};
+use sgb_graph::{Builder, Graph, Refusal, Spoke, VertexNo};
 use sgb_plan::{Part, id_of_two};
 use std::alloc::Global;
 
@@ -30,9 +29,22 @@ pub fn intersection(
     directed: bool,
 ) -> Result<Graph, Refusal>
     ensures made { IsMade (plan_of_intersection first.now second.now directed) result }
+    ensures room { IsErrOf result Refusal.NoRoom → MayAllocate (plan_of_intersection first.now second.now directed) }
 {
-    check_operand(first)?;
-    check_operand(second)?;
+    let _ = first.n();
+    check_operands(first, second)?;
+    build_intersection(alloc, first, second, directed)
+}
+
+// The intersection of operands that are not refused.
+fn build_intersection(
+    alloc: Global,
+    first: &Graph,
+    second: &Graph,
+    directed: bool,
+) -> Result<Graph, Refusal>
+    ensures { IsMade (Ok (intersection_plan first.now second.now directed)) result }
+{
     let flags = [Part::Flag(false), Part::Flag(directed)];
     let id = id_of_two(alloc, "intersection", first.id(), second.id(), &flags)?;
     let room = room_of(first, directed).min(room_of(second, directed));

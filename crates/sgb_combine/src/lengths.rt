@@ -23,8 +23,7 @@ use crate::id::lengths_id;
 use crate::prepared::Prepared;
 use crate::{LengthsDelta, LengthsSpec};
 use sgb_flip::Flip;
-use sgb_graph::{Graph, Items, Refusal};
-use sgb_operand::check_operand;
+use sgb_graph::{Graph, Items, Refusal, check_operand};
 use sgb_plan::{LengthRange, Seed};
 use std::alloc::Global;
 

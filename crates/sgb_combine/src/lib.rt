@@ -27,7 +27,7 @@ pub use intersect::intersection;
 pub use lengths::{random_lengths, revert_lengths};
 pub use negate::complement;
 pub use pairs::product;
+pub use sgb_graph::{Spoke, check_operand, read_spokes, spoke_at, spoke_law};
 pub use sgb_induced::{InducedSpec, induced, least_law};
-pub use sgb_operand::{Spoke, check_operand, read_spokes, spoke_at, spoke_law};
 pub use spec::{ComplementSpec, GunionSpec, LengthsSpec, ProductSpec};
 pub use unite::gunion;

@@ -3,7 +3,7 @@ ghost use Rattle.std.specs.Prelude.{◌≡◌};
 ghost use Rattle.sgb_combine.specs.Lowest.{lowered};
 ghost use Rattle.sgb_combine.specs.Private.Targets.{IsMarked};
 
-use sgb_operand::Spoke;
+use sgb_graph::Spoke;
 use std::alloc::{AllocError, Global};
 
 // The spokes that were met, and where the one to a vertex stands among them. A place is of no meaning where no spoke
@@ -17,7 +17,7 @@ pub(crate) struct Lowest {
 
 impl Lowest {
     ghost use Rattle.std.specs.Prelude.{◌≡◌, ◌<◌, ◌∷◌, ◌++◌, [], length, All, OnOk, IfOk};
-    ghost use Rattle.sgb_operand.specs.Operand.{IsWithin};
+    ghost use Rattle.sgb_graph.specs.Operand.{IsWithin};
     ghost use Rattle.sgb_combine.specs.Lowest.{lowest, add_or_lower};
     ghost use Rattle.sgb_combine.specs.Private.Targets.{StandsAt, found};
     ghost use Rattle.sgb_combine.specs.Complement.{leads_to};

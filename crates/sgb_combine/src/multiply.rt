@@ -3,7 +3,7 @@ ghost use Rattle.std.specs.Prelude.{◌≡◌, ◌≤◌, ◌<◌, ◌+◌, ◌*
 ghost use Rattle.std.specs.List.{flat_map, filter, range_with_len};
 ghost use Rattle.sgb_graph.specs.Graph.{n_of};
 ghost use Rattle.sgb_graph.specs.Builder.{along, Inserts};
-ghost use Rattle.sgb_operand.specs.Operand.{IsWithin};
+ghost use Rattle.sgb_graph.specs.Operand.{IsWithin};
 ghost use Rattle.sgb_combine.specs.Product.{has_single, has_double, pair_number, product_at};
 ghost use Rattle.sgb_combine.specs.Private.Rows.{AreRows, row_of};
 ghost use Rattle.sgb_combine.specs.Private.Pruned.{IsRowWithin, is_above, scaled, double, double_steps, inner, outer, singles, doubles, doubles_over, pruned, pruned_at};
@@ -11,8 +11,7 @@ ghost use Rattle.sgb_combine.specs.Private.Pruned.{IsRowWithin, is_above, scaled
 use crate::ProductSpec;
 use crate::rows::Rows;
 use crate::run::{insert_spoke, keep_upward};
-use sgb_graph::{Builder, Graph, Refusal, VertexNo};
-use sgb_operand::{Spoke, read_spokes};
+use sgb_graph::{Builder, Graph, Refusal, Spoke, VertexNo, read_spokes};
 use std::alloc::{AllocError, Global};
 
 pub(crate) fn insert_product(

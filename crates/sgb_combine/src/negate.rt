@@ -1,18 +1,17 @@
 //! Complements.
-ghost use Rattle.std.specs.Prelude.{◌≡◌, ◌<◌, length, map, All, OnOk, true};
+ghost use Rattle.std.specs.Prelude.{◌≡◌, ◌<◌, length, map, All, Ok, OnOk, IsErrOf, true};
 ghost use Rattle.std.specs.List.{flat_map, filter, range_with_len};
 ghost use Rattle.sgb_graph.specs.Graph.{n_of};
 ghost use Rattle.sgb_graph.specs.Builder.{Inserts};
-ghost use Rattle.sgb_operand.specs.Operand.{IsWithin};
-ghost use Rattle.sgb_plan.specs.Plan.{IsMade};
-ghost use Rattle.sgb_combine.specs.Complement.{is_wanted, unit_step, wanted_steps, complement_at, plan_of_complement};
+ghost use Rattle.sgb_graph.specs.Operand.{IsWithin};
+ghost use Rattle.sgb_plan.specs.Plan.{IsMade, MayAllocate};
+ghost use Rattle.sgb_combine.specs.Complement.{is_wanted, unit_step, wanted_steps, complement_at, complement_plan, plan_of_complement};
 ghost use Rattle.sgb_combine.specs.Private.Targets.{IsInOrder};
 
 use crate::ComplementSpec;
 use crate::begin::{begin_as, room_of};
 use crate::lowest::Lowest;
-use sgb_graph::{Builder, Graph, Refusal, VertexNo};
-use sgb_operand::{Spoke, check_operand, read_spokes};
+use sgb_graph::{Builder, Graph, Refusal, Spoke, VertexNo, check_operand, read_spokes};
 use sgb_plan::{Part, id_of_one};
 use std::alloc::{AllocError, Global};
 
@@ -24,17 +23,26 @@ use std::alloc::{AllocError, Global};
 /// give out more than 1,000,000 arc numbers.
 pub fn complement(alloc: Global, graph: &Graph, spec: &ComplementSpec) -> Result<Graph, Refusal>
     ensures made { IsMade (plan_of_complement graph.now spec.now) result }
+    ensures room { IsErrOf result Refusal.NoRoom → MayAllocate (plan_of_complement graph.now spec.now) }
 {
+    let _ = graph.n();
     check_operand(graph)?;
+    build_complement(alloc, graph, *spec)
+}
+
+// The complement of an operand that is not refused.
+fn build_complement(alloc: Global, graph: &Graph, spec: ComplementSpec) -> Result<Graph, Refusal>
+    ensures { IsMade (Ok (complement_plan graph.now spec)) result }
+{
     let flags = [
         Part::Flag(spec.copy),
         Part::Flag(spec.loops),
         Part::Flag(spec.directed),
     ];
     let id = id_of_one(alloc, "complement", graph.id(), &flags)?;
-    let room = room_for(graph, *spec);
+    let room = room_for(graph, spec);
     let mut builder = begin_as(alloc, id, graph, spec.directed, room)?;
-    insert_complement(&mut builder, alloc, graph, *spec)?;
+    insert_complement(&mut builder, alloc, graph, spec)?;
     Ok(builder.finish())
 }
 

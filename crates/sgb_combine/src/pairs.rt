@@ -1,17 +1,16 @@
 //! Products: their refusals, and their vertices.
-ghost use Rattle.std.specs.Prelude.{◌≡◌, ◌≤◌, ◌<◌, IfOk, IfErr, OnOk, Some, None, length, map, IsTrue};
+ghost use Rattle.std.specs.Prelude.{◌≡◌, ◌≤◌, ◌<◌, Ok, IfOk, IfErr, IsErrOf, OnOk, Some, None, length, map, IsTrue};
 ghost use Rattle.std.specs.List.{flat_map, list_all, range_with_len};
 ghost use Rattle.sgb_graph.specs.Graph.{n_of};
-ghost use Rattle.sgb_plan.specs.Plan.{IsMade, Names};
+ghost use Rattle.sgb_plan.specs.Plan.{IsMade, MayAllocate, Names};
 ghost use Rattle.sgb_combine.specs.Product.{is_kind, pair_name, pair_names, is_short_name, refusal_of_product, product_plan, plan_of_product};
 ghost use Rattle.sgb_combine.specs.Private.Begin.{Begins};
 ghost use Rattle.sgb_combine.specs.Private.Pairs.{IsLongest};
 
 use crate::ProductSpec;
-use crate::begin::room_of;
+use crate::begin::{check_operands, room_of};
 use crate::multiply::insert_product;
 use sgb_graph::{Builder, Graph, Label, Refusal, Text, Types, VertexNo};
-use sgb_operand::check_operand;
 use sgb_plan::{Part, id_of_two, label_of};
 use std::alloc::Global;
 
@@ -22,8 +21,8 @@ use std::alloc::Global;
 /// passed over. This is `product` of the GraphBase.
 ///
 /// Refused `BadSpecs` for another kind; then `BadOperand` where an arc of a graph leads to no vertex, or where a pair's
-/// name would have more than 4,095 bytes; then `TooLarge` where there would be more than 65,535 vertices or 1,000,000
-/// arc numbers.
+/// name would have more than 4,095 bytes; then `TooLarge` where there would be more than 65,535 vertices, which takes no
+/// memory to tell, or 1,000,000 arc numbers.
 pub fn product(
     alloc: Global,
     first: &Graph,
@@ -31,11 +30,28 @@ pub fn product(
     spec: &ProductSpec,
 ) -> Result<Graph, Refusal>
     ensures made { IsMade (plan_of_product first.now second.now spec.now) result }
+    ensures room { IsErrOf result Refusal.NoRoom → MayAllocate (plan_of_product first.now second.now spec.now) }
 {
     check_product(first, second, *spec)?;
-    let id = id_of_product(alloc, first, second, *spec)?;
-    let mut builder = begin_pairs(alloc, id, first, second, *spec)?;
-    insert_product(&mut builder, alloc, first, second, *spec)?;
+    if u64::from(first.n()) * u64::from(second.n()) > 65_535 {
+        return Err(Refusal::TooLarge);
+    }
+    build_product(alloc, first, second, *spec)
+}
+
+// The product of operands that are not refused, where the names of the pairs are short.
+fn build_product(
+    alloc: Global,
+    first: &Graph,
+    second: &Graph,
+    spec: ProductSpec,
+) -> Result<Graph, Refusal>
+    requires { IsTrue (list_all is_short_name (pair_names first.now second.now)) }
+    ensures { IsMade (Ok (product_plan first.now second.now spec)) result }
+{
+    let id = id_of_product(alloc, first, second, spec)?;
+    let mut builder = begin_pairs(alloc, id, first, second, spec)?;
+    insert_product(&mut builder, alloc, first, second, spec)?;
     Ok(builder.finish())
 }
 
@@ -61,8 +77,7 @@ fn check_product(first: &Graph, second: &Graph, spec: ProductSpec) -> Result<(),
     if !is_kind(spec) {
         return Err(Refusal::BadSpecs);
     }
-    check_operand(first)?;
-    check_operand(second)?;
+    check_operands(first, second)?;
     if !are_names_short(first, second) {
         return Err(Refusal::BadOperand);
     }

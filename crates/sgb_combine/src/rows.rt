@@ -5,8 +5,7 @@ ghost use Rattle.sgb_graph.specs.Graph.{n_of};
 ghost use Rattle.sgb_combine.specs.Private.Rows.{AreRows, row_of};
 
 use crate::run::keep_upward;
-use sgb_graph::{Graph, VertexNo};
-use sgb_operand::{Spoke, read_spokes};
+use sgb_graph::{Graph, Spoke, VertexNo, read_spokes};
 use std::alloc::{AllocError, Global};
 
 #[derive(Drop)]

@@ -1,18 +1,18 @@
 //! Unions.
-ghost use Rattle.std.specs.Prelude.{◌≡◌, ◌<◌, length, map, All, OnOk};
+ghost use Rattle.std.specs.Prelude.{◌≡◌, ◌<◌, length, map, All, Ok, OnOk, IsErrOf};
 ghost use Rattle.std.specs.List.{flat_map, range_with_len};
 ghost use Rattle.sgb_graph.specs.Graph.{n_of};
 ghost use Rattle.sgb_graph.specs.Builder.{along, Inserts};
-ghost use Rattle.sgb_operand.specs.Operand.{IsWithin};
-ghost use Rattle.sgb_plan.specs.Plan.{IsMade};
-ghost use Rattle.sgb_combine.specs.Gunion.{candidates, run_of, union_at, plan_of_gunion};
+ghost use Rattle.sgb_graph.specs.Operand.{IsWithin};
+ghost use Rattle.sgb_plan.specs.Plan.{IsMade, MayAllocate};
+ghost use Rattle.sgb_combine.specs.Gunion.{candidates, run_of, union_at, gunion_plan, plan_of_gunion};
 
 use crate::GunionSpec;
-use crate::begin::{begin_as, room_of};
+use crate::begin::{begin_as, check_operands, room_of};
 use crate::both::Both;
 use crate::lowest::Lowest;
-use sgb_graph::{Builder, Graph, Refusal, VertexNo};
-use sgb_operand::{Spoke, check_operand};
+use crate::run::insert_spokes;
+use sgb_graph::{Builder, Graph, Refusal, Spoke, VertexNo};
 use sgb_plan::{Part, id_of_two};
 use std::alloc::{AllocError, Global};
 
@@ -30,14 +30,27 @@ pub fn gunion(
     spec: &GunionSpec,
 ) -> Result<Graph, Refusal>
     ensures made { IsMade (plan_of_gunion first.now second.now spec.now) result }
+    ensures room { IsErrOf result Refusal.NoRoom → MayAllocate (plan_of_gunion first.now second.now spec.now) }
 {
-    check_operand(first)?;
-    check_operand(second)?;
+    let _ = first.n();
+    check_operands(first, second)?;
+    build_union(alloc, first, second, *spec)
+}
+
+// The union of operands that are not refused.
+fn build_union(
+    alloc: Global,
+    first: &Graph,
+    second: &Graph,
+    spec: GunionSpec,
+) -> Result<Graph, Refusal>
+    ensures { IsMade (Ok (gunion_plan first.now second.now spec)) result }
+{
     let flags = [Part::Flag(spec.multi), Part::Flag(spec.directed)];
     let id = id_of_two(alloc, "gunion", first.id(), second.id(), &flags)?;
     let room = room_for(first, second, spec.directed);
     let mut builder = begin_as(alloc, id, first, spec.directed, room)?;
-    insert_unions(&mut builder, alloc, first, second, *spec)?;
+    insert_unions(&mut builder, alloc, first, second, spec)?;
     Ok(builder.finish())
 }
 
@@ -103,8 +116,8 @@ fn insert_run(
     ensures width { length lowest.new.places.items ≡ length lowest.old.places.items }
 {
     if multi {
-        return builder.insert_along(vertex, candidates);
+        return insert_spokes(builder, vertex, candidates);
     }
     lowest.keep(candidates)?;
-    builder.insert_along(vertex, lowest.spokes())
+    insert_spokes(builder, vertex, lowest.spokes())
 }

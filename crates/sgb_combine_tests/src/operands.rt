@@ -1,8 +1,7 @@
 //! Operands: their spokes, and the refusal of one that leads nowhere.
 
 use crate::graphs::{Made, first, leading_to};
-use sgb_graph::{Graph, Refusal, Tip, VertexNo};
-use sgb_operand::{Spoke, check_operand, read_spokes};
+use sgb_graph::{Graph, Refusal, Spoke, Tip, VertexNo, check_operand, read_spokes};
 use std::alloc::{AllocError, Global};
 
 // How many spokes vertex 1 has, and its first one.

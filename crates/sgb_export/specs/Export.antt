@@ -5,7 +5,7 @@ use Rattle.sgb_graph.specs.declared.refusal.Refusal.{Refusal}
 use Rattle.sgb_graph.specs.declared.refusal.Refusal.TheVariants.{NoRoom, BadOperand}
 use Rattle.sgb_graph.specs.Graph.{GraphOf}
 use Rattle.sgb_graph.specs.Edit.{refusal_unless}
-use Rattle.sgb_operand.specs.Operand.{refusal_of_operand}
+use Rattle.sgb_graph.specs.Operand.{refusal_of_operand}
 use Rattle.sgb_print.specs.Meter.{WriterUse}
 use Rattle.sgb_print.specs.Print.{Prints}
 use Rattle.sgb_export.specs.declared.fault.ExportFault.{ExportFault}

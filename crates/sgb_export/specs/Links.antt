@@ -5,7 +5,7 @@ use Rattle.std.specs.Ordering.{int_eq}
 use Rattle.sgb_graph.specs.Graph.{GraphOf, ArcOf, n_of, arc_at}
 use Rattle.sgb_graph.specs.Edit.{entry_at}
 use Rattle.sgb_graph.specs.Paired.{walk, is_paired}
-use Rattle.sgb_operand.specs.Operand.{tip_number}
+use Rattle.sgb_graph.specs.Operand.{tip_number}
 use Rattle.sgb_export.specs.declared.link.Link.{Link}
 
 -- arc k of v's list: where it leads from and to, and its length

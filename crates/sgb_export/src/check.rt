@@ -6,8 +6,7 @@ ghost use Rattle.sgb_export.specs.Export.{refusal_of_export, refusal_of_names, M
 
 use crate::Format;
 use crate::names::{are_distinct, are_plain};
-use sgb_graph::{Graph, Refusal};
-use sgb_operand::check_operand;
+use sgb_graph::{Graph, Refusal, check_operand};
 use std::alloc::Global;
 
 /// Refuses a graph that has no text in this format with `BadOperand`: if an arc leads to no vertex, and for

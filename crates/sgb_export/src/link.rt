@@ -1,7 +1,7 @@
 //! Edges and arcs as they are written.
 ghost use Rattle.std.specs.Prelude.{◌≡◌, ◌<◌, IsSome};
 ghost use Rattle.sgb_graph.specs.Graph.{n_of, made_of, arc_at};
-ghost use Rattle.sgb_operand.specs.Operand.{tip_number};
+ghost use Rattle.sgb_graph.specs.Operand.{tip_number};
 ghost use Rattle.sgb_export.specs.Links.{link, is_written};
 
 use sgb_graph::{ArcNo, Graph, Tip, VertexNo};

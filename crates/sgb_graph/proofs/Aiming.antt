@@ -6,7 +6,7 @@ use Rattle.std.proofs.lemmas.List.{length-set}
 use Rattle.std.proofs.lemmas.List.Sums.{sum_by-set}
 use Rattle.sgb_graph.specs.declared.graph.arena.Slot.{Slot}
 use Rattle.sgb_graph.specs.declared.graph.Graph.TheInside.{Inside}
-use Rattle.sgb_graph.specs.Graph.{GraphOf, ArcOf, IsGraph, IsArc, n_of, made_of, arcs_of, arc_at, has_arc, occurrences, names_in, names_in_entry, names_of}
+use Rattle.sgb_graph.specs.Graph.{GraphOf, ArcOf, IsGraph, IsArc, n_of, made_of, arcs_of, arc_at, has_arc, occurrences, names_in, names_in_entry, names_of, IsTip}
 use Rattle.sgb_graph.specs.Edit.{entry_at, arc_or, no_arc}
 use Rattle.sgb_graph.specs.Private.Arena.{Shows, IsArena, graph_of, slot_at, next_of, next_at, entry_of, owner_in, names_counted}
 use Rattle.sgb_graph.proofs.Chains.{Leads-agree}
@@ -17,10 +17,7 @@ use Rattle.sgb_graph.proofs.Shows.{Opened, opened, closed, closed_arena}
 use Rattle.sgb_graph.proofs.TakeOut.{some_entry}
 use Rattle.sgb_graph.specs.declared.field.Tip.{Tip}
 use Rattle.sgb_graph.specs.declared.field.Tip.TheVariants as tips
-use Rattle.sgb_graph.specs.Private.Aim.{can_lead}
-use Rattle.sgb_graph.specs.Private.Fill.{SameNames}
-use Rattle.sgb_graph.specs.Private.Aim.{with_aim, with_aim_in}
-use Rattle.sgb_graph.specs.Graph.{IsTip}
+use Rattle.sgb_graph.specs.Private.Fill.{can_lead, SameNames, with_aim, with_aim_in}
 
 aim_blind_next : (t : Tip) (z : ℤ) (o : Option Slot) → next_of (with_aim_in t z o) ≡ next_of o
 aim_blind_next t z None = refl

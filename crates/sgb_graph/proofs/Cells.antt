@@ -1,21 +1,21 @@
 -- Lemmas on slots that are kept as cells and fields.
-use Rattle.std.proofs.Common.{◌≡◌, ◌≢◌, ◌<◌, ◌≤◌, ◌+◌, ◌-◌, ℕ, zero, suc, ℤ, pos, List, [], ◌∷◌, ◌++◌, length, get_or, set, take, Option, Some, None, is_some, IsSome, Bool, true, false, ◌&&◌, refl, sym, ap, ◌∙◌, arith, inl, inr, zip}
+use Rattle.std.proofs.Common.{◌≡◌, ℕ, List, [], ◌∷◌, map, take, drop, Some, None, Bool, ◌&&◌, refl, sym, ap, ◌∙◌, Option, ◌≢◌, ◌<◌, ◌≤◌, zero, suc, pos, ◌++◌, length, get_or, set, is_some, IsSome, true, arith, inl, inr, zip}
 use Rattle.std.specs.List.{list_all}
-use Rattle.std.specs.Prelude.{◌==◌}
-use Rattle.std.proofs.lemmas.Bool.{cases_lt, false≢true, and_from, eq-eqb}
-use Rattle.std.proofs.lemmas.List.{get_or-set_same, get_or-set_other, get_or_past, set-get_or}
-use Rattle.sgb_graph.specs.declared.field.ArcNo.{ArcNo}
-use Rattle.sgb_graph.specs.declared.field.Tip.TheVariants as tips
+use Rattle.std.proofs.lemmas.List.{drop-drop, get_or_past, set-get_or}
+use Rattle.sgb_graph.specs.declared.graph.Vertex.{Vertex}
+use Rattle.sgb_graph.specs.declared.graph.Graph.TheInside.{Inside}
+use Rattle.sgb_graph.specs.Graph.{GraphOf}
+use Rattle.sgb_graph.specs.Private.Arena.{Slots, graph_of, vertex_of, entry_of, slot_at}
+use Rattle.sgb_graph.specs.Private.Exchange.{fields_in, with_field}
+use Rattle.sgb_graph.specs.Honest.{are_allowed, vertex_letters, arc_letters, graph_letters, is_honest_vertex, is_honest_entry, is_honest}
 use Rattle.sgb_graph.specs.declared.field.VertexNo.{VertexNo}
 use Rattle.sgb_graph.specs.declared.field.Util.{Util}
 use Rattle.sgb_graph.specs.declared.graph.arena.Cell.{Cell}
 use Rattle.sgb_graph.specs.declared.graph.arena.Slot.{Slot}
-use Rattle.sgb_graph.specs.Honest.{are_allowed}
-use Rattle.sgb_graph.specs.Private.Arena.{Slots, slot_at, with_len_in}
-use Rattle.sgb_graph.specs.Private.Cells.{two_zeros, slot_owned, slot_with, zipped, kept_at, SameFields, PutsFields, owned_allowed}
-use Rattle.sgb_graph.specs.Private.Exchange.{fields_in, with_field}
-use Rattle.sgb_graph.specs.Private.Link.{with_next, named_more, named_less}
-use Rattle.sgb_graph.specs.Private.SameRows.{each_eq, slot_eq}
+use Rattle.sgb_graph.specs.Read.{leads_on}
+use Rattle.sgb_graph.specs.Private.Cells.{two_zeros, slot_owned, slot_with, zipped, owned_aimed, is_aimed, kept_at, SameFields, PutsFields, owned_allowed}
+use Rattle.std.proofs.lemmas.Bool.{cases_lt, false≢true}
+use Rattle.sgb_graph.specs.declared.field.Tip.TheVariants as tips
 
 -- what a slot says is said by its cell
 pub owned_some : (us : List Util) (c : Cell) (v : VertexNo) → c.owner ≡ Some v → slot_with us c ≡ slot_owned (Some v) us c
@@ -96,13 +96,13 @@ zipped-step : (c : Cell) (cs : List Cell) (fs : List (List Util)) → zipped (c 
 zipped-step c cs [] = refl
 zipped-step c cs (us ∷ fs) = refl
 
-cons_two : {X : Type 0} (x y : X) (xs ys : List X) → x ≡ y → xs ≡ ys → (x ∷ xs) ≡ (y ∷ ys)
+pub cons_two : {X : Type 0} (x y : X) (xs ys : List X) → x ≡ y → xs ≡ ys → (x ∷ xs) ≡ (y ∷ ys)
 cons_two x y xs ys one all = ap (λ z. z ∷ xs) one ∙ ap (λ zs. y ∷ zs) all
 
-suc_not : (j : ℕ) → suc j ≢ 0
+pub suc_not : (j : ℕ) → suc j ≢ 0
 suc_not j e = absurd (omega (arith, e))
 
-suc_ne : (j k : ℕ) → j ≢ k → suc j ≢ suc k
+pub suc_ne : (j k : ℕ) → j ≢ k → suc j ≢ suc k
 suc_ne j k ne e = ne (omega (arith, e))
 
 -- fields that are the same are seen as the same
@@ -216,40 +216,45 @@ slot_pushed cs ds es fs gs now c s view few ds_is gs_is es_is is =
     ∙ (zipped-push cs fs c few
     ∙ (ap (λ l. l ++ slot_with two_zeros c ∷ []) view ∙ ap (λ o. now ++ o ∷ []) is)))
 
--- slots compared one by one
-and_no : (b : Bool) → (b && false) ≡ false
-and_no true = refl
-and_no false = refl
+-- the slot is a hole, or its arc leads to a vertex
+abbrev pub slot_aimed : Option Slot → Bool
+slot_aimed o = leads_on (entry_of o)
 
-abbrev pub SameBelow : Slots → Slots → ℕ → Type 0
-SameBelow ss ts i = (j : ℕ) → j < i → slot_eq (slot_at ss j) (slot_at ts j) ≡ true
+owned : (o : Option VertexNo) (us : List Util) (c : Cell) → slot_aimed (slot_owned o us c) ≡ owned_aimed o c.tip
+owned None us c = refl
+owned (Some v) us c = refl
 
-pub same_more : (ss ts : Slots) (i : ℕ) → SameBelow ss ts i → slot_eq (slot_at ss i) (slot_at ts i) ≡ true → SameBelow ss ts (i + 1)
-same_more ss ts i below here j low =
-    elim (cases_lt j i) [
-      | inl h ↦ below j h
-      | inr h ↦
-          let same : j ≡ i = omega (arith, low, h) in
-          ap (λ k. slot_eq (slot_at ss k) (slot_at ts k)) same ∙ here
-    ]
+-- of the slots as of the cells
+pub zipped-aimed : (cs : List Cell) (fs : List (List Util)) → list_all slot_aimed (zipped cs fs) ≡ list_all is_aimed cs
+zipped-aimed [] fs = refl
+zipped-aimed (c ∷ cs) [] = ap (λ b. slot_aimed (slot_with two_zeros c) && b) (zipped-aimed cs []) ∙ ap (λ b. b && list_all is_aimed cs) (owned c.owner _ c)
+zipped-aimed (c ∷ cs) (us ∷ fs) = ap (λ b. slot_aimed (slot_with us c) && b) (zipped-aimed cs fs) ∙ ap (λ b. b && list_all is_aimed cs) (owned c.owner us c)
 
-all_same : (ss ts : Slots) → length ss ≡ length ts → SameBelow ss ts (length ss) → list_all (λ p. slot_eq p.0 p.1) (zip ss ts) ≡ true
-all_same [] ts many below = refl
-all_same (s ∷ ss) [] many below = absurd (omega (arith, many))
-all_same (s ∷ ss) (t ∷ ts) many below =
-    and_from (slot_eq s t) (list_all (λ p. slot_eq p.0 p.1) (zip ss ts)) (below 0 (omega arith))
-    (all_same ss ts (omega (arith, many)) (λ j low. below (suc j) (omega (arith, low))))
+vertices_honest : (types : List ℕ) (ss : Slots) (vs : List Vertex) → list_all (is_honest_vertex types) (map (vertex_of ss) vs) ≡ list_all (λ v. are_allowed (vertex_letters types) v.fields) vs
+vertices_honest types ss [] = refl
+vertices_honest types ss (v ∷ vs) = ap (λ b. are_allowed (vertex_letters types) v.fields && b) (vertices_honest types ss vs)
 
-one_differs : (ss ts : Slots) (i : ℕ) → i < length ss → i < length ts → slot_eq (slot_at ss i) (slot_at ts i) ≡ false → list_all (λ p. slot_eq p.0 p.1) (zip ss ts) ≡ false
-one_differs [] ts i low low' differs = absurd (omega (arith, low))
-one_differs (s ∷ ss) [] i low low' differs = absurd (omega (arith, low'))
-one_differs (s ∷ ss) (t ∷ ts) zero low low' differs = ap (λ b. b && list_all (λ p. slot_eq p.0 p.1) (zip ss ts)) differs
-one_differs (s ∷ ss) (t ∷ ts) (suc i) low low' differs =
-    ap (λ b. slot_eq s t && b) (one_differs ss ts i (omega (arith, low)) (omega (arith, low')) differs) ∙ and_no (slot_eq s t)
+entries_honest : (types : List ℕ) (ss : Slots) → list_all (is_honest_entry types) (map entry_of ss) ≡ list_all (λ o. are_allowed (arc_letters types) (fields_in o)) ss
+entries_honest types [] = refl
+entries_honest types (None ∷ ss) = entries_honest types ss
+entries_honest types (Some s ∷ ss) = ap (λ b. are_allowed (arc_letters types) s.fields && b) (entries_honest types ss)
 
-pub slots_same : (ss ts : Slots) → length ss ≡ length ts → SameBelow ss ts (length ss) → each_eq slot_eq ss ts ≡ true
-slots_same ss ts many below =
-    and_from (length ss == length ts) (list_all (λ p. slot_eq p.0 p.1) (zip ss ts)) (eq-eqb (length ss) (length ts) many) (all_same ss ts many below)
-
-pub slots_differ : (ss ts : Slots) (i : ℕ) → i < length ss → i < length ts → slot_eq (slot_at ss i) (slot_at ts i) ≡ false → each_eq slot_eq ss ts ≡ false
-slots_differ ss ts i low low' differs = ap (λ b. (length ss == length ts) && b) (one_differs ss ts i low low' differs) ∙ and_no (length ss == length ts)
+pub honest_is : (a : Inside) (g : GraphOf) (letters rest us vs ws : List ℕ) (vertices : List Vertex) (ss : Slots) (x y z : Bool) → graph_of a ≡ g
+    → letters ≡ a.types → us ≡ take 6 letters → rest ≡ drop 6 letters → vs ≡ take 2 rest → ws ≡ drop 2 rest → vertices ≡ a.vertices → ss ≡ a.slots
+    → x ≡ are_allowed ws a.fields → y ≡ list_all (λ v. are_allowed us v.fields) vertices → z ≡ list_all (λ o. are_allowed vs (fields_in o)) ss
+    → (x && y && z) ≡ is_honest g
+honest_is a g letters rest us vs ws vertices ss x y z same ls us_is rest_is vs_is ws_is vertices_is ss_is x_is y_is z_is =
+    let t = a.types in
+    let u : us ≡ vertex_letters t = us_is ∙ ap (take 6) ls in
+    let r : rest ≡ drop 6 t = rest_is ∙ ap (drop 6) ls in
+    let v : vs ≡ arc_letters t = vs_is ∙ ap (take 2) r in
+    let w : ws ≡ graph_letters t = ws_is ∙ (ap (drop 2) r ∙ drop-drop 2 6 t) in
+    let one : x ≡ are_allowed (graph_letters t) a.fields = x_is ∙ ap (λ l. are_allowed l a.fields) w in
+    let two : y ≡ list_all (is_honest_vertex t) (map (vertex_of a.slots) a.vertices) =
+    y_is ∙ (ap (λ l. list_all (λ q. are_allowed l q.fields) vertices) u ∙ (ap (list_all (λ q. are_allowed (vertex_letters t) q.fields)) vertices_is ∙ sym (vertices_honest t a.slots a.vertices))) in
+    let three : z ≡ list_all (is_honest_entry t) (map entry_of a.slots) =
+    z_is ∙ (ap (λ l. list_all (λ o. are_allowed l (fields_in o)) ss) v ∙ (ap (list_all (λ o. are_allowed (arc_letters t) (fields_in o))) ss_is ∙ sym (entries_honest t a.slots))) in
+    ap (λ b. b && y && z) one
+    ∙ (ap (λ b. are_allowed (graph_letters t) a.fields && b && z) two
+    ∙ (ap (λ b. are_allowed (graph_letters t) a.fields && list_all (is_honest_vertex t) (map (vertex_of a.slots) a.vertices) && b) three
+    ∙ ap is_honest same))

@@ -1,17 +1,15 @@
 -- Lemmas on chains of records, and on what is laid of them.
-use Rattle.std.proofs.Common.{◌≡◌, ◌≢◌, ◌<◌, ◌≤◌, ◌+◌, ℕ, zero, suc, List, [], ◌∷◌, ◌++◌, length, get_or, Option, Some, None, is_some, All, true, false, refl, sym, ap, subst, ◌∙◌, arith, cond, inl, inr, ◌==◌, option_map, slice_get, min}
-use Rattle.std.proofs.Common.{rules}
-use Rattle.std.proofs.lemmas.Bool.{cases_Bool, cases_order, cases_eq, cases_lt}
+use Rattle.std.proofs.Common.{◌≡◌, ◌≢◌, ◌<◌, ◌≤◌, ◌+◌, ℕ, zero, suc, List, [], ◌∷◌, ◌++◌, length, get_or, Option, Some, None, is_some, All, true, false, refl, sym, ap, subst, ◌∙◌, arith, cond, inl, inr, ◌==◌, option_map, slice_get, min, rules}
+use Rattle.std.proofs.lemmas.Bool.{cases_Bool, cases_order, cases_lt}
 use Rattle.std.proofs.Math.Nat.{min-eq_left, min-eq_right}
 use Rattle.std.proofs.lemmas.List.{get_or_at, length_push, get_or_default, length-map}
 use Rattle.std.proofs.lemmas.List.Sums.{sum_by-append}
 use Rattle.sgb_graph.specs.declared.field.ArcNo.{ArcNo}
 use Rattle.sgb_graph.specs.declared.field.VertexNo.{VertexNo}
-use Rattle.sgb_graph.specs.declared.field.Util.TheVariants as utils
 use Rattle.sgb_graph.specs.declared.parts.ArcPart.{ArcPart}
 use Rattle.sgb_graph.specs.declared.parts.VertexPart.{VertexPart}
 use Rattle.sgb_graph.specs.Chain.{Leads}
-use Rattle.sgb_graph.specs.Graph.{GraphOf, ArcOf, IsGraph, IsValue, n_of, made_of, no_vertex, arcs_of, arc_at, has_arc, occurrences, listings}
+use Rattle.sgb_graph.specs.Graph.{GraphOf, ArcOf, IsGraph, n_of, made_of, no_vertex, arcs_of, arc_at, has_arc, occurrences, listings}
 use Rattle.sgb_graph.specs.Edit.{with_cut_arc}
 use Rattle.sgb_graph.specs.Private.Link.{CanPutBack, number_before}
 use Rattle.sgb_graph.specs.Parts.{vertex_part, next_part}
@@ -20,11 +18,11 @@ use Rattle.sgb_graph.specs.declared.refusal.Refusal.TheVariants.{BadOperand}
 use Rattle.sgb_graph.specs.Private.Lay.{RefusesToLay, links_of, kept_link, kept_links, link_at, last_number, Lays, Laying, LayingAt, laid_arc}
 use Rattle.sgb_graph.specs.Field.{arc_no}
 use Rattle.sgb_graph.specs.Private.Fill.{SameNames}
+use Rattle.sgb_graph.proofs.Holes.{zero_value}
 use Rattle.sgb_graph.proofs.Chains.{chain_is, Leads-agree}
 use Rattle.sgb_graph.proofs.Counts.{occurs_yes, sum_some}
 use Rattle.sgb_graph.proofs.Graphs.{listed_live, one_owner, arcs_live}
-use Rattle.sgb_graph.proofs.PutBack.{put_n, put_made, put_vertex_same, put_vertex_other}
-use Rattle.sgb_graph.proofs.ShowsPut.{get_within}
+use Rattle.sgb_graph.proofs.ShowsPut.{put_n, put_made, put_vertex_same, put_vertex_other, get_within}
 use Rattle.std.proofs.lemmas.List.Edits.{insert_end}
 
 -- one number more
@@ -208,11 +206,6 @@ hole_at : (o : Option ArcOf) → is_some o ≡ false → o ≡ None
 hole_at None h = refl
 hole_at (Some e) h = absurd cc
 
-zero_values : (n : ℕ) (es : List (Option ArcOf)) → All (IsValue n es) (utils.Zero ∷ utils.Zero ∷ [])
-zero_values n es zero d h = tt
-zero_values n es (suc zero) d h = tt
-zero_values n es (suc (suc i)) d h = absurd (omega arith)
-
 pub laid_can : (g : GraphOf) (k : ArcNo) (v : VertexNo) → has_arc g k.0 ≡ false → k.0 < made_of g → v.0 < n_of g → CanPutBack g (laid_arc g k v)
 laid_can g k v hole made owner =
     record {
@@ -220,7 +213,7 @@ laid_can g k v hole made owner =
       made = made;
       owner = owner;
       place = omega arith;
-      arc = record { tip = tt; len = search rules; two = refl; values = zero_values (n_of g) g.entries };
+      arc = record { tip = tt; len = search rules; two = refl; values = zero_value (n_of g) g.entries };
     }
 
 -- the last number, once it is added

@@ -58,28 +58,6 @@ linked_step ss k l =
       live = live 0 0 (omega arith);
     }
 
--- what an iterator over these links gives next
-pub record Gives (ss : Slots) (link : Option ArcNo) (now : List ℕ) (k : ArcNo) : Type 0 where
-  pub steps : now ≡ k.0 ∷ numbers ss link
-  pub linked : IsLinked ss link
-  pub live : IsSome (slot_at ss k.0)
-  pub shorter : length (numbers ss link) < length now
-
-pub gives_next : (ss : Slots) (link : Option ArcNo) (now : List ℕ) (k : ArcNo) (after : Option ArcNo) → IsLinked ss link → link ≡ Some k → numbers ss link ≡ now → after ≡ next_at ss k.0 → Gives ss after now k
-gives_next ss link now k after linked is same follows =
-    let s : LinkedStep ss k = linked_step ss k (subst (IsLinked ss) is linked) in
-    let steps : now ≡ k.0 ∷ numbers ss after =
-    sym same ∙ (ap (numbers ss) is ∙ (s.numbers ∙ ap (λ l. k.0 ∷ numbers ss l) (sym follows))) in
-    record {
-      steps = steps;
-      linked = subst (IsLinked ss) (sym follows) s.linked;
-      live = s.live;
-      shorter = rw steps (omega arith);
-    }
-
-pub gives_none : (ss : Slots) (link : Option ArcNo) (now : List ℕ) → link ≡ None → numbers ss link ≡ now → now ≡ []
-gives_none ss link now is same = sym same ∙ (ap (numbers ss) is ∙ chain-none (next_at ss) (length ss))
-
 -- links that agree at the numbers of a list lead along it alike
 pub Leads-agree : (next after : ℕ → Option ArcNo) (link : Option ArcNo) (ks : List ℕ) (last : Option ArcNo) → ((j : ℕ) → 0 < occurrences j ks → after j ≡ next j) → Leads next link ks last → Leads after link ks last
 unfolding Leads

@@ -1,39 +1,28 @@
 -- Lemmas on what cutting an arc, and undoing an edit, leave of the fields.
-use Rattle.std.proofs.Common.{◌≡◌, ◌<◌, ◌≤◌, ◌+◌, ◌-◌, ℕ, List, length, get_or, take, Option, Some, None, is_some, true, false, ◌&&◌, ◌==◌, nat_le, refl, sym, ap, subst, ◌∙◌, arith}
+use Rattle.std.proofs.Common.{◌≡◌, ◌<◌, ◌≤◌, ◌+◌, ◌-◌, ℕ, List, length, get_or, take, Option, Some, None, is_some, true, false, ◌&&◌, ◌==◌, nat_le, refl, sym, ap, subst, ◌∙◌, arith, IfSome, inl, inr, min, max}
 use Rattle.sgb_graph.specs.declared.field.ArcNo.{ArcNo}
 use Rattle.sgb_graph.specs.declared.graph.Vertex.{Vertex}
 use Rattle.sgb_graph.specs.declared.graph.arena.Slot.{Slot}
 use Rattle.sgb_graph.specs.declared.graph.Graph.TheInside.{Inside}
 use Rattle.sgb_graph.specs.declared.delta.CutArc.{CutArc}
-use Rattle.sgb_graph.specs.Graph.{GraphOf, IsGraph, n_of, made_of, m_of, has_arc, names_of}
-use Rattle.sgb_graph.specs.Edit.{without_arc, without_listed, with_cut_arc, with_listed, refusal_of_cut}
+use Rattle.sgb_graph.specs.Graph.{GraphOf, IsGraph, n_of, made_of, m_of, has_arc, names_of, arcs_of, occurrences, has_vertex, names_in}
+use Rattle.sgb_graph.specs.Edit.{without_arc, without_listed, with_cut_arc, with_listed, refusal_of_cut, refusal_unless, refusal_of_edge, with_edge, refusal_of_arc, with_arc, with_entry_last}
 use Rattle.sgb_graph.specs.Delta.{cut_arc, LeftByArc, LeftByEdge, LeftByCut}
-use Rattle.sgb_graph.specs.Private.Arena.{Slots, Shows, IsArena, graph_of, slot_at, entry_of, owner_in}
+use Rattle.sgb_graph.specs.Private.Arena.{Slots, Shows, IsArena, graph_of, slot_at, entry_of, owner_in, next_of, next_at, names_counted}
 use Rattle.sgb_graph.specs.Field.{arc_no}
-use Rattle.sgb_graph.specs.Private.Link.{CanTakeOut, CanBeTakenOut, TakesOut, CanPutBack, CanBePutBack, PutsBack}
+use Rattle.sgb_graph.specs.Private.Link.{CanTakeOut, CanBeTakenOut, TakesOut, CanPutBack, CanBePutBack, PutsBack, TakesOutBoth, CanBothBeTakenOut}
 use Rattle.sgb_graph.proofs.Shows.{Opened, closed, closed_arena}
-use Rattle.std.proofs.Common.{IfSome, inl, inr}
 use Rattle.std.proofs.lemmas.Bool.{and_parts, ltb-true, leb-true, eqb-true, cases_Bool, cases_order}
-use Rattle.std.proofs.lemmas.List.{get_or_past, get_or-take, length-take-le}
+use Rattle.std.proofs.lemmas.List.{get_or_past, get_or-take, length-take-le, take-take}
 use Rattle.sgb_graph.specs.declared.refusal.Refusal.TheVariants.{BadOperand, TooLarge}
-use Rattle.sgb_graph.specs.Graph.{arcs_of, occurrences}
-use Rattle.sgb_graph.specs.Edit.{refusal_unless}
-use Rattle.sgb_graph.specs.Private.Arena.{next_of, next_at, names_counted}
 use Rattle.sgb_graph.proofs.Chains.{Leads-agree}
 use Rattle.sgb_graph.specs.Private.Holes.{with_hole}
 use Rattle.sgb_graph.proofs.Holes.{at_hole, hole_made, hole_names, hole_m, hole_sound, new_can, with_arc_is, with_edge_is, first_cut, second_cut, first_can, second_can}
-use Rattle.std.proofs.Common.{min, max}
-use Rattle.std.proofs.lemmas.List.{take-take}
-use Rattle.sgb_graph.specs.Edit.{refusal_of_edge, with_edge}
-use Rattle.sgb_graph.specs.Private.Revert.{TakesOutBoth, CanBothBeTakenOut}
-use Rattle.sgb_graph.proofs.PutBack.{put_sound}
-use Rattle.sgb_graph.specs.Graph.{has_vertex, names_in}
-use Rattle.sgb_graph.specs.Edit.{refusal_of_arc, with_arc, with_entry_last}
+use Rattle.sgb_graph.proofs.ShowsPut.{put_sound, put_entry_same, put_names}
 use Rattle.sgb_graph.specs.Private.Insert.{new_cut}
-use Rattle.sgb_graph.proofs.PutBack.{put_entry_same, put_names}
 use Rattle.sgb_graph.proofs.Sound.{hole_unnamed}
 use Rattle.sgb_graph.proofs.Laws.{cut_can, with_cut_arc-without_arc, without_arc-with_cut_arc}
-use Rattle.sgb_graph.proofs.InsertLemmas.{SameOwn, put_after, one_less}
+use Rattle.sgb_graph.proofs.Joining.{SameOwn, put_after, one_less}
 use Rattle.sgb_graph.proofs.TakeOut.{found_live, take_sound, take_m, take_made}
 
 -- what `cut` knows before it takes the arc out

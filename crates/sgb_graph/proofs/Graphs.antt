@@ -4,22 +4,9 @@ use Rattle.std.specs.List.{list_any}
 use Rattle.std.proofs.lemmas.Bool.{cases_Bool, cases_order, cases_lt}
 use Rattle.std.proofs.lemmas.List.{get_or_past}
 use Rattle.std.proofs.lemmas.List.Sums.{get_or-le-sum_by, position_or_len_is}
-use Rattle.sgb_graph.specs.Graph.{GraphOf, VertexOf, IsGraph, n_of, made_of, no_vertex, arcs_of, arc_at, has_arc, occurrences, listings}
+use Rattle.sgb_graph.specs.Graph.{GraphOf, IsGraph, n_of, made_of, no_vertex, arcs_of, arc_at, has_arc, occurrences, listings}
 use Rattle.sgb_graph.specs.Edit.{owner_of}
 use Rattle.sgb_graph.proofs.Counts.{any_none, any_some, sum_two, few_numbers, occurs_at}
-
-pub same_vertex : (x y : VertexOf) → x.label ≡ y.label → x.fields ≡ y.fields → x.arcs ≡ y.arcs → x ≡ y
-same_vertex x y label fields arcs =
-    ap (λ l. record x { label = l }) label
-    ∙ (ap (λ f. record x { label = y.label; fields = f }) fields ∙ ap (λ a. record y { arcs = a }) arcs)
-
-pub same_graph : (g h : GraphOf) → g.id ≡ h.id → g.types ≡ h.types → g.fields ≡ h.fields → g.vertices ≡ h.vertices → g.entries ≡ h.entries → g ≡ h
-same_graph g h id types fields vertices entries =
-    ap (λ x. record g { id = x }) id
-    ∙ (ap (λ x. record g { id = h.id; types = x }) types
-    ∙ (ap (λ x. record g { id = h.id; types = h.types; fields = x }) fields
-    ∙ (ap (λ x. record h { vertices = x; entries = g.entries }) vertices
-    ∙ ap (λ x. record h { entries = x }) entries)))
 
 -- a vertex lists the number: the vertex and the number are there, the arc lives, and the number stands there once
 pub record Listed (g : GraphOf) (k v : ℕ) : Type 0 where

@@ -1,5 +1,5 @@
 -- Lemmas on graphs that are built by insertions.
-use Rattle.std.proofs.Common.{◌≡◌, ◌≤◌, ◌+◌, ◌*◌, ℕ, ℤ, List, [], ◌∷◌, ◌++◌, length, Bool, true, false, Result, Ok, Err, IfErr, IsErrOf, Some, ◌⊎◌, inl, inr, refl, sym, ap, ◌∙◌, arith, set, min, max}
+use Rattle.std.proofs.Common.{◌≡◌, ◌≤◌, ◌+◌, ◌*◌, ℕ, ℤ, List, [], ◌∷◌, ◌++◌, length, Bool, true, false, Result, Ok, Err, Some, ◌⊎◌, inl, inr, refl, sym, ap, ◌∙◌, arith, set, min, max}
 use Rattle.std.proofs.lemmas.List.{length-set, length_push}
 use Rattle.std.proofs.lemmas.List.Sums.{fold-append}
 use Rattle.sgb_graph.specs.declared.builder.Builder.{Builder}
@@ -103,22 +103,10 @@ Inserts-append a b c es fs (Err e) x first next =
       )
     ]
 
--- a refusal stays one, whatever was to follow
-pub Inserts-err : (T S : Type 0) (a b c : Builder) (es fs : List Insertion) (e : Refusal) → Inserts {T = T} a b es (Err e) → Inserts {T = S} a c (es ++ fs) (Err e)
-Inserts-err T S a b c es fs e refused =
-    elim refused [
-      | inl room ↦ inl room
-      | inr large ↦ inr (large.0, too_many-append a es fs large.1)
-    ]
-
 -- what a refusal tells
 pub few_at : (made : ℕ) (e : Refusal) → IsRefusedAt made e → e ≡ NoRoom → made ≤ 1000000
 few_at made e (inl room) is = room.1
 few_at made e (inr large) is = absurd (let no : NoRoom ≡ TooLarge = sym is ∙ large.0 in cc)
-
-pub few_when : {T : Type 0} (made : ℕ) (r : Result T Refusal) → IfErr r (IsRefusedAt made) → IsErrOf r NoRoom → made ≤ 1000000
-few_when made (Ok x) refused is = absurd cc
-few_when made (Err e) refused is = few_at made e refused cc
 
 pub refused_all : (b : Builder) (directed : Bool) (es : List Insertion) (e : Refusal) → b.directed ≡ directed → IsRefusedAt (made_of b.graph + length es * numbers_each directed) e → (e ≡ NoRoom) ⊎ ((e ≡ TooLarge) × IsTooMany b es)
 refused_all b directed es e is (inl room) = inl room.0

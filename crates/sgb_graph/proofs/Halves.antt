@@ -1,7 +1,8 @@
 -- Lemmas on second halves, and on the other half of an arc.
 use Rattle.std.proofs.Common.{◌≡◌, ◌<◌, ◌≤◌, ◌+◌, ◌-◌, ℕ, zero, suc, List, [], ◌∷◌, length, get_or, map, Option, Some, None, is_some, Bool, true, false, ◌&&◌, not, ◌==◌, nat_lt, nat_le, cond, ◌⊎◌, inl, inr, refl, sym, ap, subst, ◌∙◌, arith, zero-add}
 use Rattle.std.specs.List.{list_all, filter, range_with_len}
-use Rattle.std.proofs.lemmas.Bool.{cases_Bool, and_parts, eqb-true, eq-eqb, ne_eqb, lt-ltb, le-ltb, leb-true}
+use Rattle.std.proofs.lemmas.Bool.{cases_Bool, and_parts, eqb-true, eq-eqb, ne_eqb, lt-ltb, le-ltb, leb-true, cases_lt}
+use Rattle.sgb_graph.proofs.SameRows.{and_no}
 use Rattle.sgb_graph.specs.declared.field.Tip.{Tip}
 use Rattle.sgb_graph.specs.declared.field.Tip.TheVariants.{Zero, One, To}
 use Rattle.sgb_graph.specs.Graph.{GraphOf, ArcOf, n_of, made_of, arcs_of, arc_at, has_arc}
@@ -11,7 +12,6 @@ use Rattle.sgb_graph.specs.Paired.{goes, is_vertex, leads_from, is_loop, is_loop
 use Rattle.sgb_graph.proofs.Graphs.{made_of_live, no_arcs_past}
 use Rattle.sgb_graph.proofs.TakeOut.{some_entry}
 use Rattle.sgb_graph.proofs.PairedLemmas.{below_all}
-use Rattle.std.proofs.lemmas.Bool.{cases_lt}
 
 -- the next place, told from this one
 half_next : (g : GraphOf) (v : ℕ) (ks : List ℕ) (i : ℕ) → is_half g v ks (i + 1) ≡ (is_loop_pair g v (get_or ks i 0) (get_or ks (i + 1) 0) && not (is_half g v ks i))
@@ -28,10 +28,6 @@ and_true : (b : Bool) → (b && true) ≡ b
 and_true true = refl
 and_true false = refl
 
-pub and_false : (b : Bool) → (b && false) ≡ false
-and_false true = refl
-and_false false = refl
-
 -- behind a place that is no second half, and behind one that is
 half_after : (g : GraphOf) (v : ℕ) (ks : List ℕ) (i j k : ℕ) (b : Bool) → get_or ks i 0 ≡ j → get_or ks (i + 1) 0 ≡ k → is_half g v ks i ≡ false → is_loop_pair g v j k ≡ b → is_half g v ks (i + 1) ≡ b
 half_after g v ks i j k b here next none pair =
@@ -42,7 +38,7 @@ half_after g v ks i j k b here next none pair =
 half_over : (g : GraphOf) (v : ℕ) (ks : List ℕ) (i : ℕ) → is_half g v ks i ≡ true → is_half g v ks (i + 1) ≡ false
 half_over g v ks i half =
     let pair = is_loop_pair g v (get_or ks i 0) (get_or ks (i + 1) 0) in
-    half_next g v ks i ∙ (ap (λ h. pair && not h) half ∙ and_false pair)
+    half_next g v ks i ∙ (ap (λ h. pair && not h) half ∙ and_no pair)
 
 -- the rest of a list stands in it from place i on
 abbrev pub StandsAt : List ℕ → ℕ → List ℕ → Type 0

@@ -1,8 +1,8 @@
 -- Lemmas on a number that is given out as a hole, and on new arcs.
-use Rattle.std.proofs.Common.{◌≡◌, ◌<◌, ◌+◌, ℕ, ℤ, zero, suc, List, [], ◌∷◌, ◌++◌, length, get_or, set, Option, Some, None, is_some, IfSome, All, refl, sym, ap, subst, ◌∙◌, arith, cond, inl, inr, FitsSigned}
+use Rattle.std.proofs.Common.{◌≡◌, ◌<◌, ◌+◌, ℕ, ℤ, zero, suc, List, [], ◌∷◌, ◌++◌, length, get_or, set, Option, Some, None, is_some, IfSome, All, refl, sym, ap, subst, ◌∙◌, arith, cond, inl, inr, FitsSigned, min, max}
 use Rattle.std.specs.Int.{w64}
 use Rattle.std.proofs.lemmas.Bool.{cases_lt, cases_order, le-leb, lt-ltb}
-use Rattle.std.proofs.lemmas.List.{get_or_past, get_or_append_left, length_push, get_or_push, set_at, get_or_default}
+use Rattle.std.proofs.lemmas.List.{get_or_past, get_or_append_left, length_push, get_or_push, set_at, get_or_default, set-append_left}
 use Rattle.std.proofs.lemmas.List.Sums.{sum_by_push}
 use Rattle.sgb_graph.specs.declared.field.Util.TheVariants as utils
 use Rattle.sgb_graph.specs.declared.graph.Vertex.{Vertex}
@@ -14,9 +14,7 @@ use Rattle.sgb_graph.specs.Private.Insert.{new_cut}
 use Rattle.sgb_graph.specs.Private.Arena.{Slots, Shows, slot_at, next_of, next_at, entry_of, owner_in, names_counted}
 use Rattle.sgb_graph.specs.Field.{arc_no}
 use Rattle.sgb_graph.specs.Private.Link.{CanPutBack}
-use Rattle.std.proofs.Common.{min, max}
-use Rattle.std.proofs.lemmas.List.{set-append_left}
-use Rattle.sgb_graph.proofs.PutBack.{put_n, put_made, put_entry_other}
+use Rattle.sgb_graph.proofs.ShowsPut.{put_n, put_made, put_entry_other}
 use Rattle.sgb_graph.proofs.Chains.{Leads-agree}
 use Rattle.sgb_graph.proofs.Sound.{Keeps, IsValue-keeps, IsVertex-keeps, IsEntry-keeps}
 
@@ -90,7 +88,7 @@ with_arc_is g u v len =
     let h = with_listed g u 0 (made_of g) in
     ap (λ es. record h { entries = es }) (sym (set_at g.entries None [] (Some (arc_to v len)) (made_of g) refl))
 
-zero_value : (n : ℕ) (es : List (Option ArcOf)) → All (IsValue n es) (utils.Zero ∷ utils.Zero ∷ [])
+pub zero_value : (n : ℕ) (es : List (Option ArcOf)) → All (IsValue n es) (utils.Zero ∷ utils.Zero ∷ [])
 zero_value n es zero d h = tt
 zero_value n es (suc zero) d h = tt
 zero_value n es (suc (suc i)) d h = absurd (omega arith)

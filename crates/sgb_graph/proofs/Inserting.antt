@@ -1,7 +1,6 @@
 -- Runs of insertions: what is left of one while a loop makes it.
 --
--- A loop's invariant is `LeftFrom` over numbers, `LeftOf` over a slice, or `LeftIn` over an iterator, from the builder
--- that it began with. The lemma's name says what a turn did: `some` made its insertions, `none` had none, `refused` was
+-- A loop's invariant is `LeftFrom` over numbers or `LeftOf` over a slice, from the builder that it began with. The lemma's name says what a turn did: `some` made its insertions, `none` had none, `refused` was
 -- refused them; `start` and `end` are those of the loop.
 use Rattle.std.proofs.Common.{◌≡◌, ◌<◌, ◌≤◌, ◌+◌, ◌-◌, ℕ, suc, List, [], ◌∷◌, ◌++◌, length, get_or, drop, map, Bool, cond, ◌⊎◌, inl, inr, refl, sym, ap, subst, ◌∙◌, arith}
 use Rattle.std.specs.List.{flat_map, filter, range_with_len}
@@ -13,7 +12,7 @@ use Rattle.sgb_graph.specs.declared.refusal.Refusal.{Refusal}
 use Rattle.sgb_graph.specs.declared.refusal.Refusal.TheVariants.{NoRoom, TooLarge}
 use Rattle.sgb_graph.specs.Graph.{n_of, made_of}
 use Rattle.sgb_graph.specs.Builder.{Insertion, grown, IsTooMany}
-use Rattle.sgb_graph.proofs.Growing.{grown-nil, grown-append, grown-directed, n-grown, too_many-append}
+use Rattle.sgb_graph.proofs.Growing.{grown-nil, grown-append, n-grown, too_many-append}
 
 -- what `Inserts` says of an `Err`
 abbrev pub RefusesInsertions : Builder → List Insertion → Refusal → Type 0
@@ -39,13 +38,9 @@ left_refused {a} {b} {all} es rest left (inr large) =
 pub left_end : {a b : Builder} {all : List Insertion} → Left a all b [] → b ≡ grown a all
 left_end {a} {b} {all} left = sym (grown-nil b) ∙ left.same
 
--- the vertices stay as many, and insertions stay what they are
+-- the vertices stay as many
 pub left_n : {a b : Builder} {all rest : List Insertion} → Left a all b rest → n_of b.graph ≡ n_of a.graph
 left_n {a} {b} {all} {rest} left = sym (n-grown b rest) ∙ (ap (λ (d : Builder). n_of d.graph) left.same ∙ n-grown a all)
-
-pub left_directed : {a b : Builder} {all rest : List Insertion} → Left a all b rest → b.directed ≡ a.directed
-left_directed {a} {b} {all} {rest} left =
-    sym (grown-directed b rest) ∙ (ap (λ (d : Builder). d.directed) left.same ∙ grown-directed a all)
 
 -- the same insertions, written otherwise
 pub left_as : {a b : Builder} {all rest fs : List Insertion} → Left a all b rest → rest ≡ fs → Left a all b fs
@@ -78,11 +73,6 @@ from_start a f n =
 pub from_start_at : (a : Builder) (f : ℕ → List Insertion) (i n : ℕ) → LeftFrom a (from_to f i n) a f i n
 from_start_at a f i n = record { left = left_start a (from_to f i n) }
 
--- with one insertion for each number
-pub from_start_map : (a : Builder) (f : ℕ → Insertion) (n : ℕ) → LeftFrom a (map f (range_with_len 0 n)) a (λ k. f k ∷ []) 0 n
-from_start_map a f n =
-    subst (λ all. LeftFrom a all a (λ k. f k ∷ []) 0 n) (flat_map_single f (range_with_len 0 n)) (from_start a (λ k. f k ∷ []) n)
-
 pub from_some : {a b c : Builder} {all : List Insertion} {f : ℕ → List Insertion} {i n : ℕ} → i < n → LeftFrom a all b f i n → c ≡ grown b (f i) → LeftFrom a all c f (i + 1) n
 from_some {f = f} {i = i} {n = n} h left made =
     record { left = left_some (f i) (from_to f (i + 1) n) (left_as left.left (from_to-cons f i n h)) made }
@@ -108,9 +98,6 @@ pub record LeftOf {X : Type 0} (a : Builder) (all : List Insertion) (b : Builder
 of-cons : {X : Type 0} (f : X → List Insertion) (xs : List X) (i : ℕ) (x : X) → i < length xs → x ≡ get_or xs i x → flat_map f (drop i xs) ≡ f x ++ flat_map f (drop (i + 1) xs)
 of-cons f xs i x h is = at_drop_more (flat_map f) xs i x h ∙ ap (λ y. f y ++ flat_map f (drop (i + 1) xs)) (sym is)
 
-pub of_start : {X : Type 0} (a : Builder) (f : X → List Insertion) (xs : List X) → LeftOf a (flat_map f xs) a f xs 0
-of_start a f xs = record { left = left_start a (flat_map f xs) }
-
 -- with one insertion for each element
 pub of_start_map : {X : Type 0} (a : Builder) (f : X → Insertion) (xs : List X) → LeftOf a (map f xs) a (λ x. f x ∷ []) xs 0
 of_start_map a f xs = record { left = record { same = ap (grown a) (flat_map_single f xs) } }
@@ -118,10 +105,6 @@ of_start_map a f xs = record { left = record { same = ap (grown a) (flat_map_sin
 pub of_some : {X : Type 0} {a b c : Builder} {all : List Insertion} {f : X → List Insertion} {xs : List X} {i : ℕ} {x : X} → i < length xs → x ≡ get_or xs i x → LeftOf a all b f xs i → c ≡ grown b (f x) → LeftOf a all c f xs (i + 1)
 of_some {f = f} {xs = xs} {i = i} {x = x} h is left made =
     record { left = left_some (f x) (flat_map f (drop (i + 1) xs)) (left_as left.left (of-cons f xs i x h is)) made }
-
-pub of_none : {X : Type 0} {a b : Builder} {all : List Insertion} {f : X → List Insertion} {xs : List X} {i : ℕ} (x : X) → i < length xs → x ≡ get_or xs i x → LeftOf a all b f xs i → f x ≡ [] → LeftOf a all b f xs (i + 1)
-of_none {f = f} {xs = xs} {i = i} x h is left none =
-    record { left = left_as left.left (of-cons f xs i x h is ∙ ap (λ es. es ++ flat_map f (drop (i + 1) xs)) none) }
 
 pub of_refused : {X : Type 0} {a b : Builder} {all : List Insertion} {f : X → List Insertion} {xs : List X} {i : ℕ} {x : X} {e : Refusal} → i < length xs → x ≡ get_or xs i x → LeftOf a all b f xs i → RefusesInsertions b (f x) e → RefusesInsertions a all e
 of_refused {f = f} {xs = xs} {i = i} {x = x} h is left refused =
@@ -132,35 +115,6 @@ of_end {f = f} {xs = xs} {i = i} h left = left_end (left_as left.left (at_drop_a
 
 pub of_n : {X : Type 0} {a b : Builder} {all : List Insertion} {f : X → List Insertion} {xs : List X} {i : ℕ} → LeftOf a all b f xs i → n_of b.graph ≡ n_of a.graph
 of_n left = left_n left.left
-
--- ---- a run over what an iterator has left, as that of a vertex's arcs
-pub record LeftIn {X : Type 0} (a : Builder) (all : List Insertion) (b : Builder) (f : X → List Insertion) (xs : List X) : Type 0 where
-  pub left : Left a all b (flat_map f xs)
-
-pub in_start : {X : Type 0} (a : Builder) (f : X → List Insertion) (xs : List X) → LeftIn a (flat_map f xs) a f xs
-in_start a f xs = record { left = left_start a (flat_map f xs) }
-
--- with one insertion for each element
-pub in_start_map : {X : Type 0} (a : Builder) (f : X → Insertion) (xs : List X) → LeftIn a (map f xs) a (λ x. f x ∷ []) xs
-in_start_map a f xs = record { left = record { same = ap (grown a) (flat_map_single f xs) } }
-
-pub in_some : {X : Type 0} {a b c : Builder} {all : List Insertion} {f : X → List Insertion} {xs ys : List X} {x : X} → xs ≡ x ∷ ys → LeftIn a all b f xs → c ≡ grown b (f x) → LeftIn a all c f ys
-in_some {f = f} {ys = ys} {x = x} is left made =
-    record { left = left_some (f x) (flat_map f ys) (left_as left.left (ap (flat_map f) is)) made }
-
-pub in_none : {X : Type 0} {a b : Builder} {all : List Insertion} {f : X → List Insertion} {xs ys : List X} {x : X} → xs ≡ x ∷ ys → LeftIn a all b f xs → f x ≡ [] → LeftIn a all b f ys
-in_none {f = f} {ys = ys} is left none =
-    record { left = left_as left.left (ap (flat_map f) is ∙ ap (λ es. es ++ flat_map f ys) none) }
-
-pub in_refused : {X : Type 0} {a b : Builder} {all : List Insertion} {f : X → List Insertion} {xs ys : List X} {x : X} {e : Refusal} → xs ≡ x ∷ ys → LeftIn a all b f xs → RefusesInsertions b (f x) e → RefusesInsertions a all e
-in_refused {f = f} {ys = ys} {x = x} is left refused =
-    left_refused (f x) (flat_map f ys) (left_as left.left (ap (flat_map f) is)) refused
-
-pub in_end : {X : Type 0} {a b : Builder} {all : List Insertion} {f : X → List Insertion} {xs : List X} → xs ≡ [] → LeftIn a all b f xs → b ≡ grown a all
-in_end {f = f} is left = left_end (left_as left.left (ap (flat_map f) is))
-
-pub in_n : {X : Type 0} {a b : Builder} {all : List Insertion} {f : X → List Insertion} {xs : List X} → LeftIn a all b f xs → n_of b.graph ≡ n_of a.graph
-in_n left = left_n left.left
 
 -- ---- runs that pass over some elements
 pub flat_map-filter : {X A : Type 0} (f : X → List A) (p : X → Bool) (xs : List X) → flat_map f (filter p xs) ≡ flat_map (λ x. cond (p x) (f x) []) xs

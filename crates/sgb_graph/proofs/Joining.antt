@@ -1,150 +1,296 @@
--- Lemmas on new arcs and edges that are linked one after another.
-use Rattle.std.proofs.Common.{◌≡◌, ◌<◌, ◌≤◌, ◌+◌, ◌-◌, ◌*◌, ℕ, suc, ℤ, pos, List, [], ◌∷◌, ◌++◌, length, drop, map, get_or, All, Bool, true, false, None, Some, min, max, refl, sym, ap, ap₂, subst, ◌∙◌, arith, FitsSigned, inl, inr}
+-- Lemmas on new arcs and edges that are linked into a graph.
+use Rattle.std.proofs.Common.{◌≡◌, ◌+◌, ℤ, List, [], ◌∷◌, ◌++◌, length, set, Option, Some, None, refl, sym, ap, subst, ◌∙◌, ◌<◌, ◌≤◌, ◌-◌, arith, min, max, is_some, FitsSigned, ℕ, ap₂}
 use Rattle.std.specs.Int.{w64}
-use Rattle.std.specs.List.{range_with_len}
-use Rattle.std.proofs.lemmas.List.{length_push, at_drop_more, at_drop_all, get_or_default, length-map}
-use Rattle.std.proofs.lemmas.List.Elements.{All-map, All-nil, All-cons}
-use Rattle.std.proofs.lemmas.List.FromFn.{get_or-map-range_with_len}
-use Rattle.std.proofs.lemmas.Bool.{cases_lt}
+use Rattle.std.proofs.lemmas.Int.{to_z-of_z}
+use Rattle.std.proofs.lemmas.List.{set_at, length_push}
 use Rattle.sgb_graph.specs.declared.field.VertexNo.{VertexNo}
 use Rattle.sgb_graph.specs.declared.field.ArcNo.{ArcNo}
-use Rattle.sgb_graph.specs.declared.field.Util.{Util}
-use Rattle.sgb_graph.specs.declared.spoke.Spoke.{Spoke}
 use Rattle.sgb_graph.specs.declared.graph.Vertex.{Vertex}
-use Rattle.sgb_graph.specs.declared.graph.arena.Cell.{Cell}
-use Rattle.sgb_graph.specs.declared.graph.Graph.TheInside.{Inside}
-use Rattle.sgb_graph.specs.Graph.{GraphOf, n_of, made_of}
-use Rattle.sgb_graph.specs.Edit.{with_edge}
+use Rattle.sgb_graph.specs.declared.graph.arena.Slot.{Slot}
+use Rattle.sgb_graph.specs.Graph.{GraphOf, IsGraph, n_of, made_of, m_of}
+use Rattle.sgb_graph.specs.Edit.{with_cut_arc, with_arc, with_edge, with_listed}
+use Rattle.sgb_graph.specs.Private.Insert.{new_cut, new_slot, PutsBoth, first_behind, Both, both, vertex_no, with_new_arc, with_new_edge, relinked_both}
+use Rattle.sgb_graph.specs.Private.Arena.{Slots, Shows, IsArena, graph_of}
 use Rattle.sgb_graph.specs.Field.{arc_no}
-use Rattle.sgb_graph.specs.Builder.{Insertion, insertion, inserted, with_all, row, along}
-use Rattle.sgb_graph.specs.Private.Arena.{Slots, IsArena, graph_of}
-use Rattle.sgb_graph.specs.Private.Cells.{two_zeros, slot_with, zipped, new_cell}
-use Rattle.sgb_graph.specs.Private.Insert.{new_cut, new_slot, first_behind, PutsBoth}
-use Rattle.sgb_graph.specs.Private.Join.{Both, both, vertex_no, with_new_arc, with_new_edge, relinked_both, joined, all_joined, Joins}
-use Rattle.sgb_graph.specs.Private.Link.{vertex_in, vertices_relinked}
-use Rattle.sgb_graph.proofs.Cells.{length-zipped, slot_pushed}
-use Rattle.sgb_graph.proofs.Growing.{numbers_each, n-inserted, made-inserted}
-use Rattle.sgb_graph.proofs.InsertLemmas.{SameOwn, NewArcDone, NewEdgeCan, NewEdgeDone, arc_done, edge_done, new_edge_after}
-use Rattle.sgb_graph.proofs.Pushing.{edge_pushed}
-use Rattle.sgb_graph.proofs.Rows.{row_first, length-row}
+use Rattle.sgb_graph.specs.Private.Link.{CanPutBack, PutsBack, any_vertex, vertex_in, vertices_relinked}
+use Rattle.sgb_graph.proofs.ShowsPut.{put_sound, put_m, put_made, put_back_done}
+use Rattle.sgb_graph.proofs.Holes.{two_set_last, hole_made, hole_m, hole_sound, hole_shows, with_arc_is, new_can, arc_accepted, first_cut, second_cut, first_can, second_can, with_edge_is, edge_accepted}
+use Rattle.std.proofs.lemmas.List.Sums.{count_by-le-length}
+use Rattle.sgb_graph.specs.declared.graph.Graph.TheInside.{Inside}
+use Rattle.sgb_graph.specs.declared.delta.CutArc.{CutArc}
+use Rattle.sgb_graph.specs.Delta.{LeftByArc, LeftByEdge}
 use Rattle.sgb_graph.proofs.Shows.{Opened, closed, closed_arena}
+use Rattle.sgb_graph.specs.Private.Holes.{with_hole}
+use Rattle.sgb_graph.specs.declared.field.Util.{Util}
+use Rattle.sgb_graph.specs.declared.graph.arena.Cell.{Cell}
+use Rattle.sgb_graph.specs.Builder.{insertion}
+use Rattle.sgb_graph.specs.Private.Cells.{two_zeros, slot_with, zipped, new_cell}
+use Rattle.sgb_graph.proofs.Cells.{length-zipped, slot_pushed}
 
--- ---- one more
-pub arc_joins : (vs ws : List Vertex) (cs ds : List Cell) (u v : VertexNo) (z : ℤ) (k : ℕ) (cell : Cell) → k ≡ length cs → ws ≡ vertices_relinked vs u.0 None (Some (arc_no k))
-    → cell ≡ new_cell u v (vertex_in vs u.0).first z → ds ≡ cs ++ cell ∷ [] → Joins true vs cs (insertion u.0 v.0 z ∷ []) ws ds
-unfolding joined with_new_arc
-arc_joins vs ws cs ds u v z k cell number ws_is cell_is ds_is =
-    λ fs few.
-    let ss = zipped cs fs in
-    let same : k ≡ length ss = number ∙ sym (length-zipped cs fs) in
-    let s = new_slot u v (vertex_in vs u.0).first z in
-    ap₂ both (ws_is ∙ ap (λ j. vertices_relinked vs u.0 None (Some (arc_no j))) same)
-    (slot_pushed cs cs ds fs fs ss cell (Some s) refl few refl refl ds_is (ap (slot_with two_zeros) cell_is))
+-- the fields before and after a step between two graphs of one id, types and own fields
+pub record SameOwn (a b : Inside) : Type 0 where
+  pub id : b.id ≡ a.id
+  pub types : b.types ≡ a.types
+  pub fields : b.fields ≡ a.fields
 
-pub edge_joins : (vs ws : List Vertex) (cs bs ds : List Cell) (u v low high : ℕ) (z : ℤ) (k : ℕ) (a b : Cell) → k ≡ length cs → low ≡ min u v → high ≡ max u v
-    → ws ≡ relinked_both vs k low high → a ≡ new_cell (vertex_no low) (vertex_no high) (first_behind vs k low high) z → bs ≡ cs ++ a ∷ []
-    → b ≡ new_cell (vertex_no high) (vertex_no low) (vertex_in vs high).first z → ds ≡ bs ++ b ∷ [] → Joins false vs cs (insertion u v z ∷ []) ws ds
-unfolding joined with_new_edge
-edge_joins vs ws cs bs ds u v low high z k a b number low_is high_is ws_is a_is bs_is b_is ds_is =
-    λ fs few.
-    let ss = zipped cs fs in
-    let same : k ≡ length ss = number ∙ sym (length-zipped cs fs) in
-    let s : ℕ → ℕ → ℕ → Slots = λ j x y. ss ++ Some (new_slot (vertex_no x) (vertex_no y) (first_behind vs j x y) z) ∷ [] in
+-- where an arc can be put back there is a hole, and then one less
+pub some_hole : (a : Inside) (h : GraphOf) (c : CutArc) → Opened a h → CanPutBack h c → 0 < a.holes
+some_hole a h c o can =
+    let few : m_of (with_cut_arc h c) ≤ made_of (with_cut_arc h c) = count_by-le-length is_some (with_cut_arc h c).entries in
+    omega (arith, few, o.holes, put_m h c can, put_made h c)
+
+pub one_less : (a b : Inside) (h : GraphOf) (c : CutArc) → Opened a h → CanPutBack h c → b.holes ≡ a.holes - 1 → b.holes + (m_of h + 1) ≡ made_of h
+one_less a b h c o can holes = omega (arith, holes, some_hole a h c o can, o.holes)
+
+-- fields that show the graph h with an arc put back
+pub put_after : (b : Inside) (h : GraphOf) (c : CutArc) → IsGraph h → CanPutBack h c → Shows b.vertices b.slots (with_cut_arc h c) → b.holes + (m_of h + 1) ≡ made_of h
+    → b.id ≡ h.id → b.types ≡ h.types → b.fields ≡ h.fields → Opened b (with_cut_arc h c)
+unfolding with_cut_arc with_listed
+put_after b h c sound can shows holes id types fields =
+    record {
+      graph = put_sound h c sound can;
+      shows = shows;
+      holes = omega (arith, holes, put_m h c can, put_made h c);
+      id = id;
+      types = types;
+      fields = fields;
+    }
+
+-- what `new_arc` knows before it links the arc
+pub record NewArcCan (a : Inside) (g : GraphOf) (u v : VertexNo) (z : ℤ) (c : CutArc) (vs : List Vertex) (ss : Slots) : Type 0 where
+  pub opened : Opened a g
+  pub from : u.0 < n_of g
+  pub to : v.0 < n_of g
+  pub few : made_of g < 1000000
+  pub fits : FitsSigned w64 z
+  pub cut : c ≡ new_cut (arc_no (made_of g)) u v z
+  pub vertices : vs ≡ a.vertices
+  pub slots : ss ≡ a.slots ++ None ∷ []
+
+pub new_arc_can : (a : Inside) (g : GraphOf) (u v : VertexNo) (z : ℤ) (c : CutArc) (vs : List Vertex) (ss : Slots) → NewArcCan a g u v z c vs ss
+    → (IsGraph (with_hole g)) × (Shows vs ss (with_hole g)) × (CanPutBack (with_hole g) c)
+new_arc_can a g u v z c vs ss k = (
+  hole_sound g k.opened.graph k.few,
+  rw (k.vertices, k.slots) (hole_shows a.vertices a.slots g k.opened.shows),
+  subst (CanPutBack (with_hole g)) (sym k.cut) (new_can g u.0 v.0 z k.opened.graph k.from k.to k.fits),
+)
+
+pub new_arc_after : (a b : Inside) (g : GraphOf) (u v : VertexNo) (z : ℤ) (c : CutArc) (vs ws : List Vertex) (ss ts : Slots) → NewArcCan a g u v z c vs ss
+    → PutsBack vs ss c ws ts → b.vertices ≡ ws → b.slots ≡ ts → b.holes ≡ a.holes → SameOwn a b → Opened b (with_arc g u.0 v.0 z)
+new_arc_after a b g u v z c vs ws ss ts k puts vertices slots holes own =
+    let x = new_arc_can a g u v z c vs ss k in
+    let h = with_hole g in
+    let shows : Shows b.vertices b.slots (with_cut_arc h c) = rw (vertices, slots) (puts h x.1 x.0 x.2) in
+    let can = x.2 in
+    let o = k.opened in
+    let after : Opened b (with_cut_arc h c) = put_after b h c x.0 can shows (omega (arith, holes, o.holes, hole_m g, hole_made g)) (own.id ∙ o.id) (own.types ∙ o.types) (own.fields ∙ o.fields) in
+    subst (Opened b) (ap (with_cut_arc h) k.cut ∙ sym (with_arc_is g u.0 v.0 z)) after
+
+-- what `new_arc` leaves, clause by clause
+pub record NewArcDone (b : Inside) (g : GraphOf) (u v : VertexNo) (z : ℤ) (number : ArcNo) : Type 0 where
+  pub arena : IsArena b
+  pub graph : graph_of b ≡ with_arc g u.0 v.0 z
+  pub left : LeftByArc g number (graph_of b)
+  pub sound : IsGraph (graph_of b)
+
+pub arc_done : (b : Inside) (g : GraphOf) (u v : VertexNo) (z : ℤ) (number : ArcNo) → IsGraph g → u.0 < n_of g → v.0 < n_of g → made_of g < 1000000 → FitsSigned w64 z → number ≡ arc_no (made_of g)
+    → Opened b (with_arc g u.0 v.0 z) → NewArcDone b g u v z number
+arc_done b g u v z number sound from to few fits is o =
+    let arena = closed_arena b (with_arc g u.0 v.0 z) o in
+    record {
+      arena = arena;
+      graph = closed b (with_arc g u.0 v.0 z) o;
+      left = record {
+        from = u.0;
+        to = v.0;
+        len = z;
+        graph = sound;
+        accepted = arc_accepted g u.0 v.0 from to few;
+        fits = fits;
+        number = is;
+        left = closed b (with_arc g u.0 v.0 z) o;
+      };
+      sound = arena.graph;
+    }
+
+-- what `new_edge` knows before it links its arcs
+pub record NewEdgeCan (a : Inside) (g : GraphOf) (u v : VertexNo) (z : ℤ) (c d : CutArc) (vs : List Vertex) (ss : Slots) : Type 0 where
+  pub opened : Opened a g
+  pub from : u.0 < n_of g
+  pub to : v.0 < n_of g
+  pub few : made_of g + 1 < 1000000
+  pub fits : FitsSigned w64 z
+  pub second : c ≡ second_cut g (min u.0 v.0) (max u.0 v.0) z
+  pub first : d ≡ first_cut g (min u.0 v.0) (max u.0 v.0) z
+  pub vertices : vs ≡ a.vertices
+  pub slots : ss ≡ a.slots ++ None ∷ [] ++ None ∷ []
+
+pub record EdgeCan (h : GraphOf) (c d : CutArc) (vs : List Vertex) (ss : Slots) : Type 0 where
+  pub sound : IsGraph h
+  pub shows : Shows vs ss h
+  pub can : CanPutBack h c
+  pub next : CanPutBack (with_cut_arc h c) d
+
+pub new_edge_can : (a : Inside) (g : GraphOf) (u v : VertexNo) (z : ℤ) (c d : CutArc) (vs : List Vertex) (ss : Slots) → NewEdgeCan a g u v z c d vs ss → EdgeCan (with_hole (with_hole g)) c d vs ss
+new_edge_can a g u v z c d vs ss k =
+    let low = min u.0 v.0 in
+    let high = max u.0 v.0 in
+    let h = with_hole g in
+    let below : low < n_of g = omega (arith, k.from, k.to) in
+    let above : high < n_of g = omega (arith, k.from, k.to) in
+    record {
+      sound = hole_sound h (hole_sound g k.opened.graph (omega (arith, k.few))) (omega (arith, hole_made g, k.few));
+      shows = rw (k.vertices, k.slots) (hole_shows a.vertices (a.slots ++ None ∷ []) h (hole_shows a.vertices a.slots g k.opened.shows));
+      can = subst (CanPutBack (with_hole h)) (sym k.second) (second_can g low high z k.opened.graph below above k.fits);
+      next =
+          subst (λ x. CanPutBack (with_cut_arc (with_hole h) x) d) (sym k.second)
+          (subst (CanPutBack (with_cut_arc (with_hole h) (second_cut g low high z))) (sym k.first) (first_can g low high z k.opened.graph below above k.fits));
+    }
+
+pub new_edge_after : (a b : Inside) (g : GraphOf) (u v : VertexNo) (z : ℤ) (c d : CutArc) (vs ws : List Vertex) (ss ts : Slots) → NewEdgeCan a g u v z c d vs ss
+    → PutsBoth vs ss c d ws ts → b.vertices ≡ ws → b.slots ≡ ts → b.holes ≡ a.holes → SameOwn a b → Opened b (with_edge g u.0 v.0 z)
+unfolding with_cut_arc with_listed
+new_edge_after a b g u v z c d vs ws ss ts k puts vertices slots holes own =
+    let x = new_edge_can a g u v z c d vs ss k in
+    let h = with_hole (with_hole g) in
+    let h1 = with_cut_arc h c in
+    let shows : Shows b.vertices b.slots (with_cut_arc h1 d) = rw (vertices, slots) (puts h x.shows x.sound x.can x.next) in
+    let o = k.opened in
+    let count : b.holes + (m_of h1 + 1) ≡ made_of h1 = omega (arith, holes, o.holes, put_m h c x.can, put_made h c, hole_m g, hole_m (with_hole g), hole_made g, hole_made (with_hole g)) in
+    let after : Opened b (with_cut_arc h1 d) = put_after b h1 d (put_sound h c x.sound x.can) x.next shows count (own.id ∙ o.id) (own.types ∙ o.types) (own.fields ∙ o.fields) in
+    subst (Opened b)
+    (ap (λ y. with_cut_arc (with_cut_arc h y) d) k.second
+    ∙ (ap (with_cut_arc (with_cut_arc h (second_cut g (min u.0 v.0) (max u.0 v.0) z))) k.first ∙ sym (with_edge_is g u.0 v.0 z)))
+    after
+
+pub record NewEdgeDone (b : Inside) (g : GraphOf) (u v : VertexNo) (z : ℤ) (number : ArcNo) : Type 0 where
+  pub arena : IsArena b
+  pub graph : graph_of b ≡ with_edge g u.0 v.0 z
+  pub left : LeftByEdge g number (graph_of b)
+  pub sound : IsGraph (graph_of b)
+
+pub edge_done : (b : Inside) (g : GraphOf) (u v : VertexNo) (z : ℤ) (number : ArcNo) → IsGraph g → u.0 < n_of g → v.0 < n_of g → made_of g + 1 < 1000000 → FitsSigned w64 z → number ≡ arc_no (made_of g)
+    → Opened b (with_edge g u.0 v.0 z) → NewEdgeDone b g u v z number
+edge_done b g u v z number sound from to few fits is o =
+    let arena = closed_arena b (with_edge g u.0 v.0 z) o in
+    record {
+      arena = arena;
+      graph = closed b (with_edge g u.0 v.0 z) o;
+      left = record {
+        from = u.0;
+        to = v.0;
+        len = z;
+        graph = sound;
+        accepted = edge_accepted g u.0 v.0 from to few;
+        fits = fits;
+        number = is;
+        left = closed b (with_edge g u.0 v.0 z) o;
+      };
+      sound = arena.graph;
+    }
+
+-- an arc that becomes the first of its owner
+put_first : (vs ws : List Vertex) (ss : Slots) (g : GraphOf) (k : ArcNo) (u v : VertexNo) (z : ℤ) (link : Option ArcNo) → Shows vs ss g → IsGraph g → CanPutBack g (new_cut k u v z)
+    → link ≡ (vertex_in vs u.0).first → ws ≡ vertices_relinked vs u.0 None (Some k) → Shows ws (set ss k.0 (Some (new_slot u v link z))) (with_cut_arc g (new_cut k u v z))
+put_first vs ws ss g k u v z link shows sound can link_is ws_is =
+    subst (λ y. Shows ws (set ss k.0 (Some (new_slot u v link y))) (with_cut_arc g (new_cut k u v z))) (to_z-of_z w64 z can.arc.len)
+    (put_back_done vs ws ss ss ss g (new_cut k u v z) any_vertex None link shows sound can refl refl link_is ws_is refl)
+
+pub arc_pushed : (vs ws : List Vertex) (ss ts : Slots) (k : ArcNo) (u v : VertexNo) (z : ℤ) (link : Option ArcNo) (slot : Slot) → k.0 ≡ length ss → link ≡ (vertex_in vs u.0).first
+    → ws ≡ vertices_relinked vs u.0 None (Some k) → slot ≡ new_slot u v link z → ts ≡ ss ++ Some slot ∷ [] → PutsBack vs (ss ++ None ∷ []) (new_cut k u v z) ws ts
+arc_pushed vs ws ss ts k u v z link slot last link_is ws_is slot_is ts_is =
+    λ g shows sound can.
+    let s = new_slot u v link z in
+    let same : set (ss ++ None ∷ []) k.0 (Some s) ≡ ts = set_at ss None [] (Some s) k.0 (sym last) ∙ (ap (λ o. ss ++ Some o ∷ []) (sym slot_is) ∙ sym ts_is) in
+    subst (λ l. Shows ws l (with_cut_arc g (new_cut k u v z))) same (put_first vs ws (ss ++ None ∷ []) g k u v z link shows sound can link_is ws_is)
+
+pub edge_pushed : (vs us ws : List Vertex) (ss rs ts : Slots) (k : ArcNo) (u v : VertexNo) (z : ℤ) (first second : Option ArcNo) (a b : Slot) → k.0 ≡ length ss
+    → second ≡ (vertex_in vs v.0).first → us ≡ vertices_relinked vs v.0 None (Some (arc_no (k.0 + 1)))
+    → first ≡ (vertex_in us u.0).first → ws ≡ vertices_relinked us u.0 None (Some k)
+    → a ≡ new_slot u v first z → rs ≡ ss ++ Some a ∷ [] → b ≡ new_slot v u second z → ts ≡ rs ++ Some b ∷ []
+    → PutsBoth vs (ss ++ None ∷ [] ++ None ∷ []) (new_cut (arc_no (k.0 + 1)) v u z) (new_cut k u v z) ws ts
+edge_pushed vs us ws ss rs ts k u v z first second a b last second_is us_is first_is ws_is a_is rs_is b_is ts_is =
+    λ g shows sound can next.
+    let c = new_cut (arc_no (k.0 + 1)) v u z in
+    let d = new_cut k u v z in
+    let hs : Slots = ss ++ None ∷ [] ++ None ∷ [] in
+    let s = new_slot u v first z in
+    let t = new_slot v u second z in
+    let one : Shows us (set hs (k.0 + 1) (Some t)) (with_cut_arc g c) = put_first vs us hs g (arc_no (k.0 + 1)) v u z second shows sound can second_is us_is in
+    let both : Shows ws (set (set hs (k.0 + 1) (Some t)) k.0 (Some s)) (with_cut_arc (with_cut_arc g c) d) =
+    put_first us ws (set hs (k.0 + 1) (Some t)) (with_cut_arc g c) k u v z first one (put_sound g c sound can) next first_is ws_is in
+    let same : set (set hs (k.0 + 1) (Some t)) k.0 (Some s) ≡ ts =
+    ap (λ n. set (set hs (n + 1) (Some t)) n (Some s)) last
+    ∙ (two_set_last ss None (Some s) (Some t)
+    ∙ (ap (λ o. ss ++ Some o ∷ [] ++ Some t ∷ []) (sym a_is)
+    ∙ (ap (λ l. l ++ Some t ∷ []) (sym rs_is)
+    ∙ (ap (λ o. rs ++ Some o ∷ []) (sym b_is) ∙ sym ts_is)))) in
+    subst (λ l. Shows ws l (with_cut_arc (with_cut_arc g c) d)) same both
+
+-- ---- the vertices and cells
+-- the cells and fields before, and the same with more room
+pub record Roomy (cs bs : List Cell) (fs gs : List (List Util)) (now : Slots) : Type 0 where
+  pub view : zipped cs fs ≡ now
+  pub few : length fs ≤ length cs
+  pub cells : bs ≡ cs
+  pub fields : gs ≡ fs
+
+next_number : (cs bs : List Cell) (fs gs : List (List Util)) (now : Slots) (k : ℕ) → Roomy cs bs fs gs now → k ≡ length bs → k ≡ length now
+next_number cs bs fs gs now k r number =
+    number ∙ (ap length r.cells ∙ (sym (length-zipped cs fs) ∙ ap length r.view))
+
+pub arc_joins : (vs ws : List Vertex) (cs bs ds : List Cell) (fs gs : List (List Util)) (now : Slots) (u v : VertexNo) (z : ℤ) (k : ℕ) (cell : Cell) → Roomy cs bs fs gs now → k ≡ length bs
+    → ws ≡ vertices_relinked vs u.0 None (Some (arc_no k)) → cell ≡ new_cell u v (vertex_in vs u.0).first z → ds ≡ bs ++ cell ∷ [] → both ws (zipped ds gs) ≡ with_new_arc (both vs now) (insertion u.0 v.0 z)
+unfolding with_new_arc
+arc_joins vs ws cs bs ds fs gs now u v z k cell r number ws_is cell_is ds_is =
+    ap₂ both (ws_is ∙ ap (λ j. vertices_relinked vs u.0 None (Some (arc_no j))) (next_number cs bs fs gs now k r number))
+    (slot_pushed cs bs ds fs gs now cell (Some (new_slot u v (vertex_in vs u.0).first z)) r.view r.few r.cells r.fields ds_is (ap (slot_with two_zeros) cell_is))
+
+pub edge_joins : (vs ws : List Vertex) (cs bs es ds : List Cell) (fs gs : List (List Util)) (now : Slots) (u v low high : ℕ) (z : ℤ) (k : ℕ) (a b : Cell) → Roomy cs bs fs gs now → k ≡ length bs → low ≡ min u v → high ≡ max u v
+    → ws ≡ relinked_both vs k low high → a ≡ new_cell (vertex_no low) (vertex_no high) (first_behind vs k low high) z → es ≡ bs ++ a ∷ []
+    → b ≡ new_cell (vertex_no high) (vertex_no low) (vertex_in vs high).first z → ds ≡ es ++ b ∷ [] → both ws (zipped ds gs) ≡ with_new_edge (both vs now) (insertion u v z)
+unfolding with_new_edge
+edge_joins vs ws cs bs es ds fs gs now u v low high z k a b r number low_is high_is ws_is a_is as_is b_is ds_is =
+    let same : k ≡ length now = next_number cs bs fs gs now k r number in
+    let s : ℕ → ℕ → ℕ → Slots = λ j x y. now ++ Some (new_slot (vertex_no x) (vertex_no y) (first_behind vs j x y) z) ∷ [] in
     let t : ℕ → ℕ → ℕ → Slots = λ j x y. s j x y ++ Some (new_slot (vertex_no y) (vertex_no x) (vertex_in vs y).first z) ∷ [] in
     let form : ℕ → ℕ → ℕ → Both = λ j x y. both (relinked_both vs j x y) (t j x y) in
-    let one : zipped bs fs ≡ s k low high = slot_pushed cs cs bs fs fs ss a (Some (new_slot (vertex_no low) (vertex_no high) (first_behind vs k low high) z)) refl few refl refl bs_is (ap (slot_with two_zeros) a_is) in
-    let more : length fs ≤ length bs = omega (arith, few, ap length bs_is, length_push cs a) in
-    let two : zipped ds fs ≡ t k low high = slot_pushed bs bs ds fs fs (s k low high) b (Some (new_slot (vertex_no high) (vertex_no low) (vertex_in vs high).first z)) one more refl refl ds_is (ap (slot_with two_zeros) b_is) in
+    let one : zipped es gs ≡ s k low high = slot_pushed cs bs es fs gs now a (Some (new_slot (vertex_no low) (vertex_no high) (first_behind vs k low high) z)) r.view r.few r.cells r.fields as_is (ap (slot_with two_zeros) a_is) in
+    let more : length gs ≤ length es = omega (arith, r.few, ap length r.cells, ap length r.fields, ap length as_is, length_push bs a) in
+    let two : zipped ds gs ≡ t k low high = slot_pushed es es ds gs gs (s k low high) b (Some (new_slot (vertex_no high) (vertex_no low) (vertex_in vs high).first z)) one more refl refl ds_is (ap (slot_with two_zeros) b_is) in
     ap₂ both ws_is two
     ∙ (ap (λ j. form j low high) same
-    ∙ (ap (λ x. form (length ss) x high) low_is ∙ ap (form (length ss) (min u v)) high_is))
-
--- ---- what is left of a run while a loop makes it
-pub record JoinLeft (directed : Bool) (vs : List Vertex) (cs : List Cell) (all : List Insertion) (ws : List Vertex) (ds : List Cell) (rest : List Insertion) : Type 0 where
-  pub same : (fs : List (List Util)) → length fs ≤ length cs → all_joined directed (both ws (zipped ds fs)) rest ≡ all_joined directed (both vs (zipped cs fs)) all
-  pub n : length ws ≡ length vs
-  pub grows : length cs ≤ length ds
-
-pub join_start : (directed : Bool) (vs : List Vertex) (cs : List Cell) (all rest : List Insertion) → rest ≡ all → JoinLeft directed vs cs all vs cs rest
-join_start directed vs cs all rest is =
-    record {
-      same = λ fs few. ap (all_joined directed (both vs (zipped cs fs))) is;
-      n = refl;
-      grows = omega arith;
-    }
-
-pub join_more : {directed : Bool} {vs ws xs : List Vertex} {cs ds es : List Cell} {all rest next : List Insertion} {e : Insertion} → JoinLeft directed vs cs all ws ds rest → rest ≡ e ∷ next
-    → Joins directed ws ds (e ∷ []) xs es → length xs ≡ length ws → length ds ≤ length es → JoinLeft directed vs cs all xs es next
-join_more {directed} {vs} {ws} {xs} {cs} {ds} {es} {all} {rest} {next} {e} left is joins n grows =
-    record {
-      same =
-          λ fs few.
-          ap (λ x. all_joined directed x next) (joins fs (omega (arith, few, left.grows)))
-          ∙ (ap (all_joined directed (both ws (zipped ds fs))) (sym is) ∙ left.same fs few);
-      n = n ∙ left.n;
-      grows = omega (arith, left.grows, grows);
-    }
-
-pub join_end : {directed : Bool} {vs ws : List Vertex} {cs ds : List Cell} {all rest : List Insertion} → JoinLeft directed vs cs all ws ds rest → rest ≡ [] → Joins directed vs cs all ws ds
-join_end {directed} {vs} {ws} {cs} {ds} left none =
-    λ fs few. ap (all_joined directed (both ws (zipped ds fs))) (sym none) ∙ left.same fs few
-
-abbrev pub no_spoke : Spoke
-no_spoke = record { to = 0; len = pos 0 }
-
--- the spoke at a place as a loop reads it
-abbrev pub spoke_in : List Spoke → ℕ → Spoke
-spoke_in ss i = get_or ss i no_spoke
-
--- whatever fields stand beside the first cells
-pub joined_now : (directed : Bool) (vs : List Vertex) (es : List Insertion) (ds : List Cell) {ws : List Vertex} {cs bs : List Cell} {fs gs : List (List Util)} {now : Slots} → zipped cs fs ≡ now → length fs ≤ length cs → bs ≡ cs → gs ≡ fs
-    → Joins directed vs bs es ws ds → both ws (zipped ds gs) ≡ all_joined directed (both vs now) es
-joined_now directed vs es ds {ws} {cs} {bs} {fs} {gs} {now} view few bs_is gs_is joins =
-    joins gs (omega (arith, few, ap length bs_is, ap length gs_is))
-    ∙ ap (λ ss. all_joined directed (both vs ss) es) (ap₂ zipped bs_is gs_is ∙ view)
-
--- the insertions that are left
-pub row-cons : (u to end : ℕ) (z : ℤ) → to < end → row u to end z ≡ insertion u to z ∷ row u (to + 1) end z
-row-cons u to end z h =
-    let more : end - to ≡ suc (end - (to + 1)) = omega arith in
-    ap (λ n. map (λ w. insertion u w z) (range_with_len to n)) more
-
-pub row-nil : (u to end : ℕ) (z : ℤ) → end ≤ to → row u to end z ≡ []
-row-nil u to end z h =
-    let none : end - to ≡ 0 = omega arith in
-    ap (λ n. map (λ w. insertion u w z) (range_with_len to n)) none
-
-pub along-cons : (u : ℕ) (ss : List Spoke) (i : ℕ) (s : Spoke) → i < length ss → s ≡ get_or ss i s → map (along u) (drop i ss) ≡ along u s ∷ map (along u) (drop (i + 1) ss)
-along-cons u ss i s h is = at_drop_more (map (along u)) ss i s h ∙ ap (λ r. along u r ∷ map (along u) (drop (i + 1) ss)) (sym is)
-
-pub along-nil : (u : ℕ) (ss : List Spoke) (i : ℕ) → length ss ≤ i → map (along u) (drop i ss) ≡ []
-along-nil u ss i h = at_drop_all (map (along u)) ss i h
-
--- the lengths of the spokes before a place fit, and that of the one there
-pub one_more_fits : (ss : List Spoke) (i j : ℕ) (d e : Spoke) → j < i + 1 → ((k : ℕ) (x : Spoke) → k < i → FitsSigned w64 (get_or ss k x).len) → FitsSigned w64 (get_or ss i e).len → i < length ss → FitsSigned w64 (get_or ss j d).len
-one_more_fits ss i j d e h before here low =
-    elim (cases_lt j i) [
-      | inl less ↦ before j d less
-      | inr more ↦
-          let same : j ≡ i = omega (arith, h, more) in
-          subst (λ k. FitsSigned w64 (get_or ss k d).len) (sym same) (subst (λ (r : Spoke). FitsSigned w64 r.len) (get_or_default ss i e d low) here)
-    ]
+    ∙ (ap (λ x. form (length now) x high) low_is ∙ ap (form (length now) (min u v)) high_is))
 
 -- ---- the graph
--- an insertion that a graph takes
-pub record CanJoin (n : ℕ) (e : Insertion) : Type 0 where
-  pub from : e.from < n
-  pub to : e.to < n
-  pub fits : FitsSigned w64 e.len
+arc_after : (a b : Inside) (g : GraphOf) (u v : VertexNo) (z : ℤ) → Opened a g → u.0 < n_of g → v.0 < n_of g → made_of g < 1000000 → FitsSigned w64 z
+    → both b.vertices b.slots ≡ with_new_arc (both a.vertices a.slots) (insertion u.0 v.0 z) → b.holes ≡ a.holes → SameOwn a b → Opened b (with_arc g u.0 v.0 z)
+unfolding with_new_arc
+arc_after a b g u v z o from to few fits is holes own =
+    let k = length a.slots in
+    let link = (vertex_in a.vertices u.0).first in
+    let ws = vertices_relinked a.vertices u.0 None (Some (arc_no k)) in
+    let ts : Slots = a.slots ++ Some (new_slot u v link z) ∷ [] in
+    let can : NewArcCan a g u v z (new_cut (arc_no k) u v z) a.vertices (a.slots ++ None ∷ []) = record {
+      opened = o;
+      from = from;
+      to = to;
+      few = few;
+      fits = fits;
+      cut = ap (λ m. new_cut (arc_no m) u v z) o.shows.made;
+      vertices = refl;
+      slots = refl;
+    } in
+    new_arc_after a b g u v z (new_cut (arc_no k) u v z) a.vertices ws (a.slots ++ None ∷ []) ts can
+    (arc_pushed a.vertices ws a.slots ts (arc_no k) u v z link (new_slot u v link z) refl refl refl refl refl)
+    (ap (λ (x : Both). x.vertices) is) (ap (λ (x : Both). x.slots) is) holes own
 
--- the first edge
-edge_first : (a : Inside) (g : GraphOf) (e : Insertion) → Opened a g → CanJoin (n_of g) e → made_of g + 1 < 1000000
-    → Opened (record a { vertices = (with_new_edge (both a.vertices a.slots) e).vertices; slots = (with_new_edge (both a.vertices a.slots) e).slots }) (with_edge g e.from e.to e.len)
+edge_after : (a b : Inside) (g : GraphOf) (u v : VertexNo) (z : ℤ) → Opened a g → u.0 < n_of g → v.0 < n_of g → made_of g + 1 < 1000000 → FitsSigned w64 z
+    → both b.vertices b.slots ≡ with_new_edge (both a.vertices a.slots) (insertion u.0 v.0 z) → b.holes ≡ a.holes → SameOwn a b → Opened b (with_edge g u.0 v.0 z)
 unfolding with_new_edge
-edge_first a g e o can few =
-    let low : VertexNo = vertex_no (min e.from e.to) in
-    let high : VertexNo = vertex_no (max e.from e.to) in
-    let z = e.len in
+edge_after a b g u v z o from to few fits is holes own =
+    let low : VertexNo = vertex_no (min u.0 v.0) in
+    let high : VertexNo = vertex_no (max u.0 v.0) in
     let k = length a.slots in
     let vs = a.vertices in
     let us = vertices_relinked vs high.0 None (Some (arc_no (k + 1))) in
@@ -155,12 +301,12 @@ edge_first a g e o can few =
     let ts : Slots = rs ++ Some (new_slot high low after_high z) ∷ [] in
     let second = new_cut (arc_no (k + 1)) high low z in
     let first = new_cut (arc_no k) low high z in
-    let c : NewEdgeCan a g (vertex_no e.from) (vertex_no e.to) z second first vs (a.slots ++ None ∷ [] ++ None ∷ []) = record {
+    let can : NewEdgeCan a g u v z second first vs (a.slots ++ None ∷ [] ++ None ∷ []) = record {
       opened = o;
-      from = can.from;
-      to = can.to;
+      from = from;
+      to = to;
       few = few;
-      fits = can.fits;
+      fits = fits;
       second = ap (λ m. new_cut (arc_no (m + 1)) high low z) o.shows.made;
       first = ap (λ m. new_cut (arc_no m) low high z) o.shows.made;
       vertices = refl;
@@ -169,95 +315,18 @@ edge_first a g e o can few =
     let puts : PutsBoth vs (a.slots ++ None ∷ [] ++ None ∷ []) second first ws ts =
     edge_pushed vs us ws a.slots rs ts (arc_no k) low high z after_low after_high (new_slot low high after_low z) (new_slot high low after_high z)
     refl refl refl refl refl refl refl refl refl in
-    let b : Inside = record a { vertices = ws; slots = ts } in
-    let own : SameOwn a b = record { id = refl; types = refl; fields = refl } in
-    new_edge_after a b g (vertex_no e.from) (vertex_no e.to) z second first vs ws _ ts c puts refl refl refl own
-
--- the first arc or edge
-one_joined : (directed : Bool) (a : Inside) (g : GraphOf) (e : Insertion) → Opened a g → CanJoin (n_of g) e → made_of g + numbers_each directed ≤ 1000000
-    → Opened (record a { vertices = (joined directed (both a.vertices a.slots) e).vertices; slots = (joined directed (both a.vertices a.slots) e).slots }) (inserted directed g e)
-unfolding joined inserted with_new_arc
-one_joined true a g e o can few = row_first a g (vertex_no e.from) e.len (length a.slots) e.to (vertex_in a.vertices e.from).first o can.from can.to (omega (arith, few)) can.fits refl refl
-one_joined false a g e o can few = edge_first a g e o can (omega (arith, few))
-
--- all of them
-all_after : (directed : Bool) (es : List Insertion) (a b : Inside) (g : GraphOf) → Opened a g → All (CanJoin (n_of g)) es → made_of g + length es * numbers_each directed ≤ 1000000
-    → both b.vertices b.slots ≡ all_joined directed (both a.vertices a.slots) es → b.holes ≡ a.holes → SameOwn a b → Opened b (with_all directed g es)
-unfolding with_all
-all_after directed [] a b g o can few is holes own =
-    let vertices : b.vertices ≡ a.vertices = ap (λ (x : Both). x.vertices) is in
-    let slots : b.slots ≡ a.slots = ap (λ (x : Both). x.slots) is in
-    record {
-      graph = o.graph;
-      shows = rw (vertices, slots) o.shows;
-      holes = rw holes o.holes;
-      id = own.id ∙ o.id;
-      types = own.types ∙ o.types;
-      fields = own.fields ∙ o.fields;
-    }
-all_after directed (e ∷ es) a b g o can few is holes own =
-    let x = joined directed (both a.vertices a.slots) e in
-    let a' : Inside = record a { vertices = x.vertices; slots = x.slots } in
-    let first : Opened a' (inserted directed g e) = one_joined directed a g e o (can 0 e (omega arith)) (omega (arith, few)) in
-    let rest : All (CanJoin (n_of (inserted directed g e))) es = λ i d h. subst (λ n. CanJoin n (get_or es i d)) (sym (n-inserted directed g e)) (can (suc i) d (omega (arith, h))) in
-    all_after directed es a' b (inserted directed g e) first rest (omega (arith, few, made-inserted directed g e)) is holes (record { id = own.id; types = own.types; fields = own.fields })
-
--- what is left, clause by clause
-pub record AllDone (directed : Bool) (b : Inside) (g : GraphOf) (es : List Insertion) : Type 0 where
-  pub arena : IsArena b
-  pub graph : graph_of b ≡ with_all directed g es
-
-pub all_done : (directed : Bool) (es : List Insertion) (a b : Inside) (g : GraphOf) → Opened a g → All (CanJoin (n_of g)) es → made_of g + length es * numbers_each directed ≤ 1000000
-    → both b.vertices b.slots ≡ all_joined directed (both a.vertices a.slots) es → b.holes ≡ a.holes → SameOwn a b → AllDone directed b g es
-all_done directed es a b g o can few is holes own =
-    let after = all_after directed es a b g o can few is holes own in
-    record { arena = closed_arena b _ after; graph = closed b _ after }
-
--- a graph takes a row, and what spokes lead along
-row_can : (n u first end : ℕ) (z : ℤ) → u < n → end ≤ n → FitsSigned w64 z → All (CanJoin n) (row u first end z)
-row_can n u first end z from high fits =
-    let f : ℕ → Insertion = λ w. insertion u w z in
-    λ i d h.
-    let low : i < end - first = omega (arith, h, length-row u first end z) in
-    subst (CanJoin n) (sym (get_or-map-range_with_len f first (end - first) i (first + i) d low refl)) (record { from = from; to = omega (arith, low, high); fits = fits })
-
-along_can : (n u : ℕ) (ss : List Spoke) → u < n → All (λ s. s.to < n) ss → All (λ s. FitsSigned w64 s.len) ss → All (CanJoin n) (map (along u) ss)
-along_can n u ss from to fits = All-map (CanJoin n) (along u) ss (λ i d h. record { from = from; to = to i d h; fits = fits i d h })
-
-pub row_joined : (a b : Inside) (g : GraphOf) (u first end : ℕ) (z y : ℤ) → Opened a g → u < n_of g → end ≤ n_of g → FitsSigned w64 z → y ≡ z → length a.slots + 2 * (end - first) ≤ 1000000
-    → both b.vertices b.slots ≡ all_joined false (both a.vertices a.slots) (row u first end y) → b.holes ≡ a.holes → SameOwn a b → AllDone false b g (row u first end z)
-row_joined a b g u first end z y o from high fits same few is holes own =
-    let es = row u first end z in
-    let long : length es ≡ end - first = length-row u first end z in
-    all_done false es a b g o (row_can (n_of g) u first end z from high fits) (omega (arith, few, o.shows.made, long))
-    (subst (λ x. both b.vertices b.slots ≡ all_joined false (both a.vertices a.slots) (row u first end x)) same is) holes own
-
-pub along_joined : (directed : Bool) (a b : Inside) (g : GraphOf) (u : ℕ) (ss : List Spoke) → Opened a g → u < n_of g → All (λ s. s.to < n_of g) ss → All (λ s. FitsSigned w64 s.len) ss
-    → length a.slots + length ss * numbers_each directed ≤ 1000000 → both b.vertices b.slots ≡ all_joined directed (both a.vertices a.slots) (map (along u) ss) → b.holes ≡ a.holes
-    → SameOwn a b → AllDone directed b g (map (along u) ss)
-along_joined directed a b g u ss o from to fits few is holes own =
-    let long : length (map (along u) ss) ≡ length ss = length-map ss (along u) in
-    let all : length (map (along u) ss) * numbers_each directed ≡ length ss * numbers_each directed = ap (λ n. n * numbers_each directed) long in
-    all_done directed (map (along u) ss) a b g o (along_can (n_of g) u ss from to fits) (omega (arith, few, o.shows.made, all)) is holes own
-
--- a single one
-one_can : (n u v : ℕ) (z : ℤ) → u < n → v < n → FitsSigned w64 z → All (CanJoin n) (insertion u v z ∷ [])
-one_can n u v z from to fits = All-cons (CanJoin n) (insertion u v z) [] (record { from = from; to = to; fits = fits }) (All-nil (CanJoin n))
+    new_edge_after a b g u v z second first vs ws _ ts can puts (ap (λ (x : Both). x.vertices) is) (ap (λ (x : Both). x.slots) is) holes own
 
 pub arc_joined : (a b : Inside) (g : GraphOf) (u v : VertexNo) (z y : ℤ) (number : ArcNo) → Opened a g → u.0 < n_of g → v.0 < n_of g → FitsSigned w64 z → y ≡ z → length a.slots + 1 ≤ 1000000
-    → both b.vertices b.slots ≡ all_joined true (both a.vertices a.slots) (insertion u.0 v.0 y ∷ []) → b.holes ≡ a.holes → SameOwn a b → number ≡ arc_no (made_of g) → NewArcDone b g u v z number
-unfolding with_all inserted
+    → both b.vertices b.slots ≡ with_new_arc (both a.vertices a.slots) (insertion u.0 v.0 y) → b.holes ≡ a.holes → SameOwn a b → number ≡ arc_no (made_of g) → NewArcDone b g u v z number
 arc_joined a b g u v z y number o from to fits same few is holes own number_is =
     let less : made_of g < 1000000 = omega (arith, few, o.shows.made) in
     arc_done b g u v z number o.graph from to less fits number_is
-    (all_after true (insertion u.0 v.0 z ∷ []) a b g o (one_can (n_of g) u.0 v.0 z from to fits) (omega (arith, less))
-    (subst (λ x. both b.vertices b.slots ≡ all_joined true (both a.vertices a.slots) (insertion u.0 v.0 x ∷ [])) same is) holes own)
+    (arc_after a b g u v z o from to less fits (subst (λ x. both b.vertices b.slots ≡ with_new_arc (both a.vertices a.slots) (insertion u.0 v.0 x)) same is) holes own)
 
 pub edge_joined : (a b : Inside) (g : GraphOf) (u v : VertexNo) (z y : ℤ) (number : ArcNo) → Opened a g → u.0 < n_of g → v.0 < n_of g → FitsSigned w64 z → y ≡ z → length a.slots + 2 ≤ 1000000
-    → both b.vertices b.slots ≡ all_joined false (both a.vertices a.slots) (insertion u.0 v.0 y ∷ []) → b.holes ≡ a.holes → SameOwn a b → number ≡ arc_no (made_of g) → NewEdgeDone b g u v z number
-unfolding with_all inserted
+    → both b.vertices b.slots ≡ with_new_edge (both a.vertices a.slots) (insertion u.0 v.0 y) → b.holes ≡ a.holes → SameOwn a b → number ≡ arc_no (made_of g) → NewEdgeDone b g u v z number
 edge_joined a b g u v z y number o from to fits same few is holes own number_is =
     let less : made_of g + 1 < 1000000 = omega (arith, few, o.shows.made) in
     edge_done b g u v z number o.graph from to less fits number_is
-    (all_after false (insertion u.0 v.0 z ∷ []) a b g o (one_can (n_of g) u.0 v.0 z from to fits) (omega (arith, less))
-    (subst (λ x. both b.vertices b.slots ≡ all_joined false (both a.vertices a.slots) (insertion u.0 v.0 x ∷ [])) same is) holes own)
+    (edge_after a b g u v z o from to less fits (subst (λ x. both b.vertices b.slots ≡ with_new_edge (both a.vertices a.slots) (insertion u.0 v.0 x)) same is) holes own)

@@ -10,9 +10,10 @@ use Rattle.sgb_graph.specs.Edit.{with_listed, without_listed, with_cut_arc, with
 use Rattle.sgb_graph.specs.Delta.{cut_arc}
 use Rattle.sgb_graph.specs.Private.Link.{CanPutBack, CanTakeOut}
 use Rattle.sgb_graph.proofs.Counts.{occurs_yes, occurs_no}
-use Rattle.sgb_graph.proofs.Graphs.{same_graph, owner_is, hole_unlisted}
-use Rattle.sgb_graph.proofs.PutBack.{owner_with, put_sound, put_vertex_same, put_occurrences}
+use Rattle.sgb_graph.proofs.Graphs.{owner_is, hole_unlisted}
+use Rattle.sgb_graph.proofs.ShowsPut.{owner_with, put_sound, put_vertex_same, put_occurs_new}
 use Rattle.sgb_graph.proofs.TakeOut.{Found, owner_without, take_n, take_made, take_vertex_same, take_entry_same, entry_without, take_names}
+use Rattle.sgb_graph.specs.Private.SameLaws.{same_graph}
 
 -- of lists
 remove-insert : (ks : List ℕ) (i k : ℕ) → i ≤ length ks → remove (insert ks i k) i ≡ ks
@@ -35,17 +36,10 @@ position-insert (q ∷ ks) (suc i) k h none =
     ap (λ b. let m : ℕ = cond (not b) (1 + position_or_len (λ j. j == k) (insert ks i k)) 0 in m) (ne_eqb q k ne) in
     omega (arith, step, rest)
 
-pub put_once : (g : GraphOf) (c : CutArc) → IsGraph g → CanPutBack g c → occurrences c.number.0 (arcs_of (with_cut_arc g c) c.owner.0) ≡ 1
-put_once g c sound can =
-    ap (λ z. occurrences c.number.0 z.arcs) (put_vertex_same g c can)
-    ∙ (put_occurrences g c c.number.0
-    ∙ (ap (λ b. occurrences c.number.0 (arcs_of g c.owner.0) + cond b 1 0) (eq-eqb c.number.0 c.number.0 refl)
-    ∙ omega (arith, hole_unlisted g c.number.0 c.owner.0 sound (ap is_some can.hole))))
-
 -- an arc that was put into the graph stands where it was put
 pub put_owner_of : (g : GraphOf) (c : CutArc) → IsGraph g → CanPutBack g c → owner_of (with_cut_arc g c) c.number.0 ≡ c.owner.0
 put_owner_of g c sound can =
-    let one : occurrences c.number.0 (arcs_of (with_cut_arc g c) c.owner.0) ≡ 1 = put_once g c sound can in
+    let one : occurrences c.number.0 (arcs_of (with_cut_arc g c) c.owner.0) ≡ 1 = put_occurs_new g c sound can in
     owner_is (with_cut_arc g c) c.number.0 c.owner.0 (put_sound g c sound can) (omega (arith, one))
 
 pub put_place_of : (g : GraphOf) (c : CutArc) → IsGraph g → CanPutBack g c → place_of (with_cut_arc g c) c.number.0 ≡ c.place

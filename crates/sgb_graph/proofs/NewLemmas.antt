@@ -12,7 +12,7 @@ use Rattle.sgb_graph.specs.Text.{is_text_byte}
 use Rattle.sgb_graph.specs.Types.{IsTypes}
 use Rattle.sgb_graph.specs.Graph.{GraphOf, VertexOf, IsId, IsVertex, IsValue, no_vertex, occurrences}
 use Rattle.sgb_graph.specs.New.{six_zeros, bare_graph, new_graph, new_id}
-use Rattle.sgb_graph.specs.Private.Blank.{blank}
+use Rattle.sgb_graph.specs.Private.Vertices.{blank}
 use Rattle.sgb_graph.specs.Chain.{Leads}
 use Rattle.sgb_graph.specs.Private.Arena.{Shows, ShowsVertex, IsBare, bare_vertex}
 use Rattle.sgb_graph.proofs.Counts.{sum_zero}

@@ -1,7 +1,6 @@
 -- Lemmas on what the readers of a graph show.
-use Rattle.std.proofs.Common.{◌≡◌, ◌<◌, ℕ, List, [], ◌∷◌, ◌++◌, get_or, Option, Some, None, is_some, IsSome, IfSome, All, true, refl, ap, subst, ◌∙◌}
+use Rattle.std.proofs.Common.{◌≡◌, ◌<◌, ℕ, List, [], ◌∷◌, ◌++◌, get_or, Option, Some, None, IsSome, IfSome, All, refl, ap, subst, ◌∙◌}
 use Rattle.sgb_graph.specs.declared.field.ArcNo.{ArcNo}
-use Rattle.sgb_graph.specs.declared.graph.arena.Slot.{Slot}
 use Rattle.sgb_graph.specs.declared.graph.Graph.TheInside.{Inside}
 use Rattle.sgb_graph.specs.Graph.{GraphOf, ArcOf, IsGraph, IsArc, IsTip, n_of, made_of, arcs_of, arc_at}
 use Rattle.sgb_graph.specs.Edit.{owner_of, entry_at, arc_or, no_arc}
@@ -13,6 +12,7 @@ use Rattle.sgb_graph.specs.Private.Exchange.{fields_in}
 use Rattle.sgb_graph.proofs.Counts.{occurs_at}
 use Rattle.sgb_graph.proofs.Graphs.{owner_is}
 use Rattle.sgb_graph.proofs.Shows.{opened, but_of, numbers_are, slot_lives}
+use Rattle.sgb_graph.proofs.ExchangeLemmas.{fields_of_entry}
 
 -- the list that `arcs` walks along
 pub arcs_are : (a : Inside) (g : GraphOf) (v : ℕ) (link : Option ArcNo) (ss : Slots) (ks : List ℕ) → graph_of a ≡ g → IsArena a → v < n_of g → link ≡ (vertex_in a.vertices v).first → ss ≡ a.slots → ks ≡ numbers ss link → ks ≡ arcs_of g v
@@ -64,12 +64,6 @@ live_slot a g k ss same arena is live =
     slot_lives (slot_at ss k) (arc_at g k) (ap (λ s. entry_of (slot_at s k)) is ∙ o.shows.entries k) live
 
 -- the fields of a live arc
-fields_of_entry : (o : Option Slot) (p : Option ArcOf) → entry_of o ≡ p → is_some p ≡ true → fields_in o ≡ (arc_or no_arc p).fields
-fields_of_entry None None is live = absurd cc
-fields_of_entry None (Some e) is live = absurd cc
-fields_of_entry (Some s) None is live = absurd cc
-fields_of_entry (Some s) (Some e) is live = cc
-
 pub fields_are : (a : Inside) (g : GraphOf) (k : ℕ) (ss : Slots) → graph_of a ≡ g → IsArena a → ss ≡ a.slots → IsSome (arc_at g k) → fields_in (slot_at ss k) ≡ (entry_at g k).fields
 fields_are a g k ss same arena is live =
     let o = opened a g same arena in

@@ -1,9 +1,10 @@
 -- Lemmas on the fields of two graphs that are compared.
-use Rattle.std.proofs.Common.{◌≡◌, ◌<◌, ℕ, zero, suc, List, [], ◌∷◌, ◌++◌, length, get_or, map, Option, Some, None, is_some, IfSome, Bool, true, false, ◌&&◌, ◌==◌, nat_eq, inl, inr, refl, sym, ap, subst, ◌∙◌, arith}
-use Rattle.std.specs.List.{list_all, zip}
+use Rattle.std.proofs.Common.{◌≡◌, ◌<◌, ◌+◌, ℕ, zero, suc, List, [], ◌∷◌, length, get_or, Bool, true, false, ◌&&◌, refl, ap, ◌∙◌, arith, inl, inr, zip, ◌++◌, map, Option, Some, None, is_some, IfSome, ◌==◌, nat_eq, sym, subst}
+use Rattle.std.specs.List.{list_all}
+use Rattle.std.proofs.lemmas.Bool.{cases_lt, and_from, eq-eqb, cases_Bool, and_parts, eqb-true, eqb-false, ne_eqb, cases_eq}
+use Rattle.sgb_graph.specs.Private.SameRows.{each_eq, link_eq, row_eq, slot_eq, own_eq, lists_eq}
 use Rattle.std.specs.Cmp.Lexicographic.{pointwise}
 use Rattle.std.specs.Ordering.{int_eq}
-use Rattle.std.proofs.lemmas.Bool.{cases_Bool, and_parts, and_from, eqb-true, eqb-false, eq-eqb, ne_eqb, cases_eq}
 use Rattle.std.proofs.lemmas.List.{same_lists, get_or_default}
 use Rattle.sgb_graph.specs.declared.field.ArcNo.{ArcNo}
 use Rattle.sgb_graph.specs.declared.graph.Vertex.{Vertex}
@@ -14,12 +15,49 @@ use Rattle.sgb_graph.specs.Chain.{chain}
 use Rattle.sgb_graph.specs.Private.Arena.{Slots, IsArena, slot_at, next_at, next_of, entry_of, owner_in, numbers, vertex_of, graph_of}
 use Rattle.sgb_graph.specs.Edit.{arc_or, no_arc}
 use Rattle.sgb_graph.specs.Same.{tip_eq, util_eq, graph_eq}
-use Rattle.sgb_graph.specs.Private.SameRows.{link_eq, row_eq, slot_eq, each_eq, own_eq, lists_eq}
 use Rattle.sgb_graph.proofs.Counts.{occurs_no}
-use Rattle.sgb_graph.proofs.Graphs.{same_graph, vertex_of_listed}
+use Rattle.sgb_graph.proofs.Graphs.{vertex_of_listed}
 use Rattle.sgb_graph.proofs.Shows.{Opened, opened}
 use Rattle.sgb_graph.proofs.Reading.{first_is, next_is}
-use Rattle.sgb_graph.specs.Private.SameLaws.{Tells, lists_tell, texts_tell, utils_tell, ints_tell, graphs_tell, tip_same, tip_self}
+use Rattle.sgb_graph.specs.Private.SameLaws.{Tells, lists_tell, texts_tell, utils_tell, ints_tell, graphs_tell, tip_same, tip_self, same_graph}
+
+pub and_no : (b : Bool) → (b && false) ≡ false
+and_no true = refl
+and_no false = refl
+
+-- the first i of both pass the test
+abbrev pub SameBelow : {K : Type 0} → (K → K → Bool) → K → List K → List K → ℕ → Type 0
+SameBelow E d xs ys i = (j : ℕ) → j < i → E (get_or xs j d) (get_or ys j d) ≡ true
+
+pub same_more : {K : Type 0} (E : K → K → Bool) (d : K) (xs ys : List K) (i : ℕ) → SameBelow E d xs ys i → E (get_or xs i d) (get_or ys i d) ≡ true → SameBelow E d xs ys (i + 1)
+same_more E d xs ys i below here j low =
+    elim (cases_lt j i) [
+      | inl h ↦ below j h
+      | inr h ↦
+          let same : j ≡ i = omega (arith, low, h) in
+          ap (λ k. E (get_or xs k d) (get_or ys k d)) same ∙ here
+    ]
+
+all_same : {K : Type 0} (E : K → K → Bool) (d : K) (xs ys : List K) → length xs ≡ length ys → SameBelow E d xs ys (length xs) → list_all (λ p. E p.0 p.1) (zip xs ys) ≡ true
+all_same E d [] ys many below = refl
+all_same E d (x ∷ xs) [] many below = absurd (omega (arith, many))
+all_same E d (x ∷ xs) (y ∷ ys) many below =
+    and_from (E x y) (list_all (λ p. E p.0 p.1) (zip xs ys)) (below 0 (omega arith))
+    (all_same E d xs ys (omega (arith, many)) (λ j low. below (suc j) (omega (arith, low))))
+
+one_differs : {K : Type 0} (E : K → K → Bool) (d : K) (xs ys : List K) (i : ℕ) → i < length xs → i < length ys → E (get_or xs i d) (get_or ys i d) ≡ false → list_all (λ p. E p.0 p.1) (zip xs ys) ≡ false
+one_differs E d [] ys i low low' differs = absurd (omega (arith, low))
+one_differs E d (x ∷ xs) [] i low low' differs = absurd (omega (arith, low'))
+one_differs E d (x ∷ xs) (y ∷ ys) zero low low' differs = ap (λ b. b && list_all (λ p. E p.0 p.1) (zip xs ys)) differs
+one_differs E d (x ∷ xs) (y ∷ ys) (suc i) low low' differs =
+    ap (λ b. E x y && b) (one_differs E d xs ys i (omega (arith, low)) (omega (arith, low')) differs) ∙ and_no (E x y)
+
+pub each_same : {K : Type 0} (E : K → K → Bool) (d : K) (xs ys : List K) → length xs ≡ length ys → SameBelow E d xs ys (length xs) → each_eq E xs ys ≡ true
+each_same E d xs ys many below =
+    and_from (length xs == length ys) (list_all (λ p. E p.0 p.1) (zip xs ys)) (eq-eqb (length xs) (length ys) many) (all_same E d xs ys many below)
+
+pub each_differs : {K : Type 0} (E : K → K → Bool) (d : K) (xs ys : List K) (i : ℕ) → i < length xs → i < length ys → E (get_or xs i d) (get_or ys i d) ≡ false → each_eq E xs ys ≡ false
+each_differs E d xs ys i low low' differs = ap (λ b. (length xs == length ys) && b) (one_differs E d xs ys i low low' differs) ∙ and_no (length xs == length ys)
 
 -- the tests
 link_same : (l m : Option ArcNo) → link_eq l m ≡ true → l ≡ m
@@ -83,10 +121,6 @@ slot_passes (Some s) (Some t) e n =
     (ap (int_eq s.len) (sym len) ∙ ints_tell.self s.len))
     (ap (pointwise util_eq s.fields) (sym fields) ∙ utils_tell.self s.fields)
 
-and_false : (b : Bool) → (b && false) ≡ false
-and_false true = refl
-and_false false = refl
-
 suc_eq : (n m : ℕ) → (suc n == suc m) ≡ (n == m)
 suc_eq n m =
     elim (cases_eq n m) [
@@ -97,7 +131,7 @@ suc_eq n m =
 -- one pair more in front
 each_more : (e : Bool) (n m : ℕ) (all : Bool) → ((suc n == suc m) && (e && all)) ≡ (e && ((n == m) && all))
 each_more true n m all = ap (λ b. b && all) (suc_eq n m)
-each_more false n m all = and_false (suc n == suc m)
+each_more false n m all = and_no (suc n == suc m)
 
 -- pairs that pass, place by place
 each_is : {K : Type 0} (E : K → K → Bool) (xs ys : List K) → each_eq E xs ys ≡ pointwise E xs ys

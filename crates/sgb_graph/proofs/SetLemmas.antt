@@ -3,7 +3,7 @@ use Rattle.std.proofs.Common.{◌≡◌, ◌<◌, ℕ, ℤ, List, get_or, set, O
 use Rattle.std.specs.Int.{w64}
 use Rattle.std.proofs.lemmas.Bool.{cases_eq, ltb-true, lt-ltb}
 use Rattle.std.proofs.lemmas.Int.{to_z-of_z}
-use Rattle.std.proofs.lemmas.List.{get_or-set_same, get_or-set_other, length-set, set-set, set-get_or}
+use Rattle.std.proofs.lemmas.List.{get_or-set_same, get_or-set_other, length-set, set-set, set-get_or, get_or_default}
 use Rattle.std.proofs.lemmas.List.Sums.{sum_by-set}
 use Rattle.sgb_graph.specs.declared.field.VertexNo.{VertexNo}
 use Rattle.sgb_graph.specs.declared.field.ArcNo.{ArcNo}
@@ -12,19 +12,17 @@ use Rattle.sgb_graph.specs.declared.graph.arena.Slot.{Slot}
 use Rattle.sgb_graph.specs.declared.graph.Graph.TheInside.{Inside}
 use Rattle.sgb_graph.specs.Text.{IsText}
 use Rattle.sgb_graph.specs.Graph.{GraphOf, VertexOf, ArcOf, IsGraph, IsVertex, IsArc, n_of, vertex_at, no_vertex, arcs_of, arc_at, has_arc, has_vertex, occurrences, listings, names_in, names_of}
-use Rattle.sgb_graph.specs.Edit.{with_len, with_label, entry_at, arc_or, no_arc}
-use Rattle.sgb_graph.specs.Private.Arena.{Slots, Shows, ShowsVertex, IsArena, graph_of, slot_at, entry_of, owner_in, names_counted}
+use Rattle.sgb_graph.specs.Edit.{with_len, with_label, entry_at, arc_or, no_arc, util_at, has_place, refusal_unless}
+use Rattle.sgb_graph.specs.Private.Arena.{Slots, Shows, ShowsVertex, IsArena, graph_of, slot_at, entry_of, owner_in, names_counted, len_in, with_len_in}
 use Rattle.sgb_graph.specs.Private.Link.{any_vertex, vertex_in}
 use Rattle.sgb_graph.specs.Private.Vertices.{with_name}
-use Rattle.sgb_graph.specs.Private.Arena.{len_in, with_len_in}
-use Rattle.sgb_graph.specs.Private.Aim.{with_aim, with_aim_in}
+use Rattle.sgb_graph.specs.Private.Fill.{with_aim, with_aim_in}
 use Rattle.sgb_graph.proofs.Aiming.{aim_opened}
-use Rattle.sgb_graph.proofs.Graphs.{same_graph, made_of_live}
+use Rattle.sgb_graph.proofs.Graphs.{made_of_live}
 use Rattle.sgb_graph.proofs.Sound.{Keeps, IsValue-keeps, IsVertex-keeps, IsEntry-keeps, All-set, entry_same}
 use Rattle.sgb_graph.proofs.Shows.{Opened, opened, closed, closed_arena}
 use Rattle.sgb_graph.proofs.TakeOut.{some_entry}
 use Rattle.sgb_graph.proofs.ExchangeLemmas.{owned_as, graph_six, fields_of_entry}
-use Rattle.std.proofs.lemmas.List.{get_or_default}
 use Rattle.sgb_graph.specs.declared.field.Util.{Util}
 use Rattle.sgb_graph.specs.declared.field.Util.TheVariants as utils
 use Rattle.sgb_graph.specs.declared.field.VertexField.{VertexField}
@@ -34,9 +32,9 @@ use Rattle.sgb_graph.specs.declared.field.Place.{Place}
 use Rattle.sgb_graph.specs.declared.field.Place.TheVariants as places
 use Rattle.sgb_graph.specs.declared.refusal.Refusal.TheVariants.{BadOperand}
 use Rattle.sgb_graph.specs.Field.{vertex_place, arc_place, graph_place}
-use Rattle.sgb_graph.specs.Edit.{util_at, has_place, refusal_unless}
 use Rattle.sgb_graph.specs.Private.Exchange.{fields_in}
 use Rattle.sgb_graph.specs.Delta.{LeftByLen, LeftByLabel}
+use Rattle.sgb_graph.specs.Private.SameLaws.{same_graph}
 
 -- a label
 pub label_opened : (a b : Inside) (g : GraphOf) (v : ℕ) (t : List ℕ) → Opened a g → v < n_of g → IsText t
@@ -219,7 +217,7 @@ util_graph a g p f i u same arena is place =
     ∙ (ap (λ us. get_or us (graph_place f) u) o.fields
     ∙ (get_or_default g.fields (graph_place f) u utils.Zero (omega (arith, o.graph.six, graph_six f)) ∙ ap (util_at g) (sym is)))
 
-unless_ok : (b : Bool) → refusal_unless b BadOperand None ≡ None → b ≡ true
+pub unless_ok : (b : Bool) → refusal_unless b BadOperand None ≡ None → b ≡ true
 unless_ok true e = refl
 unless_ok false e = absurd cc
 

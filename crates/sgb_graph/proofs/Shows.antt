@@ -2,7 +2,7 @@
 use Rattle.std.proofs.Common.{◌≡◌, ◌<◌, ◌+◌, ℕ, List, length, get_or, map, Option, Some, None, is_some, IsSome, IfSome, All, true, refl, sym, ap, subst, ◌∙◌, arith, FitsSigned}
 use Rattle.std.specs.Int.{w64}
 use Rattle.sgb_graph.specs.Read.{entry_view, arc_view}
-use Rattle.std.proofs.lemmas.List.{get_or-map, length-map, same_lists, get_or_default, get_or_read}
+use Rattle.std.proofs.lemmas.List.{get_or-map, length-map, same_lists, get_or_default}
 use Rattle.sgb_graph.specs.declared.field.ArcNo.{ArcNo}
 use Rattle.sgb_graph.specs.declared.graph.Vertex.{Vertex}
 use Rattle.sgb_graph.specs.declared.graph.arena.Slot.{Slot}
@@ -13,9 +13,10 @@ use Rattle.sgb_graph.specs.Edit.{owner_of}
 use Rattle.sgb_graph.specs.Chain.{Leads}
 use Rattle.sgb_graph.specs.Private.Arena.{Slots, Shows, ShowsVertex, IsLinked, IsArena, slot_at, next_at, entry_of, owner_in, view_in, numbers, vertex_of, graph_of}
 use Rattle.sgb_graph.specs.Private.Link.{any_vertex, vertex_in}
-use Rattle.sgb_graph.proofs.Graphs.{owner_is, arcs_live, few_arcs_of, same_vertex, same_graph, made_of_live}
+use Rattle.sgb_graph.proofs.Graphs.{owner_is, arcs_live, few_arcs_of, made_of_live}
 use Rattle.sgb_graph.proofs.Cells.{live_low}
 use Rattle.sgb_graph.proofs.Chains.{chain_is}
+use Rattle.sgb_graph.specs.Private.SameLaws.{same_vertex, same_graph}
 
 -- what is known of the fields of a graph g
 pub record Opened (a : Inside) (g : GraphOf) : Type 0 where

@@ -1,5 +1,5 @@
 -- Lemmas on what setting a field leaves of the fields of a graph.
-use Rattle.std.proofs.Common.{◌≡◌, ◌<◌, ℕ, List, length, get_or, set, Option, Some, None, IsSome, Bool, true, false, ◌&&◌, pos, refl, sym, ap, subst, ◌∙◌, arith, inl, inr, ◌==◌}
+use Rattle.std.proofs.Common.{◌≡◌, ◌<◌, ℕ, List, length, get_or, set, Option, Some, None, IsSome, true, ◌&&◌, pos, refl, sym, ap, subst, ◌∙◌, arith, inl, inr, ◌==◌}
 use Rattle.std.specs.Ordering.{int_eq}
 use Rattle.std.proofs.lemmas.Bool.{cases_Bool, and_from, and_parts, ltb-true, lt-ltb}
 use Rattle.std.proofs.lemmas.List.{set-set, set-get_or, get_or-set_same}
@@ -22,6 +22,7 @@ use Rattle.sgb_graph.proofs.Sound.{entry_same, IsValue-keeps}
 use Rattle.sgb_graph.proofs.TakeOut.{some_entry}
 use Rattle.sgb_graph.proofs.Shows.{Opened, opened, closed, closed_arena}
 use Rattle.sgb_graph.proofs.ExchangeLemmas.{util_facts}
+use Rattle.sgb_graph.proofs.SetLemmas.{unless_ok}
 
 -- what the value names is there
 abbrev IsNamed : ℕ → List (Option ArcOf) → Util → Type 0
@@ -147,10 +148,6 @@ with_util-with_util g (places.Arc k f) u sound there =
     ∙ (set-set g.entries k.0 (Some y) (Some e) ∙ (ap (set g.entries k.0) (sym (some_entry (arc_at g k.0) there)) ∙ set-get_or g.entries k.0 None)))
 
 -- undoing a set field
-unless_ok : (b : Bool) → refusal_unless b BadOperand None ≡ None → b ≡ true
-unless_ok true e = refl
-unless_ok false e = absurd cc
-
 place_there : (g : GraphOf) (p : Place) (u : Util) → IsGraph g → CanExchange g p u → has_place (with_util g p u) p ≡ true
 unfolding with_util
 place_there g (places.Graph f) u sound can = refl

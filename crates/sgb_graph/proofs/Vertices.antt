@@ -1,8 +1,7 @@
 -- Lemmas on vertices that are kept as labels, links and fields.
-use Rattle.std.proofs.Common.{◌≡◌, ◌≢◌, ◌<◌, ◌≤◌, ◌+◌, ℕ, zero, suc, List, [], ◌∷◌, ◌++◌, length, get_or, set, replicate, Option, None, Bool, true, false, ◌&&◌, refl, sym, ap, subst, ◌∙◌, arith, inl, inr, zip}
+use Rattle.std.proofs.Common.{◌≡◌, ◌≢◌, ◌<◌, ◌≤◌, ℕ, zero, suc, List, [], ◌∷◌, ◌++◌, length, get_or, set, replicate, Option, None, true, ◌&&◌, refl, sym, ap, subst, ◌∙◌, arith}
 use Rattle.std.specs.List.{list_all}
-use Rattle.std.specs.Prelude.{◌==◌}
-use Rattle.std.proofs.lemmas.Bool.{cases_lt, and_from, eq-eqb}
+use Rattle.std.proofs.lemmas.Bool.{and_from}
 use Rattle.std.proofs.lemmas.List.{get_or-set_same, get_or-set_other, get_or_past, get_or_read, set-get_or}
 use Rattle.sgb_graph.specs.declared.field.ArcNo.{ArcNo}
 use Rattle.sgb_graph.specs.declared.field.Util.{Util}
@@ -10,10 +9,9 @@ use Rattle.sgb_graph.specs.declared.field.Util.TheVariants.{Zero}
 use Rattle.sgb_graph.specs.declared.graph.Vertex.{Vertex}
 use Rattle.sgb_graph.specs.Honest.{are_allowed}
 use Rattle.sgb_graph.specs.New.{six_zeros}
-use Rattle.sgb_graph.specs.Private.Blank.{blank}
+use Rattle.sgb_graph.specs.Private.Vertices.{blank, first_at, values_at, row, rows, PutsValues, unlinked, with_first, with_name, with_value}
 use Rattle.sgb_graph.specs.Private.Link.{vertex_in}
-use Rattle.sgb_graph.specs.Private.SameRows.{each_eq, row_eq}
-use Rattle.sgb_graph.specs.Private.Vertices.{first_at, values_at, row, rows, SameValues, PutsValues, unlinked, with_first, with_name, with_value}
+use Rattle.sgb_graph.proofs.Cells.{cons_two, suc_not, suc_ne}
 
 abbrev pub Firsts : Type 0
 Firsts = ℕ → Option ArcNo
@@ -31,17 +29,8 @@ vertex_in-rows [] F U v low = absurd (omega (arith, low))
 vertex_in-rows (l ∷ ls) F U zero low = refl
 vertex_in-rows (l ∷ ls) F U (suc v) low = vertex_in-rows ls (λ w. F (suc w)) (λ w. U (suc w)) v (omega (arith, low))
 
-cons_two : {X : Type 0} (x y : X) (xs ys : List X) → x ≡ y → xs ≡ ys → (x ∷ xs) ≡ (y ∷ ys)
-cons_two x y xs ys one all = ap (λ z. z ∷ xs) one ∙ ap (λ zs. y ∷ zs) all
-
 same_row : (l : List ℕ) (first link : Option ArcNo) (us ws : List Util) → first ≡ link → us ≡ ws → row l first us ≡ row l link ws
 same_row l first link us ws one two = ap (λ f. row l f us) one ∙ ap (row l link) two
-
-suc_not : (j : ℕ) → suc j ≢ 0
-suc_not j e = absurd (omega (arith, e))
-
-suc_ne : (j k : ℕ) → j ≢ k → suc j ≢ suc k
-suc_ne j k ne e = ne (omega (arith, e))
 
 -- links and fields that are the same are seen as the same
 pub rows-same : (ls : List (List ℕ)) (F G : Firsts) (U W : Values) → ((j : ℕ) → G j ≡ F j) → ((j : ℕ) → W j ≡ U j) → rows ls G W ≡ rows ls F U
@@ -70,9 +59,6 @@ rows-push (x ∷ ls) F G U W l one two =
     cons_two _ _ _ _ (same_row x (G 0) (F 0) (W 0) (U 0) (one 0 (λ e. suc_not (length ls) (sym e))) (two 0 (λ e. suc_not (length ls) (sym e))))
     (rows-push ls (λ w. F (suc w)) (λ w. G (suc w)) (λ w. U (suc w)) (λ w. W (suc w)) l
     (λ j ne. one (suc j) (suc_ne j (length ls) ne)) (λ j ne. two (suc j) (suc_ne j (length ls) ne)))
-
-pub values-none : (fs : List (List Util)) (v : ℕ) (us : List Util) → length fs ≤ v → us ≡ six_zeros → PutsValues fs v us fs
-values-none fs v us past is = record { here = get_or_past fs v six_zeros past ∙ sym is; others = λ j ne. refl }
 
 pub values-fill : (gs : List (List Util)) (j : ℕ) → values_at (gs ++ six_zeros ∷ []) j ≡ values_at gs j
 values-fill [] zero = refl
@@ -186,41 +172,3 @@ rows-honest letters [] F [] few = refl
 rows-honest letters [] F (us ∷ fs) few = absurd (omega (arith, few))
 rows-honest letters (l ∷ ls) F [] few = sym (zeros-honest letters (l ∷ ls) F (values_at []) (λ j. refl))
 rows-honest letters (l ∷ ls) F (us ∷ fs) few = ap (λ b. are_allowed letters us && b) (rows-honest letters ls (λ v. F (suc v)) fs (omega (arith, few)))
-
--- vertices compared one by one
-and_no : (b : Bool) → (b && false) ≡ false
-and_no true = refl
-and_no false = refl
-
-abbrev pub SameRowsBelow : List Vertex → List Vertex → ℕ → Type 0
-SameRowsBelow vs ws i = (j : ℕ) → j < i → row_eq (vertex_in vs j) (vertex_in ws j) ≡ true
-
-pub same_rows_more : (vs ws : List Vertex) (i : ℕ) → SameRowsBelow vs ws i → row_eq (vertex_in vs i) (vertex_in ws i) ≡ true → SameRowsBelow vs ws (i + 1)
-same_rows_more vs ws i below here j low =
-    elim (cases_lt j i) [
-      | inl h ↦ below j h
-      | inr h ↦
-          let same : j ≡ i = omega (arith, low, h) in
-          ap (λ k. row_eq (vertex_in vs k) (vertex_in ws k)) same ∙ here
-    ]
-
-all_same : (vs ws : List Vertex) → length vs ≡ length ws → SameRowsBelow vs ws (length vs) → list_all (λ p. row_eq p.0 p.1) (zip vs ws) ≡ true
-all_same [] ws many below = refl
-all_same (v ∷ vs) [] many below = absurd (omega (arith, many))
-all_same (v ∷ vs) (w ∷ ws) many below =
-    and_from (row_eq v w) (list_all (λ p. row_eq p.0 p.1) (zip vs ws)) (below 0 (omega arith))
-    (all_same vs ws (omega (arith, many)) (λ j low. below (suc j) (omega (arith, low))))
-
-one_differs : (vs ws : List Vertex) (i : ℕ) → i < length vs → i < length ws → row_eq (vertex_in vs i) (vertex_in ws i) ≡ false → list_all (λ p. row_eq p.0 p.1) (zip vs ws) ≡ false
-one_differs [] ws i low low' differs = absurd (omega (arith, low))
-one_differs (v ∷ vs) [] i low low' differs = absurd (omega (arith, low'))
-one_differs (v ∷ vs) (w ∷ ws) zero low low' differs = ap (λ b. b && list_all (λ p. row_eq p.0 p.1) (zip vs ws)) differs
-one_differs (v ∷ vs) (w ∷ ws) (suc i) low low' differs =
-    ap (λ b. row_eq v w && b) (one_differs vs ws i (omega (arith, low)) (omega (arith, low')) differs) ∙ and_no (row_eq v w)
-
-pub rows_same : (vs ws : List Vertex) → length vs ≡ length ws → SameRowsBelow vs ws (length vs) → each_eq row_eq vs ws ≡ true
-rows_same vs ws many below =
-    and_from (length vs == length ws) (list_all (λ p. row_eq p.0 p.1) (zip vs ws)) (eq-eqb (length vs) (length ws) many) (all_same vs ws many below)
-
-pub rows_differ : (vs ws : List Vertex) (i : ℕ) → i < length vs → i < length ws → row_eq (vertex_in vs i) (vertex_in ws i) ≡ false → each_eq row_eq vs ws ≡ false
-rows_differ vs ws i low low' differs = ap (λ b. (length vs == length ws) && b) (one_differs vs ws i low low' differs) ∙ and_no (length vs == length ws)

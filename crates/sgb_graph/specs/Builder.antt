@@ -1,6 +1,5 @@
 -- Graphs built by insertions.
-use Rattle.std.specs.Prelude.{◌≡◌, ◌⊎◌, ◌<◌, ◌-◌, ℕ, ℤ, List, Bool, true, false, map, fold, Result, Ok, Err}
-use Rattle.std.specs.List.{range_with_len}
+use Rattle.std.specs.Prelude.{◌≡◌, ◌⊎◌, ◌<◌, ℕ, ℤ, List, Bool, true, false, fold, Result, Ok, Err}
 use Rattle.sgb_graph.specs.declared.builder.Builder.{Builder}
 use Rattle.sgb_graph.specs.declared.refusal.Refusal.{Refusal}
 use Rattle.sgb_graph.specs.declared.refusal.Refusal.TheVariants.{NoRoom, TooLarge}
@@ -16,10 +15,6 @@ pub record Insertion : Type 0 where
 
 abbrev pub insertion : ℕ → ℕ → ℤ → Insertion
 insertion from to len = record { from = from; to = to; len = len }
-
--- from one vertex to each of those from `first` up to, but not including, `end`, in that order
-abbrev pub row : ℕ → ℕ → ℕ → ℤ → List Insertion
-row from first end len = map (λ to. insertion from to len) (range_with_len first (end - first))
 
 -- from one vertex along a spoke
 abbrev pub along : ℕ → Spoke → Insertion

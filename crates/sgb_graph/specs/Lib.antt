@@ -7,6 +7,7 @@ pub mod Graph
 pub mod Honest
 pub mod Linked
 pub mod New
+pub mod Operand
 pub mod Paired
 pub mod Parts
 pub mod Private

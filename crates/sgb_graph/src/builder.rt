@@ -1,8 +1,9 @@
 //! Graphs that are built by a run of insertions.
-ghost use Rattle.std.specs.Prelude.{◌≡◌, ◌≤◌, ◌<◌, ◌⊎◌, ◌∷◌, [], length, map, All, IfErr, OnOk, OnErr};
+ghost use Rattle.std.specs.Prelude.{◌≡◌, ◌≤◌, ◌<◌, ◌⊎◌, ◌∷◌, [], length, All, IfErr, OnOk, OnErr};
 ghost use Rattle.std.specs.Result.{IsErrOf};
 
-use crate::{Graph, Label, Refusal, Spoke, Text, Types, Util, VertexNo};
+use crate::graph::six_zeros;
+use crate::{Graph, Label, Refusal, Text, Types, Util, VertexNo};
 use std::alloc::Global;
 
 /// A graph under construction, and whether an insertion makes an arc or an edge.
@@ -16,7 +17,7 @@ impl Builder {
     ghost use Rattle.sgb_graph.specs.Graph.{IsGraph, n_of, made_of};
     ghost use Rattle.sgb_graph.specs.New.{bare_graph, six_zeros};
     ghost use Rattle.sgb_graph.specs.Vertex.{NamesNothing, new_vertex, with_vertex_last};
-    ghost use Rattle.sgb_graph.specs.Builder.{Inserts, along, insertion, row, grown};
+    ghost use Rattle.sgb_graph.specs.Builder.{Inserts, insertion, grown};
 
     /// A graph without vertices and arcs. An insertion makes an arc where `directed` is true, and else an edge.
     pub fn new(alloc: Global, id: Text, types: Types, directed: bool) -> Builder
@@ -64,7 +65,7 @@ impl Builder {
         ensures room { IsErrOf result Refusal.NoRoom → n_of self.old.graph < 65535 }
         ensures unchanged { OnErr result (self.new ≡ self.old) }
     {
-        self.graph.push_named(label)
+        self.graph.push_vertex(label, six_zeros())
     }
 
     /// Takes room for so many vertices more, or for as many as a graph may still have.
@@ -104,48 +105,6 @@ impl Builder {
             self.graph.add_edge(from, to, len)?;
         }
         Ok(())
-    }
-
-    /// Inserts an arc from one vertex to each of the vertices from `first` up to, but not including, `end`, in that order,
-    /// or edges. Refused `TooLarge` where the graph would give out more than 1,000,000 numbers; the graph is then as it
-    /// was, and where there is no room for all of them too.
-    pub fn insert_row(
-        &mut self,
-        from: VertexNo,
-        first: u32,
-        end: u32,
-        len: i64,
-    ) -> Result<(), Refusal>
-        requires from { from.0 < n_of self.old.graph }
-        requires end { end ≤ n_of self.old.graph }
-        ensures value { Inserts self.old self.new (row from.0 first end len) result }
-        ensures room { IsErrOf result Refusal.NoRoom →
-            made_of (grown self.old (row from.0 first end len)).graph ≤ 1000000 }
-        ensures unchanged { OnErr result (self.new ≡ self.old) }
-    {
-        if self.directed {
-            self.graph.add_row(from, first, end, len)
-        } else {
-            self.graph.add_edges(from, first, end, len)
-        }
-    }
-
-    /// Inserts an arc from one vertex along each of the spokes, in their order, or an edge. Refused `TooLarge` where the
-    /// graph would give out more than 1,000,000 numbers; the graph is then as it was, and where there is no room for all
-    /// of them too.
-    pub fn insert_along(&mut self, from: VertexNo, spokes: &[Spoke]) -> Result<(), Refusal>
-        requires from { from.0 < n_of self.old.graph }
-        requires to { All (λ s. s.to < n_of self.old.graph) spokes.now }
-        ensures value { Inserts self.old self.new (map (along from.0) spokes.now) result }
-        ensures room { IsErrOf result Refusal.NoRoom →
-            made_of (grown self.old (map (along from.0) spokes.now)).graph ≤ 1000000 }
-        ensures unchanged { OnErr result (self.new ≡ self.old) }
-    {
-        if self.directed {
-            self.graph.add_arcs_along(from, spokes)
-        } else {
-            self.graph.add_edges_along(from, spokes)
-        }
     }
 
     /// The graph.

@@ -1,13 +1,18 @@
 //! Laws of graphs. Each function does nothing: its clauses are the law.
-ghost use Rattle.std.specs.Prelude.{◌≡◌, ◌≤◌, ◌<◌, ◌⊎◌, ◌+◌, ◌-◌, ◌↔◌, ℕ, length, IsTrue, true, false, Some, slice_index};
+ghost use Rattle.std.specs.Prelude.{◌≡◌, ◌≤◌, ◌<◌, ◌⊎◌, ◌+◌, ◌-◌, ◌↔◌, ℕ, length, IsTrue, true, false, Some, None, slice_index};
 ghost use Rattle.std.specs.Bool.{Decides};
 ghost use Rattle.sgb_graph.specs.Graph.{GraphOf, IsGraph, arcs_of, has_arc};
-ghost use Rattle.sgb_graph.specs.Edit.{owner_of};
+ghost use Rattle.sgb_graph.specs.Delta.{LeftBy};
+ghost use Rattle.sgb_graph.specs.Edit.{owner_of, entry_at};
 ghost use Rattle.sgb_graph.specs.Linked.{graph_of_parts};
+ghost use Rattle.sgb_graph.specs.Operand.{refusal_of_operand, spoke_of};
 ghost use Rattle.sgb_graph.specs.Paired.{walk, is_half, without_half_places, is_paired, GoesTo};
 ghost use Rattle.sgb_graph.specs.Parts.{Builds};
+ghost use Rattle.sgb_graph.specs.Reverted.{reverted};
 ghost use Rattle.sgb_graph.specs.Same.{graph_eq, util_eq};
 ghost use Rattle.sgb_graph.specs.Sound.{is_graph};
+ghost use Rattle.sgb_graph.specs.declared.delta.GraphDelta.{GraphDelta};
+ghost use Rattle.sgb_graph.specs.declared.field.Tip.TheVariants.{To};
 ghost use Rattle.sgb_graph.specs.declared.field.Util.{Util};
 ghost use Rattle.sgb_graph.specs.declared.parts.Parts.{Parts};
 
@@ -51,4 +56,15 @@ pub fn sound_law()
 pub fn parts_law()
     ensures some { (p : Parts) (g : GraphOf) → Builds p g → graph_of_parts p ≡ Some g }
     ensures built { (p : Parts) (g : GraphOf) → graph_of_parts p ≡ Some g → Builds p g }
+{}
+
+/// Each arc of an operand that is not refused leads to the vertex that its spoke names.
+pub fn spoke_law()
+    ensures { (g : GraphOf) (k : ℕ) → refusal_of_operand g ≡ None → has_arc g k ≡ true →
+        (entry_at g k).tip ≡ To (record { 0 = (spoke_of (entry_at g k)).to }) }
+{}
+
+/// `reverted` tells the graph that an edit met from what the edit left and what it kept.
+pub fn revert_law()
+    ensures met { (g h : GraphOf) (d : GraphDelta) → LeftBy g d h → reverted h d ≡ g }
 {}

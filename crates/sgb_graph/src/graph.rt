@@ -1,6 +1,5 @@
 //! Graphs.
 
-mod arcs;
 mod arena;
 mod build;
 mod codes;
@@ -11,7 +10,6 @@ mod fill;
 mod grow;
 mod honest;
 mod insert;
-mod join;
 mod lay;
 mod link;
 mod new;
@@ -26,10 +24,9 @@ mod walk;
 
 use crate::text::Label;
 use crate::{Text, Types, Util};
-pub use arcs::Arcs;
 use arena::Arena;
-pub(crate) use arena::Cell;
 use codes::Link;
+pub(crate) use new::six_zeros;
 pub use read::ArcView;
 use std::marker::Model;
 pub(crate) use vertices::Vertices;

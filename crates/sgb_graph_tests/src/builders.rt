@@ -1,7 +1,7 @@
 //! Graphs that are built by insertions.
 
 use crate::looks::{has_counts, has_id, has_label, is_arc, shows};
-use sgb_graph::{Builder, Graph, Label, Refusal, Spoke, Text, Types, Util, VertexNo};
+use sgb_graph::{Builder, Graph, Label, Refusal, Text, Types, Util, VertexNo};
 use std::alloc::Global;
 use std::test::Fail;
 
@@ -85,29 +85,27 @@ fn push_three(alloc: Global, builder: &mut Builder) -> Result<(), Refusal> {
     push_vertex(alloc, builder, b"")
 }
 
-fn insert_row(builder: &mut Builder) -> Result<(), Refusal> {
-    if builder.graph().n() < 3 {
-        return Err(Refusal::BadOperand);
-    }
-    builder.insert_row(VertexNo(0), 1, 3, 4)
+fn insert_two(builder: &mut Builder) -> Result<(), Refusal> {
+    insert(builder, 0, 1, 4)?;
+    insert(builder, 0, 2, 4)
 }
 
 // Three vertices, and insertions from the first to the two others.
 fn three_vertices(alloc: Global, directed: bool) -> Result<Graph, Refusal> {
     let mut builder = begun(alloc, directed)?;
     push_three(alloc, &mut builder)?;
-    insert_row(&mut builder)?;
+    insert_two(&mut builder)?;
     Ok(builder.finish())
 }
 
 #[test]
-fn a_row_is_inserted(rt: HostRuntime) -> Result<(), Fail> {
+fn two_arcs_are_inserted(rt: HostRuntime) -> Result<(), Fail> {
     assert!(rt; shows(three_vertices(rt.alloc(), true), are_two_arcs)?);
     Ok(())
 }
 
 #[test]
-fn a_row_of_edges_is_inserted(rt: HostRuntime) -> Result<(), Fail> {
+fn two_edges_are_inserted(rt: HostRuntime) -> Result<(), Fail> {
     assert!(rt; shows(three_vertices(rt.alloc(), false), are_two_edges)?);
     Ok(())
 }
@@ -123,32 +121,4 @@ fn are_two_edges(graph: &Graph) -> bool {
 // So many arcs, the first to the second vertex, and the one of this number to the third.
 fn is_row(graph: &Graph, count: u32, number: u32) -> bool {
     has_counts(graph, count, count) && is_arc(graph, 0, 0, 1, 4) && is_arc(graph, number, 0, 2, 4)
-}
-
-fn insert_along(builder: &mut Builder) -> Result<(), Refusal> {
-    if builder.graph().n() < 3 {
-        return Err(Refusal::BadOperand);
-    }
-    let spokes = [Spoke { to: 1, len: 4 }, Spoke { to: 2, len: 4 }];
-    builder.insert_along(VertexNo(0), &spokes)
-}
-
-// Three vertices, and insertions from the first along two spokes.
-fn three_along(alloc: Global, directed: bool) -> Result<Graph, Refusal> {
-    let mut builder = begun(alloc, directed)?;
-    push_three(alloc, &mut builder)?;
-    insert_along(&mut builder)?;
-    Ok(builder.finish())
-}
-
-#[test]
-fn arcs_are_inserted_along_spokes(rt: HostRuntime) -> Result<(), Fail> {
-    assert!(rt; shows(three_along(rt.alloc(), true), are_two_arcs)?);
-    Ok(())
-}
-
-#[test]
-fn edges_are_inserted_along_spokes(rt: HostRuntime) -> Result<(), Fail> {
-    assert!(rt; shows(three_along(rt.alloc(), false), are_two_edges)?);
-    Ok(())
 }

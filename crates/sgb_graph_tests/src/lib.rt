@@ -1,4 +1,4 @@
-//! Tests of graphs: what no clause says of them, and each call with ample memory.
+//! Tests of graphs, of the generator, of the journal and of plans: what no clause says of them, and each call with ample memory.
 #![tactic(auto)]
 
 #[cfg(test)]
@@ -10,6 +10,8 @@ mod edits;
 #[cfg(test)]
 mod fields;
 #[cfg(test)]
+mod flip;
+#[cfg(test)]
 mod growths;
 #[cfg(test)]
 mod limits;
@@ -19,5 +21,10 @@ mod looks;
 mod pairs;
 #[cfg(test)]
 mod parts;
+mod plan;
 #[cfg(test)]
 mod texts;
+#[cfg(test)]
+mod undo;
+
+pub use plan::path;

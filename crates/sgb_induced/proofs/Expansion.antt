@@ -9,7 +9,7 @@ use Rattle.std.proofs.lemmas.List.FromFn.{length-map-range_with_len}
 use Rattle.sgb_graph.specs.Builder.{Insertion}
 use Rattle.sgb_graph.specs.Graph.{GraphOf, n_of}
 use Rattle.sgb_graph.specs.declared.spoke.Spoke.{Spoke}
-use Rattle.sgb_operand.specs.Operand.{spokes}
+use Rattle.sgb_graph.specs.Operand.{spokes}
 use Rattle.sgb_plan.proofs.Distincts.{All-flat_map}
 use Rattle.sgb_induced.specs.declared.fate.Fate.{Fate}
 use Rattle.sgb_induced.specs.declared.fate.Fate.TheVariants.{Copies}

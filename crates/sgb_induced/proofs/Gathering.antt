@@ -5,7 +5,7 @@ use Rattle.std.proofs.lemmas.Bool.{eq-eqb, ne_eqb}
 use Rattle.std.proofs.lemmas.List.{append-nil}
 use Rattle.sgb_graph.specs.Graph.{GraphOf}
 use Rattle.sgb_graph.specs.declared.spoke.Spoke.{Spoke}
-use Rattle.sgb_operand.specs.Operand.{spokes}
+use Rattle.sgb_graph.specs.Operand.{spokes}
 use Rattle.sgb_induced.specs.declared.image.Image.{Image}
 use Rattle.sgb_induced.specs.declared.run.Run.{Run}
 use Rattle.sgb_induced.specs.Private.Run.{image_at, is_run, run_at, runs_at}

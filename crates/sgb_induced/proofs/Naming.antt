@@ -1,10 +1,10 @@
 -- Lemmas on the names of copies, and on loops that make vertices.
-use Rattle.std.proofs.Common.{◌≡◌, ◌<◌, ◌≤◌, ◌+◌, ◌-◌, ◌/◌, ◌%◌, ◌^◌, ◌==◌, ℕ, zero, suc, List, [], ◌∷◌, ◌++◌, length, map, codes, decimal, Bool, true, false, nat_le, inl, inr, refl, sym, ap, subst, ◌∙◌, arith, length-append}
+use Rattle.std.proofs.Common.{◌≡◌, ◌<◌, ◌≤◌, ◌+◌, ◌-◌, ◌/◌, ◌%◌, ◌^◌, ◌==◌, ℕ, zero, suc, List, [], ◌∷◌, ◌++◌, length, map, codes, decimal, Bool, true, false, nat_le, inl, inr, refl, sym, ap, ap₂, subst, ◌∙◌, arith, length-append}
 use Rattle.std.specs.List.{flat_map, range_with_len}
 use Rattle.std.proofs.lemmas.Bool.{cases_lt, eq-eqb, ne_eqb, le-leb, lt-leb}
 use Rattle.std.proofs.lemmas.Fmt.{decimal_by_steps, decimal_nonempty, decimal_step}
 use Rattle.std.proofs.lemmas.List.{length-map}
-use Rattle.std.proofs.lemmas.List.FromFn.{length-map-range_with_len, length-range_with_len}
+use Rattle.std.proofs.lemmas.List.FromFn.{get_or-map-range_with_len, length-map-range_with_len, length-range_with_len}
 use Rattle.sgb_graph.specs.declared.builder.Builder.{Builder}
 use Rattle.sgb_graph.specs.declared.refusal.Refusal.{Refusal}
 use Rattle.sgb_graph.specs.Graph.{GraphOf, n_of, label_of}
@@ -53,9 +53,11 @@ same_name_by fs v (Class c) label is =
     let one : count_of (fate fs v) ≡ 1 = ap count_of is in
     first_name label (count_of (fate fs v)) (omega (arith, one)) ∙ sym (first_name label (made_at fs v) (omega (arith, one, made-le fs v)))
 
-pub name_fits : (g : GraphOf) (fs : List Fate) (v : ℕ) {label : List ℕ} {b : Bool} → label ≡ label_of g v → b ≡ nat_le (length (copy_name label (count_of (fate fs v)))) 4095 → b ≡ has_name g fs v
-name_fits g fs v whose is =
-    is ∙ (ap (λ t. nat_le (length (copy_name t (count_of (fate fs v)))) 4095) whose ∙ ap (λ t. nat_le (length t) 4095) (same_name_by fs v (fate fs v) (label_of g v) refl))
+-- the name of the last copy of v, which becomes f, is what was judged
+pub name_fits : (g : GraphOf) (v : ℕ) (f : Fate) {label : List ℕ} {b : Bool} → v < n_of g → f ≡ fate_at g v → label ≡ label_of g v → b ≡ nat_le (length (copy_name label (count_of f))) 4095 → b ≡ has_name g (fates_of g) v
+name_fits g v f h becomes whose is =
+    let read : f ≡ fate (fates_of g) v = becomes ∙ sym (get_or-map-range_with_len (fate_at g) 0 (n_of g) v v (Copies 0) h (omega arith)) in
+    is ∙ (ap₂ (λ t k. nat_le (length (copy_name t (count_of k))) 4095) whose read ∙ ap (λ t. nat_le (length t) 4095) (same_name_by (fates_of g) v (fate (fates_of g) v) (label_of g v) refl))
 
 -- a larger number has no fewer digits
 pub digits-le : (j : ℕ) → j < 2 ^ 64 → (k : ℕ) → j ≤ k → k < 2 ^ 64 → length (decimal j) ≤ length (decimal k)

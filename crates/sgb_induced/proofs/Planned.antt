@@ -1,71 +1,42 @@
 -- Lemmas on the plan of an induced graph: its refusals, and what is made of it.
-use Rattle.std.proofs.Common.{◌≡◌, ◌<◌, ◌≤◌, ℕ, List, [], length, map, Option, Some, None, Ok, Err, true, false, ◌⊎◌, inl, inr, refl, sym, ap, ap₂, subst, ◌∙◌, arith}
-use Rattle.std.specs.List.{flat_map, range_with_len}
+use Rattle.std.proofs.Common.{◌≡◌, ◌<◌, ◌≤◌, ℕ, List, [], length, map, Option, Some, ◌&&◌, nat_le, Ok, Err, ◌⊎◌, inl, inr, refl, sym, ap, ap₂, subst, ◌∙◌, arith}
+use Rattle.std.specs.List.{flat_map, list_all, range_with_len}
 use Rattle.std.specs.Option.{option_or}
 use Rattle.std.proofs.lemmas.Bool.{le-leb, lt-leb}
 use Rattle.sgb_graph.specs.declared.builder.Builder.{Builder}
 use Rattle.sgb_graph.specs.declared.refusal.Refusal.{Refusal}
-use Rattle.sgb_graph.specs.declared.refusal.Refusal.TheVariants.{BadSpecs, BadOperand, NoRoom, TooLarge}
-use Rattle.sgb_graph.specs.Edit.{refusal_unless}
+use Rattle.sgb_graph.specs.declared.refusal.Refusal.TheVariants.{BadSpecs, NoRoom, TooLarge}
 use Rattle.sgb_graph.specs.Graph.{GraphOf, n_of}
 use Rattle.sgb_graph.specs.New.{bare_graph}
-use Rattle.sgb_operand.specs.Operand.{refusal_of_operand}
-use Rattle.sgb_plan.specs.Plan.{IsMade, with_named, plan_unless}
-use Rattle.sgb_plan.proofs.Planning.{RefusesNames, begun, many_vertices, n-with_named, refused_before, refused_names}
+use Rattle.sgb_graph.specs.Read.{leads_on}
+use Rattle.sgb_graph.specs.Operand.{refusal_of_operand}
+use Rattle.sgb_plan.specs.Plan.{IsMade, with_named}
+use Rattle.sgb_plan.proofs.Planning.{RefusesNames, begun, many_vertices, n-with_named, refused_names}
+use Rattle.sgb_plan.proofs.Refusing.{never_operand, never_or, never_specs}
 use Rattle.sgb_induced.specs.declared.fate.Fate.{Fate}
 use Rattle.sgb_induced.specs.declared.image.Image.{Image}
 use Rattle.sgb_induced.specs.declared.inducing.InducedSpec.{InducedSpec}
 use Rattle.sgb_induced.specs.declared.run.Run.{Run}
 use Rattle.sgb_induced.specs.Fate.{fates_of, have_fates}
 use Rattle.sgb_induced.specs.Image.{have_names, named, start}
-use Rattle.sgb_induced.specs.Induced.{induced_plan, plan_of_induced, refusal_of_induced}
+use Rattle.sgb_induced.specs.Induced.{induced_plan, refusal_of_fates, refusal_of_induced}
 use Rattle.sgb_induced.specs.Private.Run.{AreWithin, expanded, image_of, runs_of}
 use Rattle.sgb_induced.proofs.Expansion.{expanded_all}
 use Rattle.sgb_induced.proofs.Naming.{length-named, long_enough}
 use Rattle.sgb_induced.proofs.Placing.{all_within}
 
 -- ---- refusals before the plan
-later : GraphOf → Option Refusal
-later g = refusal_unless (have_fates g) BadOperand (refusal_unless (have_names g (fates_of g)) BadOperand None)
+pub long : (g : GraphOf) (t : List ℕ) → 40 < length t → refusal_of_induced g t ≡ Some BadSpecs
+long g t many = rw (lt-leb (length t) 40 many) refl
 
-planned : (g : GraphOf) (t : List ℕ) (spec : InducedSpec) (o : Option Refusal) → refusal_of_induced g t ≡ o → plan_of_induced g t spec ≡ plan_unless o (induced_plan g t spec)
-planned g t spec o is = ap (λ r. plan_unless r (induced_plan g t spec)) is
+pub judged : (g : GraphOf) (t : List ℕ) {a b : Option Refusal} → length t ≤ 40 → refusal_of_operand g ≡ a → refusal_of_fates g ≡ b → refusal_of_induced g t ≡ option_or a b
+judged g t few operand fates = rw (le-leb (length t) 40 few) (ap₂ option_or operand fates)
 
-first_refusal : (g : GraphOf) (t : List ℕ) → length t ≤ 40 → refusal_of_induced g t ≡ option_or (refusal_of_operand g) (later g)
-unfolding later
-first_refusal g t short = rw (le-leb (length t) 40 short) refl
-
-next_refusal : (g : GraphOf) (t : List ℕ) → length t ≤ 40 → refusal_of_operand g ≡ None → refusal_of_induced g t ≡ later g
-next_refusal g t short fits = first_refusal g t short ∙ ap (λ o. option_or o (later g)) fits
-
-pub refused_long : (g : GraphOf) (t : List ℕ) (spec : InducedSpec) → 40 < length t → IsMade (plan_of_induced g t spec) (Err BadSpecs)
-refused_long g t spec long =
-    let first : refusal_of_induced g t ≡ Some BadSpecs = rw (lt-leb (length t) 40 long) refl in
-    subst (λ plan. IsMade plan (Err BadSpecs)) (sym (planned g t spec (Some BadSpecs) first)) (refused_before BadSpecs)
-
-pub refused_operand : (g : GraphOf) (t : List ℕ) (spec : InducedSpec) (e : Refusal) → length t ≤ 40 → refusal_of_operand g ≡ Some e → IsMade (plan_of_induced g t spec) (Err e)
-refused_operand g t spec e short refused =
-    let first : refusal_of_induced g t ≡ Some e = first_refusal g t short ∙ ap (λ o. option_or o (later g)) refused in
-    subst (λ plan. IsMade plan (Err e)) (sym (planned g t spec (Some e) first)) (refused_before e)
-
-pub refused_fates : (g : GraphOf) (t : List ℕ) (spec : InducedSpec) {e : Refusal} → length t ≤ 40 → refusal_of_operand g ≡ None → (e ≡ NoRoom) ⊎ ((e ≡ BadOperand) × (have_fates g ≡ false)) → IsMade (plan_of_induced g t spec) (Err e)
-unfolding later
-refused_fates g t spec short fits (inl room) = inl room
-refused_fates g t spec {e} short fits (inr bad) =
-    let first : refusal_of_induced g t ≡ Some BadOperand = next_refusal g t short fits ∙ rw bad.1 refl in
-    subst (λ r. IsMade (plan_of_induced g t spec) (Err r)) (sym bad.0) (subst (λ plan. IsMade plan (Err BadOperand)) (sym (planned g t spec (Some BadOperand) first)) (refused_before BadOperand))
-
-pub refused_long_names : (g : GraphOf) (t : List ℕ) (spec : InducedSpec) → length t ≤ 40 → refusal_of_operand g ≡ None → have_fates g ≡ true → have_names g (fates_of g) ≡ false → IsMade (plan_of_induced g t spec) (Err BadOperand)
-unfolding later
-refused_long_names g t spec short fits all long =
-    let first : refusal_of_induced g t ≡ Some BadOperand = next_refusal g t short fits ∙ rw (all, long) refl in
-    subst (λ plan. IsMade plan (Err BadOperand)) (sym (planned g t spec (Some BadOperand) first)) (refused_before BadOperand)
-
-pub accepted : (g : GraphOf) (t : List ℕ) (spec : InducedSpec) → length t ≤ 40 → refusal_of_operand g ≡ None → have_fates g ≡ true → have_names g (fates_of g) ≡ true → plan_of_induced g t spec ≡ Ok (induced_plan g t spec)
-unfolding later
-accepted g t spec short fits all fit =
-    let none : refusal_of_induced g t ≡ None = next_refusal g t short fits ∙ rw (all, fit) refl in
-    planned g t spec None none
+-- want of memory is none of them
+pub no_room : (g : GraphOf) (t : List ℕ) → refusal_of_induced g t ≡ Some NoRoom → ⊥
+no_room g t =
+    never_specs (nat_le (length t) 40) (option_or (refusal_of_operand g) (refusal_of_fates g))
+    (never_or (refusal_of_operand g) (refusal_of_fates g) (never_operand (list_all leads_on g.entries)) (never_operand (have_fates g && have_names g (fates_of g))))
 
 -- ---- what is made of the plan
 pub begins : (g : GraphOf) (t : List ℕ) (spec : InducedSpec) {id types : List ℕ} {b : Builder} → b ≡ record { graph = bare_graph id types []; directed = spec.directed } → id ≡ (induced_plan g t spec).id → types ≡ (induced_plan g t spec).types → b ≡ begun (induced_plan g t spec)

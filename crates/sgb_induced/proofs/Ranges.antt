@@ -34,7 +34,7 @@ pub all_range_more : (p : ℕ → Bool) (n : ℕ) → list_all p (range_with_len
 all_range_more p n all one =
     ap (list_all p) (numbers_more n) ∙ (list_all-append p (range_with_len 0 n) (n ∷ []) ∙ rw (all, one) refl)
 
-and_false : (b : Bool) → (b && false) ≡ false
+pub and_false : (b : Bool) → (b && false) ≡ false
 and_false true = refl
 and_false false = refl
 

@@ -8,7 +8,7 @@ use Rattle.sgb_graph.specs.Builder.{Insertion, insertion}
 use Rattle.sgb_graph.specs.Edit.{refusal_unless}
 use Rattle.sgb_graph.specs.Graph.{GraphOf, n_of}
 use Rattle.sgb_graph.specs.declared.spoke.Spoke.{Spoke}
-use Rattle.sgb_operand.specs.Operand.{refusal_of_operand, spokes}
+use Rattle.sgb_graph.specs.Operand.{refusal_of_operand, spokes}
 use Rattle.sgb_plan.specs.Id.{id_of_one, flag_text}
 use Rattle.sgb_plan.specs.Plan.{Plan, no_letters, plan_unless}
 use Rattle.sgb_induced.specs.declared.fate.Fate.{Fate}
@@ -58,14 +58,14 @@ induced_plan g description spec = record {
   insertions = insertions g (fates_of g) spec.loops spec.multi spec.directed;
 }
 
--- the first refusal before the plan: a long description; an arc that leads to no vertex; a field z that does not say
--- what becomes of its vertex; the name of a copy that is too long
+-- a field z does not say what becomes of its vertex, or the name of a copy is too long
+abbrev pub refusal_of_fates : GraphOf → Option Refusal
+refusal_of_fates g = refusal_unless (have_fates g && have_names g (fates_of g)) BadOperand None
+
+-- the first refusal before the plan: a long description; an arc that leads to no vertex; a field z
 abbrev pub refusal_of_induced : GraphOf → List ℕ → Option Refusal
 refusal_of_induced g description =
-    refusal_unless (nat_le (length description) 40) BadSpecs
-    (option_or (refusal_of_operand g)
-    (refusal_unless (have_fates g) BadOperand
-    (refusal_unless (have_names g (fates_of g)) BadOperand None)))
+    refusal_unless (nat_le (length description) 40) BadSpecs (option_or (refusal_of_operand g) (refusal_of_fates g))
 
 abbrev pub plan_of_induced : GraphOf → List ℕ → InducedSpec → Result Plan Refusal
 plan_of_induced g description spec = plan_unless (refusal_of_induced g description) (induced_plan g description spec)

@@ -1,9 +1,10 @@
 //! What becomes of each vertex of a graph.
-ghost use Rattle.std.specs.Prelude.{◌≡◌, ◌⊎◌, true, false, IfErr, IfOk};
-ghost use Rattle.sgb_induced.specs.Fate.{fate_of, fate_of_number, fates_of, have_fates};
+ghost use Rattle.std.specs.Prelude.{◌≡◌, ◌<◌, IfOk};
+ghost use Rattle.sgb_graph.specs.Graph.{n_of};
+ghost use Rattle.sgb_induced.specs.Fate.{fate_of, fate_of_number, fates_of, z_of};
 
-use sgb_graph::{Graph, Refusal, Util, VertexField, VertexNo};
-use std::alloc::Global;
+use sgb_graph::{Graph, Util, VertexField, VertexNo};
+use std::alloc::{AllocError, Global};
 
 // What becomes of a vertex: so many copies of it, none where it is dropped, or a place in a class.
 #[derive(Clone, Copy, Debug, PartialEq, Eq)]
@@ -12,24 +13,24 @@ pub(crate) enum Fate {
     Class(u64),
 }
 
-// What becomes of each vertex, by its number. Refused `BadOperand` where the field z of one is a vertex, an arc or a
-// text.
-pub(crate) fn read_fates(alloc: Global, graph: &Graph) -> Result<Vec<Fate>, Refusal>
-    ensures value { IfOk result (λ fs. fs.items ≡ fates_of graph.now) }
-    ensures all { IfOk result (λ fs. have_fates graph.now ≡ true) }
-    ensures err { IfErr result
-        (λ e. (e ≡ Refusal.NoRoom) ⊎ ((e ≡ Refusal.BadOperand) × (have_fates graph.now ≡ false))) }
+// What becomes of each vertex, by its number; it is dropped where its field z does not say it.
+pub(crate) fn read_fates(alloc: Global, graph: &Graph) -> Result<Vec<Fate>, AllocError>
+    ensures { IfOk result (λ fs. fs.items ≡ fates_of graph.now) }
 {
-    let mut fates = Vec::new(alloc);
-    fates.reserve(graph.n() as usize)?;
+    let mut fates = Vec::with_capacity(alloc, graph.n() as usize)?;
     for v in 0..graph.n() {
-        let fields = graph.vertex_fields(VertexNo(v));
-        let Some(fate) = fate_of(&fields[VertexField::Z.place()]) else {
-            return Err(Refusal::BadOperand);
-        };
+        let fate = fate_at(graph, VertexNo(v)).unwrap_or(Fate::Copies(0));
         fates.push(fate)?;
     }
     Ok(fates)
+}
+
+// What becomes of a vertex, where its field z says it.
+pub(crate) fn fate_at(graph: &Graph, vertex: VertexNo) -> Option<Fate>
+    requires { vertex.0 < n_of graph.now }
+    ensures { result ≡ fate_of (z_of graph.now vertex.0) }
+{
+    fate_of(&graph.vertex_fields(vertex)[VertexField::Z.place()])
 }
 
 // What the value of a field z says.

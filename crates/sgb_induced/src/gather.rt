@@ -7,8 +7,7 @@ ghost use Rattle.sgb_induced.specs.Private.Run.{all_runs, is_run, run_at, runs_o
 use crate::image::{Image, image_at};
 use crate::run::Run;
 use crate::twin::merge_runs;
-use sgb_graph::{Graph, VertexNo};
-use sgb_operand::{Spoke, read_spokes};
+use sgb_graph::{Graph, Spoke, VertexNo, read_spokes};
 use std::alloc::{AllocError, Global};
 
 // The runs of a graph, in the order of its vertices; without `multi` one for each pair of ends.

@@ -1,18 +1,17 @@
 //! Induced graphs.
-ghost use Rattle.std.specs.Prelude.{◌≡◌, ◌≤◌, Ok, IfErr, IfOk, true, codes, length};
+ghost use Rattle.std.specs.Prelude.{◌≡◌, ◌≤◌, Ok, IfErr, IfOk, IsErrOf, None, true, codes, length};
 ghost use Rattle.sgb_plan.specs.Id.{id_of_one};
 ghost use Rattle.sgb_plan.specs.Plan.{IsMade};
 ghost use Rattle.sgb_induced.specs.Fate.{fates_of};
 ghost use Rattle.sgb_induced.specs.Image.{have_names};
-ghost use Rattle.sgb_induced.specs.Induced.{induced_plan, plan_of_induced, words};
+ghost use Rattle.sgb_induced.specs.Induced.{induced_plan, plan_of_induced, refusal_of_induced, words};
 
 use crate::expand::insert_runs;
 use crate::fate::{Fate, read_fates};
 use crate::gather::gather_runs;
 use crate::image::place_images;
-use crate::name::{have_names, name_vertices};
-use sgb_graph::{Builder, Graph, Refusal, Text, Types};
-use sgb_operand::check_operand;
+use crate::name::{check_fates, name_vertices};
+use sgb_graph::{Builder, Graph, Refusal, Text, Types, check_operand};
 use sgb_plan::{Part, id_of_one};
 use std::alloc::Global;
 
@@ -48,15 +47,14 @@ pub fn induced(
     spec: &InducedSpec,
 ) -> Result<Graph, Refusal>
     ensures made { IsMade (plan_of_induced graph.now description.now spec.now) result }
+    ensures room { IsErrOf result Refusal.NoRoom → refusal_of_induced graph.now description.now ≡ None }
 {
     if description.bytes().len() > 40 {
         return Err(Refusal::BadSpecs);
     }
     check_operand(graph)?;
+    check_fates(graph)?;
     let fates = read_fates(alloc, graph)?;
-    if !have_names(graph, &fates) {
-        return Err(Refusal::BadOperand);
-    }
     build_induced(alloc, graph, description, spec, &fates)
 }
 

@@ -1,31 +1,36 @@
 //! The vertices that stand for those of a graph, and their names.
-ghost use Rattle.std.specs.Prelude.{◌≡◌, ◌≤◌, OnOk, true, length, map, nat_le};
+ghost use Rattle.std.specs.Prelude.{◌≡◌, ◌≤◌, IfErr, OnOk, Some, None, true, length, map, nat_le};
 ghost use Rattle.std.specs.List.{range_with_len};
 ghost use Rattle.sgb_graph.specs.Graph.{n_of};
 ghost use Rattle.sgb_graph.specs.Text.{IsText};
 ghost use Rattle.sgb_plan.specs.Plan.{Names};
 ghost use Rattle.sgb_induced.specs.Fate.{fates_of};
 ghost use Rattle.sgb_induced.specs.Image.{copy, copy_name, count_of, have_names, named};
+ghost use Rattle.sgb_induced.specs.Induced.{refusal_of_fates};
 ghost use Rattle.sgb_induced.specs.Private.Run.{image_of};
 
-use crate::fate::Fate;
+use crate::fate::{Fate, fate_at};
 use crate::image::Image;
 use itoa::Buffer;
 use sgb_graph::{Builder, Graph, Refusal, Util, VertexNo};
 use sgb_plan::label_of;
 use std::alloc::{AllocError, Global};
 
-// The name of each copy has at most 4,095 bytes.
-pub(crate) fn have_names(graph: &Graph, fates: &[Fate]) -> bool
-    requires { fates.now ≡ fates_of graph.now }
-    ensures { result ≡ have_names graph.now fates.now }
+// Refuses, `BadOperand`, a graph of which a field z does not say what becomes of its vertex, or asks for a copy whose
+// name is too long. Does not allocate.
+pub(crate) fn check_fates(graph: &Graph) -> Result<(), Refusal>
+    ensures ok { OnOk result (refusal_of_fates graph.now ≡ None) }
+    ensures err { IfErr result (λ e. refusal_of_fates graph.now ≡ Some e) }
 {
     for v in 0..graph.n() {
-        if !has_name(graph.label(VertexNo(v)), fates[v as usize]) {
-            return false;
+        let Some(fate) = fate_at(graph, VertexNo(v)) else {
+            return Err(Refusal::BadOperand);
+        };
+        if !has_name(graph.label(VertexNo(v)), fate) {
+            return Err(Refusal::BadOperand);
         }
     }
-    true
+    Ok(())
 }
 
 // The last copy of a vertex with this label has a name of at most 4,095 bytes.

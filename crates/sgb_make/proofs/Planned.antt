@@ -13,13 +13,12 @@ use Rattle.sgb_graph.specs.declared.refusal.Refusal.TheVariants.{TooLarge, BadSp
 use Rattle.sgb_graph.specs.Graph.{n_of}
 use Rattle.sgb_graph.specs.New.{bare_graph}
 use Rattle.sgb_plan.specs.Listing.{is_positive, leading, count_from, count_of, listed_at, listed}
-use Rattle.sgb_plan.specs.Plan.{Plan, IsMade, with_named}
+use Rattle.sgb_plan.specs.Plan.{Plan, IsMade, with_named, MayAllocate}
 use Rattle.sgb_plan.proofs.Planning.{begun, n-with_named, many_vertices}
 use Rattle.sgb_make.specs.declared.side.Side.{Side}
 use Rattle.sgb_make.specs.declared.spec.BoardSpec.{BoardSpec}
 use Rattle.sgb_make.specs.Board.{sizes_asked, piece_of, most_of_piece, sides_of, board_id, board_plan, plan_of_board}
 use Rattle.sgb_simplex.specs.Points.{point_vertex}
-use Rattle.sgb_simplex.specs.Room.{MayWant}
 use Rattle.sgb_make.specs.Ride.{positions}
 use Rattle.sgb_make.specs.Private.Rank.{volume, cells}
 use Rattle.sgb_make.specs.Private.Ridden.{ridden_plan}
@@ -99,12 +98,12 @@ too_many_positions s sizes e is many =
     many_vertices (board_plan s sides) is (omega (arith, many, length-map (positions sides) point_vertex, length-positions sides, cells-sides_of s.wrap sizes))
 
 -- a board of few positions may want for memory
-pub few_positions : (s : BoardSpec) → length (listed 0 (sizes_asked s)) ≤ 20 → unsigned_abs (piece_of s) ≤ most_of_piece (length (listed 0 (sizes_asked s))) → volume (listed 0 (sizes_asked s)) ≤ 65535 → MayWant (plan_of_board s)
+pub few_positions : (s : BoardSpec) → length (listed 0 (sizes_asked s)) ≤ 20 → unsigned_abs (piece_of s) ≤ most_of_piece (length (listed 0 (sizes_asked s))) → volume (listed 0 (sizes_asked s)) ≤ 65535 → MayAllocate (plan_of_board s)
 unfolding board_plan
 few_positions s few small positions_few =
     let sizes : List ℕ = listed 0 (sizes_asked s) in
     let sides = sides_of s.wrap sizes in
-    subst MayWant (sym (planned s few small))
+    subst MayAllocate (sym (planned s few small))
     (omega (arith, positions_few, length-map (positions sides) point_vertex, length-positions sides, cells-sides_of s.wrap sizes))
 
 pub most_is : (d : ℕ) → most_of_piece d ≤ 128

@@ -2,8 +2,7 @@
 ghost use Rattle.std.specs.Prelude.{◌≡◌, ◌<◌, ◌≤◌, length, map, pos, int_lt, IfOk, IfErr, IsErrOf};
 ghost use Rattle.sgb_graph.specs.Builder.{Inserts};
 ghost use Rattle.sgb_graph.specs.Graph.{n_of};
-ghost use Rattle.sgb_plan.specs.Plan.{IsMade};
-ghost use Rattle.sgb_simplex.specs.Room.{MayWant};
+ghost use Rattle.sgb_plan.specs.Plan.{IsMade, MayAllocate};
 ghost use Rattle.sgb_make.specs.Board.{sizes_asked, piece_of, most_of_piece, is_board, board_id, plan_of_board};
 ghost use Rattle.sgb_make.specs.Private.Rank.{IsSmall, cells};
 ghost use Rattle.sgb_make.specs.Private.Ridden.{along_all, ridden_plan};
@@ -143,7 +142,7 @@ fn build(
 /// Knuth's `board`.
 pub fn board(alloc: Global, spec: &BoardSpec) -> Result<Graph, Refusal>
     ensures made { IsMade (plan_of_board spec.now) result }
-    ensures room { IsErrOf result Refusal.NoRoom → MayWant (plan_of_board spec.now) }
+    ensures room { IsErrOf result Refusal.NoRoom → MayAllocate (plan_of_board spec.now) }
 {
     let numbers = sizes_asked(spec);
     let piece = piece_of(spec);

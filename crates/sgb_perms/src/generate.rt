@@ -1,7 +1,6 @@
 //! Makes the graph.
 ghost use Rattle.std.specs.Prelude.{IsErrOf};
-ghost use Rattle.sgb_plan.specs.Plan.{IsMade};
-ghost use Rattle.sgb_simplex.specs.Room.{MayWant};
+ghost use Rattle.sgb_plan.specs.Plan.{IsMade, MayAllocate};
 ghost use Rattle.sgb_perms.specs.Perms.{plan_of_perms};
 
 use crate::PermsSpec;
@@ -27,7 +26,7 @@ use std::alloc::Global;
 /// numbers.
 pub fn perms(alloc: Global, spec: &PermsSpec) -> Result<Graph, Refusal>
     ensures made { IsMade (plan_of_perms spec.now) result }
-    ensures room { IsErrOf result Refusal.NoRoom → MayWant (plan_of_perms spec.now) }
+    ensures room { IsErrOf result Refusal.NoRoom → MayAllocate (plan_of_perms spec.now) }
 {
     let mut counts = [0u64; 16];
     let kinds = counts_of(spec, &mut counts)?;

@@ -6,4 +6,5 @@ pub mod Joins
 pub mod Lengths
 pub mod Listings
 pub mod Planning
+pub mod Refusing
 pub mod Shorts

@@ -1,5 +1,5 @@
 -- Graphs as they are planned, and what comes of a plan.
-use Rattle.std.specs.Prelude.{◌≡◌, ◌⊎◌, ◌<◌, ℕ, List, ◌++◌, length, map, replicate, Option, Some, None, Bool, ◌||◌, nat_lt, Result, Ok, Err, if◌then◌else◌}
+use Rattle.std.specs.Prelude.{◌≡◌, ◌⊎◌, ◌<◌, ◌≤◌, ℕ, List, ◌++◌, length, map, replicate, Option, Some, None, Bool, ◌||◌, nat_lt, Result, Ok, Err, if◌then◌else◌}
 use Rattle.sgb_graph.specs.declared.builder.Builder.{Builder}
 use Rattle.sgb_graph.specs.declared.field.Util.{Util}
 use Rattle.sgb_graph.specs.declared.refusal.Refusal.{Refusal}
@@ -46,6 +46,12 @@ plan_unless (Some r) p = Err r
 unfoldable pub outcome_of : Result Plan Refusal → Result GraphOf Refusal
 outcome_of (Ok p) = if is_too_large p then Err TooLarge else Ok (graph_of_plan p)
 outcome_of (Err r) = Err r
+
+-- where making it may allocate: there is a plan, and its vertices are not too many. What is refused before that is judged
+-- without memory, so a failed allocation never takes the place of such a refusal.
+abbrev pub MayAllocate : Result Plan Refusal → Type 0
+MayAllocate (Ok p) = length p.vertices ≤ 65535
+MayAllocate (Err r) = ⊥
 
 -- the outcome is answered, unless memory is wanting
 abbrev pub IsMade : Result Plan Refusal → Result GraphOf Refusal → Type 0

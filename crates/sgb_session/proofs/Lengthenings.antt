@@ -1,12 +1,12 @@
 -- What random lengths do to the session.
-use Rattle.std.proofs.Common.{◌≡◌, ◌<◌, ℕ, List, length, Bool, true, false, Some, Ok, Err, sym, ap, ◌∙◌, subst, not, inl, inr, arith}
-use Rattle.std.specs.Prelude.{is_some, ◌&&◌, if◌then◌else◌}
+use Rattle.std.proofs.Common.{◌≡◌, ◌<◌, ℕ, List, length, Bool, true, false, Some, None, Ok, Err, refl, sym, ap, ◌∙◌, subst, not, inl, inr, arith}
+use Rattle.std.specs.Prelude.{is_none, is_some, ◌&&◌, if◌then◌else◌}
 use Rattle.std.proofs.lemmas.List.{length-set}
 use Rattle.sgb_graph.specs.declared.refusal.Refusal.{Refusal}
 use Rattle.sgb_graph.specs.Graph.{GraphOf}
 use Rattle.sgb_combine.specs.declared.delta.LengthsDelta.{LengthsDelta}
 use Rattle.sgb_combine.specs.declared.spec.LengthsSpec.{LengthsSpec}
-use Rattle.sgb_combine.specs.Lengths.{CanRevertLengths, before_lengths, lengthened, lengths_of}
+use Rattle.sgb_combine.specs.Lengths.{CanRevertLengths, before_lengths, lengthened, lengths_of, refusal_of_lengths}
 use Rattle.sgb_plan.specs.declared.part.Seed.{Seed}
 use Rattle.sgb_undo.specs.Outcome.{Accepted, Refused}
 use Rattle.sgb_script.specs.declared.command.Single.TheVariants.{Lengths}
@@ -19,11 +19,11 @@ use Rattle.sgb_session.specs.Drawing.{Drawing, generator_of, drawn_from, drawn_o
 use Rattle.sgb_session.specs.Edits.{refusal_from}
 use Rattle.sgb_session.specs.Source.{source_of, turned_back, CanTurnBack}
 use Rattle.sgb_session.specs.State.{State, StepOutcome, step, may_want, lengthening, unless_refused, unless_spent, where_found, is_spent}
-use Rattle.sgb_session.specs.Table.{find, entry_in, graph_in, with_graph}
+use Rattle.sgb_session.specs.Table.{find, entry_in, graph_in, graph_named, with_graph}
 use Rattle.sgb_session.specs.Private.Making.{AtPlace, Performs}
 use Rattle.sgb_session.specs.Private.Working.{Lengthens, HasLengths, length_draws}
 use Rattle.sgb_session.proofs.Sessions.{state, graph_there, same_graph_back, replaced_twice, no_room_is}
-use Rattle.sgb_session.proofs.Makings.{can_turn_back, is_turned_back}
+use Rattle.sgb_session.proofs.Makings.{can_turn_back, graph_named_is, is_turned_back}
 
 -- a graph is there, and its generator is not spent
 lengthening_is : (s : State) (name : List ℕ) (spec : LengthsSpec) (seed : Seed) (i : ℕ) → find s.table name ≡ Some i → is_spent (drawn_from seed s.generator) ≡ false
@@ -40,10 +40,15 @@ lengths_spent s name spec seed i at spent =
     ap (λ o. where_found o (λ j. unless_spent from (lengthening s j spec seed from))) at
     ∙ ap (λ (b : Bool). let o : StepOutcome = if b then Refused TooLarge else lengthening s i spec seed from in o) spent
 
+all_three : (a b c : Bool) → a ≡ true → b ≡ true → c ≡ true → (a && b && c) ≡ true
+all_three a b c one two three = rw (one, two, three) refl
+
 lengths_want : (s : State) (name : List ℕ) (spec : LengthsSpec) (seed : Seed) (i : ℕ) → find s.table name ≡ Some i → is_spent (drawn_from seed s.generator) ≡ false
-    → may_want s (Lengths name spec seed) ≡ true
-lengths_want s name spec seed i at fresh =
-    ap (λ o. is_some o && not (is_spent (drawn_from seed s.generator))) at ∙ ap not fresh
+    → refusal_of_lengths spec (graph_in s.table i) ≡ None → may_want s (Lengths name spec seed) ≡ true
+lengths_want s name spec seed i at fresh good =
+    let fine = ap (refusal_of_lengths spec) (graph_named_is s.table name i at) ∙ good in
+    all_three (is_some (find s.table name)) (not (is_spent (drawn_from seed s.generator))) (is_none (refusal_of_lengths spec (graph_named s.table name)))
+    (ap is_some at) (ap not fresh) (ap is_none fine)
 
 -- lengths that were drawn
 pub lengths_done : (d e : Drawing) (t u : List Entry) (name : List ℕ) (spec : LengthsSpec) (seed : Seed) (i : ℕ) (a : LengthsDelta × Source)
@@ -91,7 +96,7 @@ lengths_refused d e t u name spec seed i r at fresh m =
     let same : u ≡ t = m.1 ∙ (ap (with_graph t i) m.2.1 ∙ same_graph_back t i) in (
       ap (λ f. state f u) m.2.0 ∙ ap (state d) same,
       elim m.2.2 [
-        | inl wants ↦ inl (no_room_is r wants, lengths_want (state d t) name spec seed i at fresh)
+        | inl wants ↦ inl (no_room_is r wants.0, lengths_want (state d t) name spec seed i at fresh wants.1)
         | inr refuses ↦ inr (lengthening_is (state d t) name spec seed i at fresh
             ∙ ap (λ o. unless_refused o (Accepted (state (drawn_on from n) (with_graph t i target)) (kept.Lengths i keeps (source_of seed d n)) Done)) refuses)
       ],

@@ -1,14 +1,31 @@
 -- What a new graph does to the session.
-use Rattle.std.proofs.Common.{◌≡◌, ◌<◌, ◌+◌, ◌-◌, ℕ, ℤ, List, [], ◌∷◌, ◌++◌, length, take, refl, subst, true, Some, None, Result, Ok, Err, sym, ap, ◌∙◌, inl, inr, arith, length-append}
+use Rattle.std.proofs.Common.{◌≡◌, ◌<◌, ◌+◌, ◌-◌, ℕ, ℤ, List, [], ◌∷◌, ◌++◌, length, take, refl, subst, true, Option, Some, None, Result, Ok, Err, IsErrOf, sym, ap, ap₂, ◌∙◌, inl, inr, arith, length-append}
 use Rattle.std.proofs.Math.Seq.{take-append_seam}
-use Rattle.std.specs.Prelude.{is_none, is_ok, unwrap_or}
+use Rattle.std.proofs.lemmas.Bool.{cases_lt, le-leb}
+use Rattle.std.specs.Prelude.{is_none, is_ok, nat_le, unwrap_or, ◌&&◌, Bool}
 use Rattle.sgb_graph.specs.declared.refusal.Refusal.{Refusal}
 use Rattle.sgb_graph.specs.declared.refusal.Refusal.TheVariants as graphs
 use Rattle.sgb_graph.specs.Graph.{GraphOf, n_of, m_of}
 use Rattle.sgb_plan.specs.declared.part.Seed.{Seed}
 use Rattle.sgb_plan.specs.declared.part.Seed.TheVariants as seeds
-use Rattle.sgb_plan.specs.Plan.{Plan, IsMade, outcome_of}
-use Rattle.sgb_undo.specs.Outcome.{Accepted, is_accepted}
+use Rattle.sgb_plan.specs.Plan.{Plan, IsMade, MayAllocate, outcome_of, plan_unless}
+use Rattle.sgb_plan.proofs.Planning.{many_vertices}
+use Rattle.sgb_flip.specs.Generator.{Generator}
+use Rattle.sgb_make.specs.Board.{plan_of_board}
+use Rattle.sgb_simplex.specs.Simplex.{plan_of_simplex}
+use Rattle.sgb_simplex.specs.Subsets.{plan_of_subsets}
+use Rattle.sgb_perms.specs.Perms.{plan_of_perms}
+use Rattle.sgb_binary.specs.Binary.{plan_of_binary}
+use Rattle.sgb_random.specs.declared.spec.RandomSpec.{RandomSpec}
+use Rattle.sgb_random.specs.Random.{plan_of_random, refusal_of_random}
+use Rattle.sgb_random.specs.Random as randoms
+use Rattle.sgb_combine.specs.Complement.{plan_of_complement}
+use Rattle.sgb_combine.specs.Gunion.{plan_of_gunion}
+use Rattle.sgb_combine.specs.Intersection.{plan_of_intersection}
+use Rattle.sgb_combine.specs.Product.{plan_of_product}
+use Rattle.sgb_induced.specs.Induced.{induced_plan, refusal_of_induced}
+use Rattle.sgb_text.proofs.ReadAs.{read_begins}
+use Rattle.sgb_undo.specs.Outcome.{Accepted}
 use Rattle.sgb_script.specs.declared.command.Single.TheVariants.{Make}
 use Rattle.sgb_script.specs.declared.command.Maker.{Maker}
 use Rattle.sgb_script.specs.declared.command.Maker.TheVariants.{Empty, Board, Simplex, Subsets, Perms, Binary, Random, Complement, Gunion, Intersection, Product, Induced, Load}
@@ -17,13 +34,13 @@ use Rattle.sgb_session.specs.declared.reply.SingleDelta.{SingleDelta}
 use Rattle.sgb_session.specs.declared.reply.SingleDelta.TheVariants as kept
 use Rattle.sgb_session.specs.declared.reply.SingleReply.TheVariants.{Made}
 use Rattle.sgb_session.specs.declared.table.Entry.{Entry}
-use Rattle.sgb_session.specs.Drawing.{Drawing, drawn_from, drawn_on}
+use Rattle.sgb_session.specs.Drawing.{Drawing, drawn_from, drawn_on, generator_of}
 use Rattle.sgb_session.specs.Edits.{refusal_from}
-use Rattle.sgb_session.specs.Make.{empty_graph, graph_made, generator_after, kept_of}
+use Rattle.sgb_session.specs.Make.{graph_made, maker_may_allocate, plan_may_allocate, generator_after, kept_of}
 use Rattle.sgb_session.specs.Source.{source_of, turned_back, CanTurnBack}
-use Rattle.sgb_session.specs.State.{State, step, before, can_revert, may_want, unless, entering, refusal_of_making}
+use Rattle.sgb_session.specs.State.{State, step, before, can_revert, unless, entering, refusal_of_making}
 use Rattle.sgb_session.specs.Table.{find, graph_in, graph_named}
-use Rattle.sgb_session.specs.Private.Making.{MakesGraph, Performs, CanUnmake, unmade, may_lack, with_made}
+use Rattle.sgb_session.specs.Private.Making.{AnswersGraph, MakesGraph, Performs, CanUnmake, unmade, with_made}
 use Rattle.sgb_session.specs.Private.Working.{random_draws}
 use Rattle.sgb_session.proofs.Sessions.{state, no_room_is}
 
@@ -79,16 +96,37 @@ leads_back d t x (Induced g description spec) = made_leads_back d t x
 leads_back d t x (Load text rule) = made_leads_back d t x
 
 -- a graph that leaves the generator alone
-pub made_still : (d : Drawing) (t : List Entry) (m : Maker) (plan : Result Plan Refusal) (r : Result GraphOf Refusal) → graph_made d t m ≡ outcome_of plan
-    → may_lack m (graph_made d t m) ≡ true → generator_after d m ≡ d → kept_of d m ≡ kept.Made → IsMade plan r → MakesGraph d d t m (with_made r)
-made_still d t m plan (Ok g) same lacks stays keeps made = (same ∙ made, sym stays, sym keeps)
-made_still d t m plan (Err e) same lacks stays keeps made = (
+pub made_still : (d : Drawing) (t : List Entry) (m : Maker) (made : Result GraphOf Refusal) (r : Result GraphOf Refusal) → graph_made d t m ≡ made
+    → generator_after d m ≡ d → kept_of d m ≡ kept.Made → AnswersGraph (maker_may_allocate t m) made r → MakesGraph d d t m (with_made r)
+made_still d t m made (Ok g) same stays keeps is = (same ∙ is, sym stays, sym keeps)
+made_still d t m made (Err e) same stays keeps is = (
   refl,
-  elim made [
-    | inl room ↦ inl (room, lacks)
+  elim is [
+    | inl room ↦ inl room
     | inr refuses ↦ inr (same ∙ refuses)
   ],
 )
+
+-- what a call answered that allocates only where its maker may
+pub answered : (may : Bool) (plan : Result Plan Refusal) (r : Result GraphOf Refusal) → IsMade plan r → (IsErrOf r graphs.NoRoom → may ≡ true) → AnswersGraph may (outcome_of plan) r
+answered may plan (Ok g) made room = made
+answered may plan (Err e) made room =
+    elim made [
+      | inl none ↦ inl (none, room (ap (λ r. Err r) none))
+      | inr refuses ↦ inr refuses
+    ]
+
+may_plan : (plan : Result Plan Refusal) → MayAllocate plan → plan_may_allocate plan ≡ true
+may_plan (Ok p) few = le-leb (length p.vertices) 65535 few
+may_plan (Err r) bad = absurd bad
+
+-- the graph of a plan, or its refusal
+pub by_plan : (d : Drawing) (t : List Entry) (m : Maker) (plan : Result Plan Refusal) (r : Result GraphOf Refusal) → graph_made d t m ≡ outcome_of plan
+    → maker_may_allocate t m ≡ plan_may_allocate plan → generator_after d m ≡ d → kept_of d m ≡ kept.Made
+    → IsMade plan r → (IsErrOf r graphs.NoRoom → MayAllocate plan) → MakesGraph d d t m (with_made r)
+by_plan d t m plan r same may stays keeps made room =
+    made_still d t m (outcome_of plan) r same stays keeps
+    (answered (maker_may_allocate t m) plan r made (λ is. may ∙ may_plan plan (room is)))
 
 -- the generator behind a graph that is not kept
 can_unmake_kept : (d : Drawing) (m : Maker) → CanUnmake (kept_of d m) (generator_after d m)
@@ -125,27 +163,57 @@ pub can_unmake : (d e : Drawing) (t : List Entry) (m : Maker) (a : GraphOf × Si
 can_unmake d e t m a made =
     subst (λ f. CanUnmake a.1 f) (sym made.1) (subst (λ k. CanUnmake k (generator_after d m)) (sym made.2) (can_unmake_kept d m))
 
-may_lack_made : (m : Maker) (g : GraphOf) → may_lack m (Ok g) ≡ true
-may_lack_made (Empty n) g = refl
-may_lack_made (Board spec) g = refl
-may_lack_made (Simplex spec) g = refl
-may_lack_made (Subsets spec) g = refl
-may_lack_made (Perms spec) g = refl
-may_lack_made (Binary spec) g = refl
-may_lack_made (Random spec seed) g = refl
-may_lack_made (Complement f spec) g = refl
-may_lack_made (Gunion f h spec) g = refl
-may_lack_made (Intersection f h directed) g = refl
-may_lack_made (Product f h spec) g = refl
-may_lack_made (Induced f description spec) g = refl
-may_lack_made (Load text rule) g = refl
+-- a graph that was made may have been allocated
+refused_is : (r : Refusal) → outcome_of (Err r) ≡ Err r
+unfolding outcome_of
+refused_is r = refl
+
+few_vertices : (plan : Result Plan Refusal) (g : GraphOf) → outcome_of plan ≡ Ok g → plan_may_allocate plan ≡ true
+few_vertices (Ok p) g made =
+    elim (cases_lt 65535 (length p.vertices)) [
+      | inl many ↦ elim (many_vertices p refl many) [
+        | inl room ↦ absurd (let wrong : graphs.TooLarge ≡ graphs.NoRoom = room in cc)
+        | inr large ↦ absurd (let wrong : Err graphs.TooLarge ≡ Ok g = sym large ∙ made in cc)
+      ]
+      | inr few ↦ le-leb (length p.vertices) 65535 few
+    ]
+few_vertices (Err r) g made = absurd (let wrong : Err r ≡ Ok g = sym (refused_is r) ∙ made in cc)
+
+not_refused : (o : Option Refusal) (plan : Result Plan Refusal) (g : GraphOf) → outcome_of (randoms.unless_refused o plan) ≡ Ok g → is_none o ≡ true
+unfolding randoms.unless_refused
+not_refused None plan g made = refl
+not_refused (Some r) plan g made = absurd (let wrong : Err r ≡ Ok g = sym (refused_is r) ∙ made in cc)
+
+induced_not_refused : (o : Option Refusal) (p : Plan) (g : GraphOf) → outcome_of (plan_unless o p) ≡ Ok g → is_none o ≡ true
+induced_not_refused None p g made = refl
+induced_not_refused (Some r) p g made = absurd (let wrong : Err r ≡ Ok g = sym (refused_is r) ∙ made in cc)
+
+random_not_refused : (spec : RandomSpec) (seed : Seed) (w : Generator) (g : GraphOf) → outcome_of (plan_of_random spec seed w) ≡ Ok g → is_none (refusal_of_random spec) ≡ true
+unfolding plan_of_random
+random_not_refused spec seed w g made = not_refused (refusal_of_random spec) (randoms.plan_of_course spec seed (randoms.course spec w)) g made
+
+may_have_allocated : (d : Drawing) (t : List Entry) (m : Maker) (g : GraphOf) → graph_made d t m ≡ Ok g → maker_may_allocate t m ≡ true
+may_have_allocated d t (Empty n) g made = ap is_ok made
+may_have_allocated d t (Board spec) g made = few_vertices (plan_of_board spec) g made
+may_have_allocated d t (Simplex spec) g made = few_vertices (plan_of_simplex spec) g made
+may_have_allocated d t (Subsets spec) g made = few_vertices (plan_of_subsets spec) g made
+may_have_allocated d t (Perms spec) g made = few_vertices (plan_of_perms spec) g made
+may_have_allocated d t (Binary spec) g made = few_vertices (plan_of_binary spec) g made
+may_have_allocated d t (Random spec seed) g made = random_not_refused spec seed (generator_of (drawn_from seed d)) g made
+may_have_allocated d t (Complement f spec) g made = few_vertices (plan_of_complement (graph_named t f) spec) g made
+may_have_allocated d t (Gunion f h spec) g made = few_vertices (plan_of_gunion (graph_named t f) (graph_named t h) spec) g made
+may_have_allocated d t (Intersection f h directed) g made = few_vertices (plan_of_intersection (graph_named t f) (graph_named t h) directed) g made
+may_have_allocated d t (Product f h spec) g made = few_vertices (plan_of_product (graph_named t f) (graph_named t h) spec) g made
+may_have_allocated d t (Induced f description spec) g made =
+    induced_not_refused (refusal_of_induced (graph_named t f) description) (induced_plan (graph_named t f) description spec) g made
+may_have_allocated d t (Load text rule) g made = read_begins rule text g made
 
 -- a graph for which there is no box
 pub not_boxed : (d e f : Drawing) (t : List Entry) (m : Maker) (a : GraphOf × SingleDelta) → MakesGraph d e t m (Ok a) → f ≡ unmade a.1 e
     → MakesGraph d f t m (Err graphs.NoRoom)
 not_boxed d e f t m a made back = (
   back ∙ (ap (unmade a.1) made.1 ∙ (ap (λ k. unmade k (generator_after d m)) made.2 ∙ unmade_kept d m)),
-  inl (refl, ap (may_lack m) made.0 ∙ may_lack_made m a.0),
+  inl (refl, may_have_allocated d t m a.0 made.0),
 )
 
 -- a graph that was made
@@ -167,39 +235,13 @@ make_done d e t name m a free made =
       back.1,
     )
 
--- what making a graph may want for
-entered : (s : State) (name : List ℕ) (m : Maker) (made : Result GraphOf Refusal) → is_ok made ≡ true → is_accepted (entering s name m made) ≡ true
-entered s name m (Ok g) ok = refl
-entered s name m (Err r) ok = absurd cc
-
-empty_wants : (d : Drawing) (t : List Entry) (name : List ℕ) (n : ℤ) → refusal_of_making (state d t) name (Empty n) ≡ None → is_ok (empty_graph n) ≡ true
-    → may_want (state d t) (Make name (Empty n)) ≡ true
-empty_wants d t name n free ok =
-    ap is_accepted (making_is d t name (Empty n) (empty_graph n) free refl) ∙ entered (state d t) name (Empty n) (empty_graph n) ok
-
-make_wants : (d : Drawing) (t : List Entry) (name : List ℕ) (m : Maker) → refusal_of_making (state d t) name m ≡ None → may_lack m (graph_made d t m) ≡ true
-    → may_want (state d t) (Make name m) ≡ true
-make_wants d t name (Empty n) free lacks = empty_wants d t name n free lacks
-make_wants d t name (Board spec) free lacks = ap is_none free
-make_wants d t name (Simplex spec) free lacks = ap is_none free
-make_wants d t name (Subsets spec) free lacks = ap is_none free
-make_wants d t name (Perms spec) free lacks = ap is_none free
-make_wants d t name (Binary spec) free lacks = ap is_none free
-make_wants d t name (Random spec seed) free lacks = ap is_none free
-make_wants d t name (Complement g spec) free lacks = ap is_none free
-make_wants d t name (Gunion g h spec) free lacks = ap is_none free
-make_wants d t name (Intersection g h directed) free lacks = ap is_none free
-make_wants d t name (Product g h spec) free lacks = ap is_none free
-make_wants d t name (Induced g description spec) free lacks = ap is_none free
-make_wants d t name (Load text rule) free lacks = ap is_none free
-
 -- a graph that was not made
 pub make_refused : (d e : Drawing) (t : List Entry) (name : List ℕ) (m : Maker) (r : Refusal) → refusal_of_making (state d t) name m ≡ None
     → MakesGraph d e t m (Err r) → Performs (state d t) (state e t) (Make name m) (Err (refusal_from r))
 make_refused d e t name m r free made = (
   ap (λ f. state f t) made.0,
   elim made.1 [
-    | inl wants ↦ inl (no_room_is r wants.0, make_wants d t name m free wants.1)
+    | inl wants ↦ inl (no_room_is r wants.0, ap₂ (λ a b. a && b) (ap is_none free) wants.1)
     | inr refuses ↦ inr (making_is d t name m (Err r) free refuses)
   ],
 )

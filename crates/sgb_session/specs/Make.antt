@@ -1,5 +1,5 @@
 -- How each command makes a new graph.
-use Rattle.std.specs.Prelude.{ℕ, ℤ, pos, unsigned_abs, int_lt, List, [], ◌∷◌, Bool, true, false, Result, Ok, Err, if◌then◌else◌}
+use Rattle.std.specs.Prelude.{ℕ, ℤ, pos, unsigned_abs, int_lt, nat_le, List, [], ◌∷◌, length, Bool, true, false, is_none, Result, Ok, Err, is_ok, if◌then◌else◌}
 use Rattle.sgb_binary.specs.Binary.{plan_of_binary}
 use Rattle.sgb_combine.specs.Complement.{plan_of_complement}
 use Rattle.sgb_combine.specs.Gunion.{plan_of_gunion}
@@ -9,12 +9,12 @@ use Rattle.sgb_graph.specs.declared.refusal.Refusal.{Refusal}
 use Rattle.sgb_graph.specs.declared.refusal.Refusal.TheVariants.{BadSpecs, TooLarge}
 use Rattle.sgb_graph.specs.Graph.{GraphOf}
 use Rattle.sgb_graph.specs.New.{new_graph}
-use Rattle.sgb_induced.specs.Induced.{plan_of_induced}
+use Rattle.sgb_induced.specs.Induced.{plan_of_induced, refusal_of_induced}
 use Rattle.sgb_make.specs.Board.{plan_of_board}
 use Rattle.sgb_perms.specs.Perms.{plan_of_perms}
 use Rattle.sgb_plan.specs.declared.part.Seed.TheVariants as seeds
-use Rattle.sgb_plan.specs.Plan.{outcome_of}
-use Rattle.sgb_random.specs.Random.{course, plan_of_random}
+use Rattle.sgb_plan.specs.Plan.{Plan, outcome_of}
+use Rattle.sgb_random.specs.Random.{course, plan_of_random, refusal_of_random}
 use Rattle.sgb_script.specs.declared.command.Maker.{Maker}
 use Rattle.sgb_script.specs.declared.command.Maker.TheVariants.{Empty, Board, Simplex, Subsets, Perms, Binary, Random, Complement, Gunion, Intersection, Product, Induced, Load}
 use Rattle.sgb_session.specs.declared.reply.SingleDelta.{SingleDelta}
@@ -25,7 +25,7 @@ use Rattle.sgb_session.specs.Source.{source_of}
 use Rattle.sgb_session.specs.Table.{graph_named}
 use Rattle.sgb_simplex.specs.Simplex.{plan_of_simplex}
 use Rattle.sgb_simplex.specs.Subsets.{plan_of_subsets}
-use Rattle.sgb_text.specs.Read.{read_as}
+use Rattle.sgb_text.specs.Read.{begins_well, read_as}
 
 -- the graphs that a maker names, in the order of its words
 abbrev pub operands : Maker → List (List ℕ)
@@ -62,6 +62,28 @@ graph_made d table (Intersection g h directed) = outcome_of (plan_of_intersectio
 graph_made d table (Product g h spec) = outcome_of (plan_of_product (graph_named table g) (graph_named table h) spec)
 graph_made d table (Induced g description spec) = outcome_of (plan_of_induced (graph_named table g) description spec)
 graph_made d table (Load text rule) = read_as rule text
+
+-- Whether making it may allocate: never where it is refused for what is judged without memory, but for what only a
+-- table of classes tells of an induced graph.
+abbrev pub plan_may_allocate : Result Plan Refusal → Bool
+plan_may_allocate (Ok p) = nat_le (length p.vertices) 65535
+plan_may_allocate (Err r) = false
+
+abbrev pub maker_may_allocate : List Entry → Maker → Bool
+maker_may_allocate table (Empty n) = is_ok (empty_graph n)
+maker_may_allocate table (Board spec) = plan_may_allocate (plan_of_board spec)
+maker_may_allocate table (Simplex spec) = plan_may_allocate (plan_of_simplex spec)
+maker_may_allocate table (Subsets spec) = plan_may_allocate (plan_of_subsets spec)
+maker_may_allocate table (Perms spec) = plan_may_allocate (plan_of_perms spec)
+maker_may_allocate table (Binary spec) = plan_may_allocate (plan_of_binary spec)
+maker_may_allocate table (Random spec seed) = is_none (refusal_of_random spec)
+maker_may_allocate table (Complement g spec) = plan_may_allocate (plan_of_complement (graph_named table g) spec)
+maker_may_allocate table (Gunion g h spec) = plan_may_allocate (plan_of_gunion (graph_named table g) (graph_named table h) spec)
+maker_may_allocate table (Intersection g h directed) =
+    plan_may_allocate (plan_of_intersection (graph_named table g) (graph_named table h) directed)
+maker_may_allocate table (Product g h spec) = plan_may_allocate (plan_of_product (graph_named table g) (graph_named table h) spec)
+maker_may_allocate table (Induced g description spec) = is_none (refusal_of_induced (graph_named table g) description)
+maker_may_allocate table (Load text rule) = begins_well text
 
 -- the generator after it, which only a random graph changes
 abbrev pub generator_after : Drawing → Maker → Drawing

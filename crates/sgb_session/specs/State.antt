@@ -12,7 +12,6 @@ use Rattle.sgb_undo.specs.Outcome.{Outcome, Accepted, Refused, is_accepted}
 use Rattle.sgb_script.specs.declared.command.Single.{Single}
 use Rattle.sgb_script.specs.declared.command.Single.TheVariants.{Seed, Next, Unif, Make, Edit, Lengths, Drop}
 use Rattle.sgb_script.specs.declared.command.Maker.{Maker}
-use Rattle.sgb_script.specs.declared.command.Maker.TheVariants.{Empty}
 use Rattle.sgb_script.specs.declared.refusal.ShellRefusal.{ShellRefusal}
 use Rattle.sgb_script.specs.declared.refusal.ShellRefusal.TheVariants.{BadSpecs, TooLarge, NoGraph, TableFull, NameTaken}
 use Rattle.sgb_session.specs.declared.reply.SingleDelta.{SingleDelta}
@@ -22,9 +21,9 @@ use Rattle.sgb_session.specs.declared.reply.SingleReply.TheVariants.{Done, Numbe
 use Rattle.sgb_session.specs.declared.table.Entry.{Entry}
 use Rattle.sgb_session.specs.Drawing.{Drawing, generator_of, seeded_by, drawn_on, drawn_back, drawn_from}
 use Rattle.sgb_session.specs.Edits.{Edited, edited, edit_has_text, edit_takes_memory, refusal_from}
-use Rattle.sgb_session.specs.Make.{operands, goes_on, graph_made, generator_after, kept_of}
+use Rattle.sgb_session.specs.Make.{operands, goes_on, graph_made, maker_may_allocate, generator_after, kept_of}
 use Rattle.sgb_session.specs.Source.{source_of, turned_back, CanTurnBack}
-use Rattle.sgb_session.specs.Table.{find, entry_in, graph_in, with_graph, has_all}
+use Rattle.sgb_session.specs.Table.{find, entry_in, graph_in, graph_named, with_graph, has_all}
 
 -- the generator, and the named graphs in their order
 pub record State : Type 0 where
@@ -122,14 +121,14 @@ takes_memory (Edit name e) = edit_takes_memory e
 takes_memory (Lengths name spec seed) = true
 takes_memory (Drop name) = false
 
--- Whether a command may want for memory at a state: a graph once its names are good, but one without arcs only where it
--- is accepted; an edit with a text, since the text is copied first, and another edit that takes memory where it is
--- accepted; and lengths of a graph that is there.
+-- Whether a command may fail to allocate at a state: a new graph once its names are good, where its maker may; an edit with
+-- a text, since the text is copied first, and another edit that takes memory where it is accepted; and lengths that are
+-- not refused.
 abbrev pub may_want : State → Single → Bool
-may_want s (Make name (Empty n)) = is_accepted (step s (Make name (Empty n)))
-may_want s (Make name m) = is_none (refusal_of_making s name m)
+may_want s (Make name m) = is_none (refusal_of_making s name m) && maker_may_allocate s.table m
 may_want s (Edit name e) = edit_takes_memory e && (edit_has_text e || is_accepted (step s (Edit name e)))
-may_want s (Lengths name spec seed) = is_some (find s.table name) && not (is_spent (drawn_from seed s.generator))
+may_want s (Lengths name spec seed) =
+    is_some (find s.table name) && not (is_spent (drawn_from seed s.generator)) && is_none (refusal_of_lengths spec (graph_named s.table name))
 may_want s c = false
 
 -- the state that a delta leads back to

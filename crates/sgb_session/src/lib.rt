@@ -6,6 +6,7 @@
 mod base;
 mod boxed;
 mod edit;
+mod headline;
 mod making;
 mod mark;
 mod reply;
@@ -14,6 +15,7 @@ mod table;
 
 pub use base::{Base, MOST_DRAWS, MOST_UNIFORM};
 pub use boxed::Boxed;
+pub use headline::headline_law;
 pub use mark::Mark;
 pub use reply::{Delta, Reply, SingleDelta, SingleReply, Source};
 pub use session::Session;

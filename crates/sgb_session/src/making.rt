@@ -1,12 +1,12 @@
 //! How each command makes a new graph.
-ghost use Rattle.std.specs.Prelude.{◌≡◌, ◌<◌, ◌^◌, ◌&&◌, [], ◌∷◌, false, true, MatchOption, Some};
-ghost use Rattle.sgb_script.specs.declared.command.Maker.TheVariants.{Empty, Random, Load};
+ghost use Rattle.std.specs.Prelude.{◌≡◌, ◌<◌, ◌^◌, ◌&&◌, [], ◌∷◌, false, true, is_ok, MatchOption, Some};
+ghost use Rattle.sgb_script.specs.declared.command.Maker.TheVariants.{Random};
 ghost use Rattle.sgb_session.specs.Drawing.{drawn_from};
 ghost use Rattle.sgb_session.specs.Make.{empty_graph, goes_on};
 ghost use Rattle.sgb_session.specs.Private.Making.{StandAt, Finds, AnswersGraph, MakesGraph, CanUnmake, unmade, with_made};
 ghost use Rattle.sgb_session.specs.State.{is_spent};
 ghost use Rattle.sgb_session.specs.Table.{find, has_all};
-ghost use Rattle.sgb_text.specs.Read.{read_as};
+ghost use Rattle.sgb_text.specs.Read.{begins_well, read_as};
 
 use crate::boxed::Boxed;
 use crate::mark::Mark;
@@ -133,7 +133,7 @@ fn make_graph(
 
 // A graph without arcs.
 fn make_empty(alloc: Global, vertices: i64) -> Result<Graph, Refusal>
-    ensures { AnswersGraph (Empty vertices) (empty_graph vertices) result }
+    ensures { AnswersGraph (is_ok (empty_graph vertices)) (empty_graph vertices) result }
 {
     if vertices < 0 {
         return Err(Refusal::BadSpecs);
@@ -146,7 +146,7 @@ fn make_empty(alloc: Global, vertices: i64) -> Result<Graph, Refusal>
 
 // The graph that a text is read as.
 fn load(alloc: Global, text: &Items<u8>, rule: CheckRule) -> Result<Graph, Refusal>
-    ensures { AnswersGraph (Load text.now rule) (read_as rule text.now) result }
+    ensures { AnswersGraph (begins_well text.now) (read_as rule text.now) result }
 {
     restore(alloc, text.as_slice(), rule)
 }

@@ -11,11 +11,10 @@ use Rattle.sgb_graph.specs.Graph.{GraphOf, IsGraph, n_of}
 use Rattle.sgb_graph.specs.Builder.{Insertion, grown}
 use Rattle.sgb_graph.specs.New.{bare_graph}
 use Rattle.sgb_graph.proofs.Inserting.{RefusesInsertions}
-use Rattle.sgb_plan.specs.Plan.{Plan, IsMade, with_named}
+use Rattle.sgb_plan.specs.Plan.{Plan, IsMade, with_named, MayAllocate}
 use Rattle.sgb_plan.proofs.Planning.{RefusesNames, n-with_named, many_vertices, refused_before, refused_insertions, made}
 use Rattle.sgb_simplex.specs.Bounds.{first_of, bounds_of, is_total, are_in_range, points_within, plan_within, shown_bound, shown_parts}
 use Rattle.sgb_simplex.specs.Points.{point_types, point_vertex, point_plan}
-use Rattle.sgb_simplex.specs.Room.{MayWant}
 use Rattle.sgb_simplex.specs.Private.Started.{RefusesPoints, started}
 
 pub in_range : (n : ℤ) (numbers : List ℤ) → are_in_range n numbers ≡ true → (p : Plan) (r : Result GraphOf Refusal) → IsMade (Ok p) r → IsMade (plan_within n numbers p) r
@@ -31,10 +30,10 @@ points_refused n numbers id directed es e (inr (inr large)) =
     (many_vertices (point_plan id directed (points_within n numbers) es) large.0 (omega (arith, large.2, length-map (points_within n numbers) point_vertex)))
 
 -- memory is wanted only for points that are not too many
-pub may_want : (n m : ℤ) (numbers given : List ℤ) (p : Plan) → m ≡ n → given ≡ numbers → (are_in_range m given ≡ true) × (length (points_within m given) ≤ 65535) → length p.vertices ≡ length (points_within n numbers) → MayWant (plan_within n numbers p)
+pub may_want : (n m : ℤ) (numbers given : List ℤ) (p : Plan) → m ≡ n → given ≡ numbers → (are_in_range m given ≡ true) × (length (points_within m given) ≤ 65535) → length p.vertices ≡ length (points_within n numbers) → MayAllocate (plan_within n numbers p)
 may_want n m numbers given p read same (fits, few) long =
     let inside : are_in_range n numbers ≡ true = sym (ap₂ (λ z ns. are_in_range z ns) read same) ∙ fits in
-    subst (λ b. MayWant (if b then Ok p else Err BadSpecs)) (sym inside)
+    subst (λ b. MayAllocate (if b then Ok p else Err BadSpecs)) (sym inside)
     (omega (arith, long, few, ap₂ (λ z ns. length (points_within z ns)) read same))
 
 -- the builder that the arcs are inserted into, by the plan

@@ -3,6 +3,5 @@ pub mod Moves
 pub mod Overlap
 pub mod Points
 pub mod Private
-pub mod Room
 pub mod Simplex
 pub mod Subsets

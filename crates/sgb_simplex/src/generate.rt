@@ -2,10 +2,9 @@
 ghost use Rattle.std.specs.Prelude.{◌≡◌, ◌≤◌, ◌++◌, ◌∷◌, [], true, length, map, codes, get_or, pos, unsigned_abs, IfOk, IfErr, IsErrOf};
 ghost use Rattle.sgb_graph.specs.Graph.{n_of};
 ghost use Rattle.sgb_plan.specs.Id.{id_of, hexadecimal, flag_text};
-ghost use Rattle.sgb_plan.specs.Plan.{IsMade};
+ghost use Rattle.sgb_plan.specs.Plan.{IsMade, MayAllocate};
 ghost use Rattle.sgb_simplex.specs.Bounds.{bounds_of, are_in_range, points_within, shown_parts};
 ghost use Rattle.sgb_simplex.specs.Points.{points};
-ghost use Rattle.sgb_simplex.specs.Room.{MayWant};
 ghost use Rattle.sgb_simplex.specs.Private.Started.{RefusesPoints, started};
 ghost use Rattle.sgb_simplex.specs.Simplex.{plan_of_simplex};
 ghost use Rattle.sgb_simplex.specs.Subsets.{plan_of_subsets};
@@ -28,7 +27,7 @@ use std::alloc::Global;
 /// there are more than 65,535 points or 1,000,000 numbers of arcs.
 pub fn simplex(alloc: Global, spec: &SimplexSpec) -> Result<Graph, Refusal>
     ensures made { IsMade (plan_of_simplex spec.now) result }
-    ensures room { IsErrOf result Refusal.NoRoom → MayWant (plan_of_simplex spec.now) }
+    ensures room { IsErrOf result Refusal.NoRoom → MayAllocate (plan_of_simplex spec.now) }
 {
     let numbers = [first_of(spec.n0), spec.n1, spec.n2, spec.n3, spec.n4];
     let list = list_points(alloc, spec.n, numbers[0], &numbers)?;
@@ -45,7 +44,7 @@ pub fn simplex(alloc: Global, spec: &SimplexSpec) -> Result<Graph, Refusal>
 /// there are more than 65,535 points or 1,000,000 numbers of arcs.
 pub fn subsets(alloc: Global, spec: &SubsetsSpec) -> Result<Graph, Refusal>
     ensures made { IsMade (plan_of_subsets spec.now) result }
-    ensures room { IsErrOf result Refusal.NoRoom → MayWant (plan_of_subsets spec.now) }
+    ensures room { IsErrOf result Refusal.NoRoom → MayAllocate (plan_of_subsets spec.now) }
 {
     let numbers = [first_of(spec.n0), spec.n1, spec.n2, spec.n3, spec.n4];
     let list = list_points(alloc, spec.n, numbers[0], &numbers)?;

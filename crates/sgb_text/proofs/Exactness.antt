@@ -1,5 +1,5 @@
 -- A text has one graph, and its refusals exclude each other.
-use Rattle.std.proofs.Common.{◌≡◌, ◌⊎◌, ℕ, List, refl, sym, ap, subst, ◌∙◌, inl, inr}
+use Rattle.std.proofs.Common.{◌≡◌, ◌⊎◌, ℕ, List, Bool, refl, sym, ap, subst, ◌∙◌, inl, inr}
 use Rattle.std.proofs.lemmas.Bool.{both_ways}
 use Rattle.sgb_graph.specs.Graph.{GraphOf}
 use Rattle.sgb_graph.specs.Parts.{Builds}
@@ -12,7 +12,7 @@ use Rattle.sgb_grammar.specs.declared.header.Header.{Header}
 use Rattle.sgb_grammar.specs.Saved.{SavedOf}
 use Rattle.sgb_grammar.specs.Spelled.{FirstLine, SavedText, WholeText, SpellsNothing, IsOnlyLine, IsOnlyText}
 use Rattle.sgb_text.specs.declared.restoring.CheckRule.{CheckRule}
-use Rattle.sgb_text.specs.Restore.{Reads, Accepted, Refused, IsSpoiled, is_within_limits, passes}
+use Rattle.sgb_text.specs.Restore.{Reads, Accepted, Refused, HasHeader, IsSpoiled, is_within_limits, passes}
 
 -- a text spells one first line, and one list of parts with one number and one body
 abbrev HasOneLine : Type 0
@@ -23,6 +23,9 @@ HasOneText = (t : List ℕ) (h k : Header) (s r : SavedOf) → WholeText h s t �
 
 one_saved : HasOneText → (t : List ℕ) (g h : GraphOf) (s r : SavedOf) → Reads t g s → Reads t h r → s ≡ r
 one_saved once t g h s r a b = (once t a.header b.header s r (a.lines, a.first, a.spelled) (b.lines, b.first, b.spelled)).1
+
+pub has_header : {t : List ℕ} {h : Header} {lines : List ℕ} {b : Bool} → FirstLine h t lines → is_within_limits h ≡ b → HasHeader t b
+has_header {t} {h} {lines} first limits = record { header = h; lines = lines; first = first; limits = limits }
 
 -- what a fault of spelling says
 pub nothing : (h : Header) (bs : List ℕ) (e : Fault) → e ≡ faults.Syntax → (e ≡ faults.NoRoom) ⊎ ((e ≡ faults.Syntax) × SpellsNothing h bs) → SpellsNothing h bs

@@ -11,7 +11,7 @@ mod Fields
 mod Links
 mod Listing
 mod Quotes
-mod ReadAs
+pub mod ReadAs
 mod Reading
 mod RecordReading
 mod Sound

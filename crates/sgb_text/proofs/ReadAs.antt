@@ -1,5 +1,5 @@
 -- What a text is read as is what accepts or refuses it.
-use Rattle.std.proofs.Common.{◌≡◌, ◌⊎◌, ℕ, Bool, true, false, List, Option, Some, None, Result, Ok, Err, IfOk, IfErr, refl, ap, ◌∙◌, inl, inr, if◌then◌else◌}
+use Rattle.std.proofs.Common.{◌≡◌, ◌⊎◌, ℕ, Bool, true, false, List, Option, Some, None, Result, Ok, Err, IfOk, IfErr, IsErrOf, refl, sym, ap, subst, ◌∙◌, inl, inr, if◌then◌else◌}
 use Rattle.sgb_graph.specs.Graph.{GraphOf}
 use Rattle.sgb_graph.specs.declared.refusal.Refusal.{Refusal}
 use Rattle.sgb_graph.specs.declared.refusal.Refusal.TheVariants.{NoRoom, TooLarge, BadOperand, CheckWrong, Syntax, BadSpecs, LengthRange, Stuck}
@@ -11,8 +11,10 @@ use Rattle.sgb_grammar.specs.Saved.{SavedOf, saved_in}
 use Rattle.sgb_grammar.specs.Spelled.{FirstLine, HasNoFirstLine}
 use Rattle.sgb_grammar.proofs.SpelledRecords.{header_spelled, header_read, saved_spelled, saved_read}
 use Rattle.sgb_text.specs.declared.restoring.CheckRule.{CheckRule}
+use Rattle.sgb_text.specs.declared.restoring.CheckRule.TheVariants.{Any}
 use Rattle.sgb_text.specs.Restore.{Reads, Accepted, Refused, IsSpoiled, is_within_limits, passes}
-use Rattle.sgb_text.specs.Read.{graph_passed, graph_saved, graph_under, read_as}
+use Rattle.sgb_text.proofs.Exactness.{has_header}
+use Rattle.sgb_text.specs.Read.{begins_well, graph_passed, graph_saved, graph_under, read_as}
 
 -- ---- from the relations
 
@@ -70,41 +72,70 @@ refusal_read rule t (Err e) a = refused_read rule t e a
 
 -- ---- to the relations
 
-passed_reads : (rule : CheckRule) (t : List ℕ) (g : GraphOf) (s : SavedOf) (h : Header) (lines : List ℕ) (o : Option GraphOf) (b : Bool)
+abbrev Answers : CheckRule → List ℕ → Result GraphOf Refusal → Type 0
+Answers rule t (Ok g) = Accepted rule t g
+Answers rule t (Err e) = Refused rule t e
+
+line_read : (rule : CheckRule) (t : List ℕ) (h : Header) (lines : List ℕ) → header_at t ≡ Some (h, lines) → is_within_limits h ≡ true → read_as rule t ≡ graph_saved rule (saved_in h lines)
+unfolding read_as
+line_read rule t h lines line within = rw (line, within) refl
+
+spoiled_by : (t : List ℕ) → read_as Any t ≡ Err Syntax → IsSpoiled t
+spoiled_by t e g s r = let wrong : Ok g ≡ Err Syntax = sym (reads_read Any t g s r) ∙ e in cc
+
+reads_of : (t : List ℕ) (s : SavedOf) (h : Header) (lines : List ℕ) (g : GraphOf)
+    → header_at t ≡ Some (h, lines) → is_within_limits h ≡ true → saved_in h lines ≡ Some s → graph_of_parts s.parts ≡ Some g → Reads t g s
+reads_of t s h lines g line within text parts = record {
+  header = h;
+  lines = lines;
+  first = header_spelled t (h, lines) line;
+  within = within;
+  spelled = saved_spelled h lines s text;
+  graph = some_built s.parts g parts;
+}
+
+passed_answers : (rule : CheckRule) (t : List ℕ) (s : SavedOf) (h : Header) (lines : List ℕ) (o : Option GraphOf) (b : Bool)
     → header_at t ≡ Some (h, lines) → is_within_limits h ≡ true → saved_in h lines ≡ Some s → graph_of_parts s.parts ≡ o → passes rule s.number s.body ≡ b
-    → graph_passed b o ≡ Ok g → Accepted rule t g
-passed_reads rule t g s h lines None b line within text parts passed e = cc
-passed_reads rule t g s h lines (Some k) false line within text parts passed e = cc
-passed_reads rule t g s h lines (Some k) true line within text parts passed e =
-    let same : k ≡ g = cc in
-    record {
-      saved = s;
-      reads = record {
-        header = h;
-        lines = lines;
-        first = header_spelled t (h, lines) line;
-        within = within;
-        spelled = saved_spelled h lines s text;
-        graph = some_built s.parts g (parts ∙ ap (λ x. Some x) same);
-      };
-      passed = passed;
-    }
+    → Answers rule t (graph_passed b o)
+passed_answers rule t s h lines None b line within text parts passed =
+    inr (has_header (header_spelled t (h, lines) line) within, spoiled_by t (line_read Any t h lines line within ∙ ap (graph_saved Any) text ∙ ap (graph_passed true) parts))
+passed_answers rule t s h lines (Some g) true line within text parts passed =
+    record { saved = s; reads = reads_of t s h lines g line within text parts; passed = passed }
+passed_answers rule t s h lines (Some g) false line within text parts passed =
+    record { graph = g; saved = s; reads = reads_of t s h lines g line within text parts; failed = passed }
 
-saved_reads : (rule : CheckRule) (t : List ℕ) (g : GraphOf) (h : Header) (lines : List ℕ) (o : Option SavedOf)
-    → header_at t ≡ Some (h, lines) → is_within_limits h ≡ true → saved_in h lines ≡ o → graph_saved rule o ≡ Ok g → Accepted rule t g
-saved_reads rule t g h lines None line within text e = cc
-saved_reads rule t g h lines (Some s) line within text e =
-    passed_reads rule t g s h lines (graph_of_parts s.parts) (passes rule s.number s.body) line within text refl refl e
+saved_answers : (rule : CheckRule) (t : List ℕ) (h : Header) (lines : List ℕ) (o : Option SavedOf)
+    → header_at t ≡ Some (h, lines) → is_within_limits h ≡ true → saved_in h lines ≡ o → Answers rule t (graph_saved rule o)
+saved_answers rule t h lines None line within text =
+    inr (has_header (header_spelled t (h, lines) line) within, spoiled_by t (line_read Any t h lines line within ∙ ap (graph_saved Any) text))
+saved_answers rule t h lines (Some s) line within text =
+    passed_answers rule t s h lines (graph_of_parts s.parts) (passes rule s.number s.body) line within text refl refl
 
-limited_reads : (rule : CheckRule) (t : List ℕ) (g : GraphOf) (h : Header) (lines : List ℕ) (b : Bool)
-    → header_at t ≡ Some (h, lines) → is_within_limits h ≡ b → (if b then graph_saved rule (saved_in h lines) else Err TooLarge) ≡ Ok g → Accepted rule t g
-limited_reads rule t g h lines false line within e = cc
-limited_reads rule t g h lines true line within e = saved_reads rule t g h lines (saved_in h lines) line within refl e
+limited_answers : (rule : CheckRule) (t : List ℕ) (h : Header) (lines : List ℕ) (b : Bool)
+    → header_at t ≡ Some (h, lines) → is_within_limits h ≡ b → Answers rule t (if b then graph_saved rule (saved_in h lines) else Err TooLarge)
+limited_answers rule t h lines false line within = has_header (header_spelled t (h, lines) line) within
+limited_answers rule t h lines true line within = saved_answers rule t h lines (saved_in h lines) line within refl
 
-line_reads : (rule : CheckRule) (t : List ℕ) (g : GraphOf) (o : Option (Header × List ℕ)) → header_at t ≡ o → graph_under rule o ≡ Ok g → Accepted rule t g
-line_reads rule t g None line e = cc
-line_reads rule t g (Some p) line e = limited_reads rule t g p.0 p.1 (is_within_limits p.0) line refl e
+line_answers : (rule : CheckRule) (t : List ℕ) (o : Option (Header × List ℕ)) → header_at t ≡ o → Answers rule t (graph_under rule o)
+line_answers rule t None line = inl (λ h lines first. let wrong : None ≡ Some (h, lines) = sym line ∙ header_read t lines h first in cc)
+line_answers rule t (Some p) line = limited_answers rule t p.0 p.1 (is_within_limits p.0) line refl
+
+read_answers : (rule : CheckRule) (t : List ℕ) → Answers rule t (read_as rule t)
+unfolding read_as
+read_answers rule t = line_answers rule t (header_at t) refl
 
 pub read_accepted : (rule : CheckRule) (t : List ℕ) (g : GraphOf) → read_as rule t ≡ Ok g → Accepted rule t g
-unfolding read_as
-read_accepted rule t g e = line_reads rule t g (header_at t) refl e
+read_accepted rule t g e = subst (Answers rule t) e (read_answers rule t)
+
+pub read_begins : (rule : CheckRule) (t : List ℕ) (g : GraphOf) → read_as rule t ≡ Ok g → begins_well t ≡ true
+read_begins rule t g e =
+    let r = (read_accepted rule t g e).reads in
+    rw (header_read t r.lines r.header r.first) r.within
+
+pub read_refused : (rule : CheckRule) (t : List ℕ) (e : Refusal) → read_as rule t ≡ Err e → Refused rule t e
+read_refused rule t e is = subst (Answers rule t) is (read_answers rule t)
+
+pub room_read : (rule : CheckRule) (t : List ℕ) (r : Result GraphOf Refusal) → IfErr r (λ e. Refused rule t e) → IsErrOf r NoRoom → begins_well t ≡ true
+room_read rule t (Ok g) a is = cc
+room_read rule t (Err NoRoom) a is = rw (header_read t a.lines a.header a.first) a.limits
+room_read rule t (Err e) a is = cc

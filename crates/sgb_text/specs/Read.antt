@@ -27,3 +27,11 @@ graph_under rule (Some line) = if is_within_limits line.0 then graph_saved rule 
 -- the graph, or the first refusal: of the first line, of its counts, of what stands behind it, of the check number
 unfoldable pub read_as : CheckRule → List ℕ → Result GraphOf Refusal
 read_as rule text = graph_under rule (header_at text)
+
+-- whether the text begins with a good first line whose counts are within the limits
+abbrev pub fits : Option (Header × List ℕ) → Bool
+fits None = false
+fits (Some line) = is_within_limits line.0
+
+abbrev pub begins_well : List ℕ → Bool
+begins_well text = fits (header_at text)

@@ -54,9 +54,9 @@ pub record IsWrong (rule : CheckRule) (t : List ℕ) : Type 0 where
   pub reads : Reads t graph saved
   pub failed : passes rule saved.number saved.body ≡ false
 
--- what each refusal says of the text
+-- What each refusal says of the text. An allocation fails only behind a good first line within the limits.
 abbrev pub Refused : CheckRule → List ℕ → Refusal → Type 0
-Refused rule t NoRoom = Unit {0}
+Refused rule t NoRoom = HasHeader t true
 Refused rule t Syntax = HasNoFirstLine t ⊎ (HasHeader t true × IsSpoiled t)
 Refused rule t TooLarge = HasHeader t false
 Refused rule t CheckWrong = IsWrong rule t

@@ -1,8 +1,8 @@
 //! Restores a graph from its saved text.
-ghost use Rattle.std.specs.Prelude.{◌≡◌, ◌⊎◌, List, ℕ, Ok, Err, IfOk, IfErr};
+ghost use Rattle.std.specs.Prelude.{◌≡◌, ◌⊎◌, List, ℕ, Ok, Err, true, IfOk, IfErr, IsErrOf};
 ghost use Rattle.sgb_graph.specs.Graph.{GraphOf};
 ghost use Rattle.sgb_text.specs.Restore.{Accepted, Refused, is_within_limits, passes, IsReadAsOne, IsRefusedForRoom};
-ghost use Rattle.sgb_text.specs.Read.{read_as};
+ghost use Rattle.sgb_text.specs.Read.{begins_well, read_as};
 
 use sgb_grammar::{Fault, Header, check_number, read_header, read_saved};
 use sgb_graph::{Graph, Refusal};
@@ -27,6 +27,7 @@ pub fn restore(alloc: Global, text: &[u8], rule: CheckRule) -> Result<Graph, Ref
     ensures err { IfErr result (λ e. Refused rule text.now e) }
     ensures graph { IfOk result (λ g. read_as rule text.now ≡ Ok g) }
     ensures refusal { IfErr result (λ e. (e ≡ Refusal.NoRoom) ⊎ (read_as rule text.now ≡ Err e)) }
+    ensures room { IsErrOf result Refusal.NoRoom → begins_well text.now ≡ true }
 {
     restored(alloc, text, rule)
 }
@@ -86,10 +87,11 @@ pub fn answers_are_exact()
     sgb_grammar::spelling_law();
 }
 
-/// The law of reading: what a text is read as, told as a function, is what accepts it, and a refusal of the text for
-/// anything but want of memory.
+/// The law of reading: the function that says what a text is read as agrees with the relations that accept and refuse
+/// texts, in both directions.
 pub fn reading_law()
     ensures read { (rule : CheckRule) (t : List ℕ) (g : GraphOf) → Accepted rule t g → read_as rule t ≡ Ok g }
     ensures accepted { (rule : CheckRule) (t : List ℕ) (g : GraphOf) → read_as rule t ≡ Ok g → Accepted rule t g }
     ensures refusal { (rule : CheckRule) (t : List ℕ) (e : Refusal) → Refused rule t e → (e ≡ Refusal.NoRoom) ⊎ (read_as rule t ≡ Err e) }
+    ensures refused { (rule : CheckRule) (t : List ℕ) (e : Refusal) → read_as rule t ≡ Err e → Refused rule t e }
 {}

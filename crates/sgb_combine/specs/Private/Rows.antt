@@ -3,7 +3,7 @@ use Rattle.std.specs.Prelude.{◌≡◌, ◌≤◌, ◌<◌, ◌+◌, ℕ, List,
 use Rattle.std.specs.List.{filter, slice_range}
 use Rattle.sgb_graph.specs.Graph.{GraphOf}
 use Rattle.sgb_graph.specs.declared.spoke.Spoke.{Spoke}
-use Rattle.sgb_operand.specs.Operand.{spokes}
+use Rattle.sgb_graph.specs.Operand.{spokes}
 use Rattle.sgb_combine.specs.Combined.{is_upward}
 
 -- the row stands from a to b

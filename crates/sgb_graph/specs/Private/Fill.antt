@@ -1,13 +1,29 @@
 -- Putting the values of parts into the fields of a graph.
-use Rattle.std.specs.Prelude.{◌≡◌, ◌<◌, ℕ, List, length, map, Option, Some, None, Bool, true, ◌&&◌, if◌then◌else◌}
+use Rattle.std.specs.Prelude.{ℕ, ℤ, Option, Some, None, Bool, true, nat_lt, ◌≡◌, ◌<◌, List, length, map, ◌&&◌, if◌then◌else◌}
+use Rattle.sgb_graph.specs.declared.field.Tip.{Tip}
+use Rattle.sgb_graph.specs.declared.field.Tip.TheVariants as tips
+use Rattle.sgb_graph.specs.declared.graph.arena.Slot.{Slot}
+use Rattle.sgb_graph.specs.Edit.{with_entry, entry_at, with_vertex, can_name, stored}
+use Rattle.sgb_graph.specs.Graph.{GraphOf, VertexOf, ArcOf, IsGraph, n_of, made_of, vertex_at, arc_at, has_arc}
 use Rattle.std.specs.List.{list_all, range_with_len}
 use Rattle.sgb_graph.specs.declared.field.Util.{Util}
 use Rattle.sgb_graph.specs.declared.parts.ArcPart.{ArcPart}
 use Rattle.sgb_graph.specs.declared.parts.VertexPart.{VertexPart}
-use Rattle.sgb_graph.specs.Edit.{with_vertex, with_entry, can_name, stored}
-use Rattle.sgb_graph.specs.Graph.{GraphOf, VertexOf, ArcOf, IsGraph, n_of, made_of, vertex_at, arc_at, has_arc}
 use Rattle.sgb_graph.specs.Parts.{vertex_part, arc_part}
-use Rattle.sgb_graph.specs.Private.Aim.{can_lead}
+
+-- a tip that names a vertex names one below n
+abbrev pub can_lead : ℕ → Tip → Bool
+can_lead n tips.Zero = true
+can_lead n tips.One = true
+can_lead n (tips.To v) = nat_lt v.0 n
+
+-- the arc of this number leads elsewhere, by another length
+unfoldable pub with_aim : GraphOf → ℕ → Tip → ℤ → GraphOf
+with_aim g k tip len = with_entry g k (Some (record (entry_at g k) { tip = tip; len = len }))
+
+abbrev pub with_aim_in : Tip → ℤ → Option Slot → Option Slot
+with_aim_in tip len None = None
+with_aim_in tip len (Some s) = Some (record s { tip = tip; len = len })
 
 -- the same vertices and arcs can be named
 pub record SameNames (g h : GraphOf) : Type 0 where

@@ -1,21 +1,20 @@
 -- New arcs, as they are linked into a graph.
-use Rattle.std.specs.Prelude.{◌≡◌, ◌≤◌, ◌<◌, ◌⊎◌, ◌+◌, ℕ, zero, suc, ℤ, List, [], ◌∷◌, Option, Some, None}
+use Rattle.std.specs.Prelude.{◌+◌, ℕ, List, [], ◌∷◌, ◌++◌, length, min, max, Some, None, ◌≡◌, ◌≤◌, ◌<◌, ◌⊎◌, ℤ, Option}
 use Rattle.sgb_graph.specs.declared.field.VertexNo.{VertexNo}
+use Rattle.sgb_graph.specs.declared.graph.Vertex as vertex
+use Rattle.sgb_graph.specs.Builder.{Insertion}
+use Rattle.sgb_graph.specs.Field.{arc_no}
+use Rattle.sgb_graph.specs.Private.Arena.{Slots, Shows}
+use Rattle.sgb_graph.specs.Private.Link.{vertex_in, vertices_relinked, CanPutBack}
 use Rattle.sgb_graph.specs.declared.field.ArcNo.{ArcNo}
 use Rattle.sgb_graph.specs.declared.field.Tip.TheVariants.{To}
 use Rattle.sgb_graph.specs.declared.field.Util.TheVariants.{Zero}
 use Rattle.sgb_graph.specs.declared.delta.CutArc.{CutArc}
 use Rattle.sgb_graph.specs.declared.refusal.Refusal.{Refusal}
 use Rattle.sgb_graph.specs.declared.refusal.Refusal.TheVariants.{NoRoom, TooLarge}
-use Rattle.sgb_graph.specs.declared.graph.Vertex as vertex
-use Rattle.sgb_graph.specs.declared.graph.arena.Cell.{Cell}
 use Rattle.sgb_graph.specs.declared.graph.arena.Slot.{Slot}
 use Rattle.sgb_graph.specs.Graph.{GraphOf, IsGraph}
 use Rattle.sgb_graph.specs.Edit.{with_cut_arc}
-use Rattle.sgb_graph.specs.Private.Arena.{Slots, Shows}
-use Rattle.sgb_graph.specs.Private.Cells.{new_cell}
-use Rattle.sgb_graph.specs.Field.{arc_no}
-use Rattle.sgb_graph.specs.Private.Link.{CanPutBack, vertex_in, vertices_relinked}
 
 -- the arc of this number, first in the list of its owner
 abbrev pub new_cut : ArcNo → VertexNo → VertexNo → ℤ → CutArc
@@ -40,14 +39,30 @@ PutsBoth vs ss c d ws ts =
 abbrev pub IsRefusedAt : ℕ → Refusal → Type 0
 IsRefusedAt made e = ((e ≡ NoRoom) × (made ≤ 1000000)) ⊎ ((e ≡ TooLarge) × (1000000 < made))
 
--- the cells of new arcs of one vertex, numbered from k on, to this many vertices from `to` on: each is followed by the one
--- before it, and the first by what the link names
-abbrev pub row_cells : VertexNo → ℤ → ℕ → ℕ → ℕ → Option ArcNo → List Cell
-row_cells owner len k to zero link = []
-row_cells owner len k to (suc count) link =
-    new_cell owner (record { 0 = to }) link len ∷ row_cells owner len (k + 1) (to + 1) count (Some (arc_no k))
+-- the vertices and slots of a graph
+pub record Both : Type 0 where
+  pub vertices : List vertex.Vertex
+  pub slots : Slots
 
--- the link to the last of so many new arcs, numbered from k on, or where there is none this one
-abbrev pub last_link : ℕ → ℕ → Option ArcNo → Option ArcNo
-last_link k zero link = link
-last_link k (suc count) link = last_link (k + 1) count (Some (arc_no k))
+abbrev pub both : List vertex.Vertex → Slots → Both
+both vs ss = record { vertices = vs; slots = ss }
+
+abbrev pub vertex_no : ℕ → VertexNo
+vertex_no v = record { 0 = v }
+
+-- the vertices and slots with one arc more
+unfoldable pub with_new_arc : Both → Insertion → Both
+with_new_arc x e =
+    both (vertices_relinked x.vertices e.from None (Some (arc_no (length x.slots))))
+    (x.slots ++ Some (new_slot (vertex_no e.from) (vertex_no e.to) (vertex_in x.vertices e.from).first e.len) ∷ [])
+
+-- the first links of the ends of a new edge
+abbrev pub relinked_both : List vertex.Vertex → ℕ → ℕ → ℕ → List vertex.Vertex
+relinked_both vs k low high = vertices_relinked (vertices_relinked vs high None (Some (arc_no (k + 1)))) low None (Some (arc_no k))
+
+-- the vertices and slots with one edge more, from its smaller end on
+unfoldable pub with_new_edge : Both → Insertion → Both
+with_new_edge x e =
+    both (relinked_both x.vertices (length x.slots) (min e.from e.to) (max e.from e.to))
+    ((x.slots ++ Some (new_slot (vertex_no (min e.from e.to)) (vertex_no (max e.from e.to)) (first_behind x.vertices (length x.slots) (min e.from e.to) (max e.from e.to)) e.len) ∷ [])
+    ++ Some (new_slot (vertex_no (max e.from e.to)) (vertex_no (min e.from e.to)) (vertex_in x.vertices (max e.from e.to)).first e.len) ∷ [])

@@ -1,15 +1,15 @@
 -- What relinking does to the fields of a graph.
-use Rattle.std.specs.Prelude.{◌≡◌, ◌<◌, ◌≤◌, ◌+◌, ◌-◌, ℕ, zero, suc, List, length, Option, Some, None, IfSome, true, option_map, slice_get, slice_set, slice_index_or, []}
+use Rattle.std.specs.Prelude.{◌+◌, ℕ, List, ◌≡◌, ◌<◌, ◌≤◌, ◌-◌, zero, suc, length, Option, Some, None, IfSome, true, option_map, slice_get, slice_set, slice_index_or, []}
+use Rattle.sgb_graph.specs.declared.graph.Vertex as vertex
+use Rattle.sgb_graph.specs.Graph.{GraphOf, IsGraph, IsArc, n_of, made_of, arcs_of, arc_at, has_arc, names_of}
+use Rattle.sgb_graph.specs.Edit.{without_arc, with_cut_arc, arc_of}
+use Rattle.sgb_graph.specs.Private.Arena.{Slots, Shows, next_at, slot_at, names_counted}
 use Rattle.sgb_graph.specs.declared.field.ArcNo.{ArcNo}
 use Rattle.sgb_graph.specs.declared.field.Util.{Util}
 use Rattle.sgb_graph.specs.declared.field.Util.TheVariants.{Zero, Int, Vertex, Arc, Text}
 use Rattle.sgb_graph.specs.declared.delta.CutArc.{CutArc}
-use Rattle.sgb_graph.specs.declared.graph.Vertex as vertex
 use Rattle.sgb_graph.specs.declared.graph.arena.Slot.{Slot}
-use Rattle.sgb_graph.specs.Graph.{GraphOf, IsGraph, IsArc, n_of, made_of, arcs_of, arc_at, has_arc, names_of}
-use Rattle.sgb_graph.specs.Edit.{with_cut_arc, without_arc, arc_of}
 use Rattle.sgb_graph.specs.Delta.{cut_arc}
-use Rattle.sgb_graph.specs.Private.Arena.{Slots, Shows, next_at, slot_at, names_counted}
 use Rattle.sgb_graph.specs.Field.{arc_no}
 
 -- a vertex that stands nowhere
@@ -118,3 +118,14 @@ pub record CanBeTakenOut (vs : List vertex.Vertex) (ss : Slots) (k : ℕ) : Type
   pub sound : IsGraph graph
   pub shows : Shows vs ss graph
   pub can : CanTakeOut graph k
+
+abbrev pub TakesOutBoth : List vertex.Vertex → Slots → ℕ → List vertex.Vertex → Slots → Type 0
+TakesOutBoth vs ss k ws ts =
+    (g : GraphOf) → Shows vs ss g → IsGraph g → CanTakeOut g k → CanTakeOut (without_arc g k) (k + 1) → Shows ws ts (without_arc (without_arc g k) (k + 1))
+
+pub record CanBothBeTakenOut (vs : List vertex.Vertex) (ss : Slots) (k : ℕ) : Type 0 where
+  pub graph : GraphOf
+  pub sound : IsGraph graph
+  pub shows : Shows vs ss graph
+  pub can : CanTakeOut graph k
+  pub next : CanTakeOut (without_arc graph k) (k + 1)

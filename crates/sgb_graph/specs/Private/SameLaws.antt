@@ -12,13 +12,13 @@ use Rattle.sgb_graph.specs.declared.field.Util.TheVariants.{Zero, Int, Vertex, A
 use Rattle.sgb_graph.specs.Graph.{GraphOf, VertexOf, ArcOf}
 use Rattle.sgb_graph.specs.Same.{tip_eq, util_eq, entry_eq, vertex_eq, graph_eq}
 
-all_of_vertex : (x y : VertexOf) → x.label ≡ y.label → x.fields ≡ y.fields → x.arcs ≡ y.arcs → x ≡ y
-all_of_vertex x y label fields arcs =
+pub same_vertex : (x y : VertexOf) → x.label ≡ y.label → x.fields ≡ y.fields → x.arcs ≡ y.arcs → x ≡ y
+same_vertex x y label fields arcs =
     ap (λ l. record x { label = l }) label
     ∙ (ap (λ f. record x { label = y.label; fields = f }) fields ∙ ap (λ a. record y { arcs = a }) arcs)
 
-all_of_graph : (g h : GraphOf) → g.id ≡ h.id → g.types ≡ h.types → g.fields ≡ h.fields → g.vertices ≡ h.vertices → g.entries ≡ h.entries → g ≡ h
-all_of_graph g h id types fields vertices entries =
+pub same_graph : (g h : GraphOf) → g.id ≡ h.id → g.types ≡ h.types → g.fields ≡ h.fields → g.vertices ≡ h.vertices → g.entries ≡ h.entries → g ≡ h
+same_graph g h id types fields vertices entries =
     ap (λ x. record g { id = x }) id
     ∙ (ap (λ x. record g { id = h.id; types = x }) types
     ∙ (ap (λ x. record g { id = h.id; types = h.types; fields = x }) fields
@@ -139,7 +139,7 @@ vertex_same : (x y : VertexOf) → vertex_eq x y ≡ true → x ≡ y
 vertex_same x y h =
     let p = and_parts (pointwise nat_eq x.label y.label && pointwise util_eq x.fields y.fields) (pointwise nat_eq x.arcs y.arcs) h in
     let q = and_parts (pointwise nat_eq x.label y.label) (pointwise util_eq x.fields y.fields) p.0 in
-    all_of_vertex x y (texts_tell.same x.label y.label q.0) (utils_tell.same x.fields y.fields q.1) (texts_tell.same x.arcs y.arcs p.1)
+    same_vertex x y (texts_tell.same x.label y.label q.0) (utils_tell.same x.fields y.fields q.1) (texts_tell.same x.arcs y.arcs p.1)
 
 vertex_self : (x : VertexOf) → vertex_eq x x ≡ true
 vertex_self x =
@@ -164,7 +164,7 @@ graph_same g h is =
     let q = and_parts (a && b && c) d p.0 in
     let r = and_parts (a && b) c q.0 in
     let s = and_parts a b r.0 in
-    all_of_graph g h (texts_tell.same g.id h.id s.0) (texts_tell.same g.types h.types s.1) (utils_tell.same g.fields h.fields r.1)
+    same_graph g h (texts_tell.same g.id h.id s.0) (texts_tell.same g.types h.types s.1) (utils_tell.same g.fields h.fields r.1)
     (vertices_tell.same g.vertices h.vertices q.1) (entries_tell.same g.entries h.entries p.1)
 
 graph_self : (g : GraphOf) → graph_eq g g ≡ true

@@ -1,9 +1,9 @@
 -- A vertex is a label, a link and its fields, which are Zero beyond the fields that are kept.
-use Rattle.std.specs.Prelude.{◌≡◌, ◌≢◌, ℕ, suc, List, [], ◌∷◌, Option, None, slice_index_or, slice_set}
-use Rattle.sgb_graph.specs.declared.field.ArcNo.{ArcNo}
-use Rattle.sgb_graph.specs.declared.field.Util.{Util}
+use Rattle.std.specs.Prelude.{[], None, ◌≡◌, ◌≢◌, ℕ, suc, List, ◌∷◌, Option, slice_index_or, slice_set}
 use Rattle.sgb_graph.specs.declared.graph.Vertex.{Vertex}
 use Rattle.sgb_graph.specs.New.{six_zeros}
+use Rattle.sgb_graph.specs.declared.field.ArcNo.{ArcNo}
+use Rattle.sgb_graph.specs.declared.field.Util.{Util}
 
 -- the link and the fields of the vertex of this number
 abbrev pub first_at : List (Option ArcNo) → ℕ → Option ArcNo
@@ -42,3 +42,6 @@ with_first link v = record v { first = link }
 
 abbrev pub with_value : ℕ → Util → Vertex → Vertex
 with_value i u v = record v { fields = slice_set v.fields i u }
+
+abbrev pub blank : Vertex
+blank = record { label = []; fields = six_zeros; first = None }

@@ -1,17 +1,15 @@
 //! The arcs of a graph by number.
 ghost use Rattle.std.specs.Prelude.{◌≡◌, ◌<◌, ◌≤◌, ◌^◌, ◌-◌, ◌+◌, ◌*◌, ◌∷◌, ◌++◌, ◌&&◌, [], true, false, All, FitsSigned, length, map, vec_len, vec_capacity, take, is_some, IsSome, None, Some, IfOk, IfErr, OnOk, OnErr, slice_index_or, slice_set};
 ghost use Rattle.std.specs.List.{list_all, zip};
-ghost use Rattle.std.specs.Int.{w64};
 ghost use Rattle.sgb_graph.specs.declared.field.Util.TheVariants as utils;
-ghost use Rattle.sgb_graph.specs.Builder.{along, insertion, row};
+ghost use Rattle.sgb_graph.specs.Builder.{insertion};
 ghost use Rattle.sgb_graph.specs.Honest.{are_allowed};
 ghost use Rattle.sgb_graph.specs.Read.{leads_on};
-ghost use Rattle.sgb_graph.specs.Private.Aim.{with_aim_in};
+ghost use Rattle.sgb_graph.specs.Private.Fill.{with_aim_in};
 ghost use Rattle.sgb_graph.specs.Private.Arena.{slot_at, entry_of, next_at, owner_in, tip_in, names_counted, view_in, len_in, with_len_in};
 ghost use Rattle.sgb_graph.specs.Private.Cells.{two_zeros, slot_with, new_cell, unnamed_slot, owned_allowed, is_aimed};
 ghost use Rattle.sgb_graph.specs.Private.Exchange.{fields_in, with_field};
-ghost use Rattle.sgb_graph.specs.Private.Insert.{IsRefusedAt, row_cells, last_link};
-ghost use Rattle.sgb_graph.specs.Private.Join.{both, all_joined};
+ghost use Rattle.sgb_graph.specs.Private.Insert.{IsRefusedAt, both, with_new_arc, with_new_edge};
 ghost use Rattle.sgb_graph.specs.Private.Lay.{laid_cell, laid_slot};
 ghost use Rattle.sgb_graph.specs.Private.Link.{slots_relinked, slots_gaining, slots_losing, IsCounted};
 ghost use Rattle.sgb_graph.specs.Private.SameRows.{each_eq, slot_eq};
@@ -20,17 +18,16 @@ ghost use Rattle.sgb_graph.specs.Private.Walk.{is_loop_in};
 use super::codes::{Link, OwnerCode, TipCode};
 use super::fields::{kept_at, put_fields, replace_kept, take_fields, two_zeros};
 use super::honest::are_allowed;
-use super::join::{push_arc, push_arcs_along, push_edge, push_edges, push_edges_along};
 use super::lay::Chained;
 use super::paired::is_vertex;
 use super::read::ArcView;
 use super::room::make_room;
 use super::same::{is_link_same, is_tip_same};
 use super::vertices::Vertices;
-use crate::{ArcNo, Refusal, Spoke, Tip, Util, VertexNo};
+use crate::{ArcNo, Refusal, Tip, Util, VertexNo};
 use std::alloc::Global;
 use std::marker::Model;
-use std::mem;
+use std::mem::{self, size_of};
 
 /// A live arc as it is kept.
 #[derive(Drop)]
@@ -55,6 +52,9 @@ pub(crate) struct Cell {
     pub names: u32,
     pub len: i64,
 }
+
+// The fields are kept apart, since few arcs have one that is set.
+const _: () = prove!(size_of::<Cell>() == 24);
 
 /// The slots by number, each an arc or a hole.
 #[derive(Drop)]
@@ -137,18 +137,21 @@ impl Arena {
         requires to { to.0 < length vertices.old }
         requires vertices { length vertices.old ≤ 65535 }
         ensures joined { OnOk result
-            (both vertices.new self.new ≡ all_joined true (both vertices.old self.old) (insertion from.0 to.0 len ∷ [])) }
+            (both vertices.new self.new ≡ with_new_arc (both vertices.old self.old) (insertion from.0 to.0 len)) }
         ensures few { OnOk result (length self.old + 1 ≤ 1000000) }
         ensures err { IfErr result (IsRefusedAt (length self.old + 1)) }
         ensures unchanged { OnErr result (self.new ≡ self.old) }
         ensures vertices { OnErr result (vertices.new ≡ vertices.old) }
     {
         make_room(&mut self.cells, &mut self.fields, 1)?;
-        push_arc(&mut self.cells, vertices, from, to, len);
+        let number = ArcNo(self.cells.len() as u32);
+        let next = vertices.replace_first(from, Link::to(number));
+        self.cells.push_reserved(new_cell(from, to, next, len));
         Ok(())
     }
 
-    /// Adds the two arcs of a new edge, last, each first in the list of its owner.
+    /// Adds the two arcs of a new edge, last, each first in the list of its owner. The second arc is linked first, so
+    /// that of a loop the first stands before it.
     #[inline(always)]
     pub fn push_edge(
         &mut self,
@@ -161,110 +164,22 @@ impl Arena {
         requires to { to.0 < length vertices.old }
         requires vertices { length vertices.old ≤ 65535 }
         ensures joined { OnOk result
-            (both vertices.new self.new ≡ all_joined false (both vertices.old self.old) (insertion from.0 to.0 len ∷ [])) }
+            (both vertices.new self.new ≡ with_new_edge (both vertices.old self.old) (insertion from.0 to.0 len)) }
         ensures few { OnOk result (length self.old + 2 ≤ 1000000) }
         ensures err { IfErr result (IsRefusedAt (length self.old + 2)) }
         ensures unchanged { OnErr result (self.new ≡ self.old) }
         ensures vertices { OnErr result (vertices.new ≡ vertices.old) }
     {
         make_room(&mut self.cells, &mut self.fields, 2)?;
-        push_edge(&mut self.cells, vertices, from, to, len);
-        Ok(())
-    }
-
-    /// Adds a new arc of one vertex to each of the vertices from `first` up to `end`, last, and answers the link to the
-    /// last of them. Each is followed by the one before it, and the first by what the link names.
-    #[inline]
-    pub fn push_row(
-        &mut self,
-        from: VertexNo,
-        first: u32,
-        end: u32,
-        next: Link,
-        len: i64,
-    ) -> Result<Link, Refusal>
-        requires from { from.0 < 65535 }
-        requires end { end ≤ 65535 }
-        ensures slots { OnOk result (self.new ≡ self.old ++ map (slot_with two_zeros) (row_cells from len (length self.old) first (end - first) next)) }
-        ensures link { IfOk result (λ link. link ≡ last_link (length self.old) (end - first) next) }
-        ensures few { OnOk result (length self.old + (end - first) ≤ 1000000) }
-        ensures err { IfErr result (IsRefusedAt (length self.old + (end - first))) }
-        ensures unchanged { OnErr result (self.new ≡ self.old) }
-    {
-        let count = end.saturating_sub(first);
-        make_room(&mut self.cells, &mut self.fields, count as usize)?;
-        Ok(push_row(&mut self.cells, from, first, end, next, len))
-    }
-
-    /// Adds edges from one vertex to each of the vertices from `first` up to `end`, last, each arc first in the list of
-    /// its owner.
-    pub fn push_edges(
-        &mut self,
-        vertices: &mut Vertices,
-        from: VertexNo,
-        first: u32,
-        end: u32,
-        len: i64,
-    ) -> Result<(), Refusal>
-        requires from { from.0 < length vertices.old }
-        requires end { end ≤ length vertices.old }
-        requires vertices { length vertices.old ≤ 65535 }
-        ensures joined { OnOk result
-            (both vertices.new self.new ≡ all_joined false (both vertices.old self.old) (row from.0 first end len)) }
-        ensures few { OnOk result (length self.old + 2 * (end - first) ≤ 1000000) }
-        ensures err { IfErr result (IsRefusedAt (length self.old + 2 * (end - first))) }
-        ensures unchanged { OnErr result (self.new ≡ self.old) }
-        ensures vertices { OnErr result (vertices.new ≡ vertices.old) }
-    {
-        let count = 2 * end.saturating_sub(first);
-        make_room(&mut self.cells, &mut self.fields, count as usize)?;
-        push_edges(&mut self.cells, vertices, from, first, end, len);
-        Ok(())
-    }
-
-    /// Adds arcs from one vertex along each of the spokes, last, each first in the list of the vertex.
-    pub fn push_arcs_along(
-        &mut self,
-        vertices: &mut Vertices,
-        from: VertexNo,
-        spokes: &[Spoke],
-    ) -> Result<(), Refusal>
-        requires from { from.0 < length vertices.old }
-        requires to { All (λ s. s.to < length vertices.old) spokes.now }
-        requires vertices { length vertices.old ≤ 65535 }
-        ensures joined { OnOk result
-            (both vertices.new self.new ≡ all_joined true (both vertices.old self.old) (map (along from.0) spokes.now)) }
-        ensures fits { OnOk result (All (λ s. FitsSigned w64 s.len) spokes.now) }
-        ensures few { OnOk result (length self.old + length spokes.now ≤ 1000000) }
-        ensures err { IfErr result (IsRefusedAt (length self.old + length spokes.now)) }
-        ensures unchanged { OnErr result (self.new ≡ self.old) }
-        ensures vertices { OnErr result (vertices.new ≡ vertices.old) }
-    {
-        make_room(&mut self.cells, &mut self.fields, spokes.len())?;
-        push_arcs_along(&mut self.cells, vertices, from, spokes);
-        Ok(())
-    }
-
-    /// Adds edges from one vertex along each of the spokes, last, each arc first in the list of its owner.
-    pub fn push_edges_along(
-        &mut self,
-        vertices: &mut Vertices,
-        from: VertexNo,
-        spokes: &[Spoke],
-    ) -> Result<(), Refusal>
-        requires from { from.0 < length vertices.old }
-        requires to { All (λ s. s.to < length vertices.old) spokes.now }
-        requires vertices { length vertices.old ≤ 65535 }
-        ensures joined { OnOk result
-            (both vertices.new self.new ≡ all_joined false (both vertices.old self.old) (map (along from.0) spokes.now)) }
-        ensures fits { OnOk result (All (λ s. FitsSigned w64 s.len) spokes.now) }
-        ensures few { OnOk result (length self.old + 2 * length spokes.now ≤ 1000000) }
-        ensures err { IfErr result (IsRefusedAt (length self.old + 2 * length spokes.now)) }
-        ensures unchanged { OnErr result (self.new ≡ self.old) }
-        ensures vertices { OnErr result (vertices.new ≡ vertices.old) }
-    {
-        make_room(&mut self.cells, &mut self.fields, 2 * spokes.len())?;
-        push_edges_along(&mut self.cells, vertices, from, spokes);
+        let number = ArcNo(self.cells.len() as u32);
+        let low = VertexNo(from.0.min(to.0));
+        let high = VertexNo(from.0.max(to.0));
+        let after_high = vertices.replace_first(high, Link::to(ArcNo(number.0 + 1)));
+        let after_low = vertices.replace_first(low, Link::to(number));
+        self.cells
+            .push_reserved(new_cell(low, high, after_low, len));
+        self.cells
+            .push_reserved(new_cell(high, low, after_high, len));
         Ok(())
     }
 
@@ -616,7 +531,7 @@ fn hole() -> Cell
 }
 
 #[inline]
-pub(super) fn new_cell(owner: VertexNo, to: VertexNo, next: Link, len: i64) -> Cell
+fn new_cell(owner: VertexNo, to: VertexNo, next: Link, len: i64) -> Cell
     requires owner { owner.0 < 65535 }
     requires to { to.0 < 65535 }
     ensures { result ≡ new_cell owner to next len }
@@ -628,34 +543,6 @@ pub(super) fn new_cell(owner: VertexNo, to: VertexNo, next: Link, len: i64) -> C
         names: 0,
         len,
     }
-}
-
-// Adds the cells of new arcs of one vertex to each of the vertices from `first` up to `end`, last, and answers the link
-// to the last of them.
-#[inline]
-fn push_row(
-    cells: &mut Vec<Cell>,
-    owner: VertexNo,
-    first: u32,
-    end: u32,
-    next: Link,
-    len: i64,
-) -> Link
-    requires owner { owner.0 < 65535 }
-    requires end { end ≤ 65535 }
-    requires few { vec_len cells.old + (end - first) ≤ 1000000 }
-    requires room { vec_len cells.old + (end - first) ≤ vec_capacity cells.old }
-    ensures cells { cells.new.items ≡ cells.old.items ++ row_cells owner len (vec_len cells.old) first (end - first) next }
-    ensures len { vec_len cells.new ≡ vec_len cells.old + (end - first) }
-    ensures capacity { vec_capacity cells.new ≡ vec_capacity cells.old }
-    ensures link { result ≡ last_link (vec_len cells.old) (end - first) next }
-{
-    let mut link = next;
-    for to in first..end {
-        cells.push_reserved(new_cell(owner, VertexNo(to), link, len));
-        link = Link::to(ArcNo(cells.len() as u32 - 1));
-    }
-    link
 }
 
 // Adds the cells of these records, last.

@@ -35,7 +35,7 @@ impl Model for Link {
 
     ghost inverse = { λ link. record { code = code_of_link link } };
 
-    ghost use Rattle.sgb_graph.specs.Private.CodeLaws.{link_back};
+    ghost use Rattle.sgb_graph.specs.Private.Codes.{link_back};
 
     ghost inverse_ok = { λ a _. link_back a };
 }
@@ -87,7 +87,7 @@ impl Model for OwnerCode {
 
     ghost inverse = { λ owner. record { code = code_of_owner owner } };
 
-    ghost use Rattle.sgb_graph.specs.Private.CodeLaws.{owner_back};
+    ghost use Rattle.sgb_graph.specs.Private.Codes.{owner_back};
 
     ghost inverse_ok = { λ a _. owner_back a };
 }
@@ -138,7 +138,7 @@ impl Model for TipCode {
 
     ghost inverse = { λ tip. record { code = code_of_tip tip } };
 
-    ghost use Rattle.sgb_graph.specs.Private.CodeLaws.{tip_back};
+    ghost use Rattle.sgb_graph.specs.Private.Codes.{tip_back};
 
     ghost inverse_ok = { λ a _. tip_back a };
 }

@@ -2,9 +2,8 @@
 ghost use Rattle.std.specs.Prelude.{◌≡◌, ◌<◌, ◌∷◌, ◌&&◌, [], length, slice_index_or, map, true, false, IsTrue, None, IfErr, OnOk};
 ghost use Rattle.sgb_graph.specs.Graph.{IsGraph, n_of, made_of, has_arc};
 ghost use Rattle.sgb_graph.specs.Edit.{with_util, with_label, util_at, has_place, can_name, stored, refusal_of_util};
-ghost use Rattle.sgb_graph.specs.Private.Aim.{can_lead, with_aim};
+ghost use Rattle.sgb_graph.specs.Private.Fill.{can_lead, with_aim, SameNames, can_name_each, can_name_part, can_name_vertices, can_name_arcs, can_name_all, with_filled_vertex, with_filled_arc, FillsVertices, FillsArcs};
 ghost use Rattle.sgb_graph.specs.Private.Cells.{is_zero};
-ghost use Rattle.sgb_graph.specs.Private.Fill.{SameNames, can_name_each, can_name_part, can_name_vertices, can_name_arcs, can_name_all, with_filled_vertex, with_filled_arc, FillsVertices, FillsArcs};
 
 use super::Graph;
 use super::codes::TipCode;
@@ -50,7 +49,7 @@ impl Graph {
         let _ = self.n();
         while let Some(part) = vertices.pop() {
             let vertex = VertexNo(vertices.len() as u32);
-            self.fill_label(vertex, part.label);
+            self.swap_label(vertex, part.label);
             self.fill_vertex(vertex, part.fields);
         }
     }
@@ -128,17 +127,7 @@ impl Graph {
         self.slots.aim(number, TipCode::new(tip), len);
     }
 
-    fn fill_label(&mut self, vertex: VertexNo, label: Label)
-        requires { vertex.0 < n_of self.old }
-        ensures value { self.new ≡ with_label self.old vertex.0 label }
-        ensures names { SameNames self.old self.new }
-        ensures sound { IsGraph self.new }
-    {
-        let _ = self.swap_label(vertex, label);
-    }
-
-    // Gives one field a value that it may hold. Most fields are Zero and stay so: inlined, so that no place is put together for
-    // these.
+    // Gives one field a value that it may hold. Most fields are Zero and stay so.
     #[inline(always)]
     fn fill(&mut self, place: Place, value: Util)
         requires { refusal_of_util self.old place value ≡ None }
@@ -149,7 +138,8 @@ impl Graph {
     {
         let _ = self.n();
         if !self.stays_zero(place, &value) {
-            self.put_util(place, value);
+            let done = self.set_util(place, value);
+            prove!(done.is_ok());
         }
     }
 
@@ -160,17 +150,6 @@ impl Graph {
         ensures { result ≡ (is_zero value.now && is_zero (util_at self.now place)) }
     {
         is_zero(value) && is_zero(self.util(place))
-    }
-
-    // Gives one field a value that it may hold.
-    fn put_util(&mut self, place: Place, value: Util)
-        requires { refusal_of_util self.old place value ≡ None }
-        ensures value { self.new ≡ with_util self.old place (stored value) }
-        ensures names { SameNames self.old self.new }
-        ensures sound { IsGraph self.new }
-    {
-        let done = self.set_util(place, value);
-        prove!(done.is_ok());
     }
 }
 

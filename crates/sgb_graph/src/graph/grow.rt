@@ -3,7 +3,6 @@ ghost use Rattle.std.specs.Prelude.{◌≡◌, ◌≤◌, ◌<◌, ◌⊎◌, le
 ghost use Rattle.std.specs.Result.{IsErrOf};
 ghost use Rattle.sgb_graph.specs.Graph.{IsGraph, n_of};
 ghost use Rattle.sgb_graph.specs.Edit.{stored};
-ghost use Rattle.sgb_graph.specs.New.{six_zeros};
 ghost use Rattle.sgb_graph.specs.Set.{IsStorable};
 ghost use Rattle.sgb_graph.specs.Vertex.{NamesNothing, new_vertex, with_vertex_last};
 
@@ -26,22 +25,6 @@ impl Graph {
         }
         let _ = label.bytes();
         self.vertices.push(label, stored_six(fields))?;
-        Ok(())
-    }
-
-    // Adds a vertex without values, last.
-    #[inline(always)]
-    pub(crate) fn push_named(&mut self, label: Label) -> Result<(), Refusal>
-        ensures ok { OnOk result (self.new ≡ with_vertex_last self.old (new_vertex label six_zeros)) }
-        ensures err { IfErr result (λ e. (e ≡ Refusal.NoRoom) ⊎ ((e ≡ Refusal.TooLarge) × (65535 ≤ n_of self.old))) }
-        ensures room { IsErrOf result Refusal.NoRoom → n_of self.old < 65535 }
-        ensures unchanged { OnErr result (self.new ≡ self.old) }
-    {
-        if self.n() >= MOST_VERTICES {
-            return Err(Refusal::TooLarge);
-        }
-        let _ = label.bytes();
-        self.vertices.push_named(label)?;
         Ok(())
     }
 

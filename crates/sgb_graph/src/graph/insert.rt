@@ -1,7 +1,6 @@
 //! New arcs and edges.
-ghost use Rattle.std.specs.Prelude.{◌≡◌, ◌⊎◌, ◌∷◌, ◌++◌, ◌+◌, ◌-◌, ◌*◌, ◌<◌, ◌≤◌, ◌&&◌, [], length, map, vec_len, vec_capacity, All, IfOk, IfErr, OnOk, OnErr, None, Some, true, false};
+ghost use Rattle.std.specs.Prelude.{◌≡◌, ◌⊎◌, ◌+◌, ◌<◌, ◌&&◌, IfOk, IfErr, OnOk, OnErr, None, Some};
 ghost use Rattle.std.specs.Result.{IsErrOf};
-ghost use Rattle.sgb_graph.specs.Builder.{along, row, with_all};
 ghost use Rattle.sgb_graph.specs.Graph.{IsGraph, has_vertex, n_of, made_of};
 ghost use Rattle.sgb_graph.specs.Edit.{with_arc, with_edge, refusal_of_arc, refusal_of_edge};
 ghost use Rattle.sgb_graph.specs.Delta.{LeftBy};
@@ -9,7 +8,7 @@ ghost use Rattle.sgb_graph.specs.Field.{arc_no};
 ghost use Rattle.sgb_graph.specs.Private.Insert.{IsRefusedAt};
 
 use super::Graph;
-use crate::{ArcNo, GraphDelta, Refusal, Spoke, VertexNo};
+use crate::{ArcNo, GraphDelta, Refusal, VertexNo};
 
 impl Graph {
     /// A new arc from one vertex to another, first in the list of the first (Knuth's `gb_new_arc`).
@@ -121,76 +120,5 @@ impl Graph {
         let number = ArcNo(self.made());
         self.slots.push_edge(&mut self.vertices, from, to, len)?;
         Ok(number)
-    }
-
-    // New arcs from one vertex to each of the vertices from `first` up to, but not including, `end`, in that order.
-    // Room is taken for all of them at once, and none is linked before the last stands.
-    pub(crate) fn add_row(
-        &mut self,
-        from: VertexNo,
-        first: u32,
-        end: u32,
-        len: i64,
-    ) -> Result<(), Refusal>
-        requires from { from.0 < n_of self.old }
-        requires end { end ≤ n_of self.old }
-        ensures graph { OnOk result (self.new ≡ with_all true self.old (row from.0 first end len)) }
-        ensures err { IfErr result (IsRefusedAt (made_of self.old + (end - first))) }
-        ensures unchanged { OnErr result (self.new ≡ self.old) }
-    {
-        let next = self.vertices.first(from);
-        let link = self.slots.push_row(from, first, end, next, len)?;
-        self.vertices.replace_first(from, link);
-        Ok(())
-    }
-
-    // New edges from one vertex to each of the vertices from `first` up to, but not including, `end`, in that order. Room
-    // is taken for all of them at once.
-    pub(crate) fn add_edges(
-        &mut self,
-        from: VertexNo,
-        first: u32,
-        end: u32,
-        len: i64,
-    ) -> Result<(), Refusal>
-        requires from { from.0 < n_of self.old }
-        requires end { end ≤ n_of self.old }
-        ensures graph { OnOk result (self.new ≡ with_all false self.old (row from.0 first end len)) }
-        ensures err { IfErr result (IsRefusedAt (made_of self.old + 2 * (end - first))) }
-        ensures unchanged { OnErr result (self.new ≡ self.old) }
-    {
-        self.slots
-            .push_edges(&mut self.vertices, from, first, end, len)?;
-        Ok(())
-    }
-
-    // New arcs from one vertex along each of the spokes, in that order. Room is taken for all of them at once.
-    pub(crate) fn add_arcs_along(&mut self, from: VertexNo, spokes: &[Spoke]) -> Result<(), Refusal>
-        requires from { from.0 < n_of self.old }
-        requires to { All (λ s. s.to < n_of self.old) spokes.now }
-        ensures graph { OnOk result (self.new ≡ with_all true self.old (map (along from.0) spokes.now)) }
-        ensures err { IfErr result (IsRefusedAt (made_of self.old + length spokes.now)) }
-        ensures unchanged { OnErr result (self.new ≡ self.old) }
-    {
-        self.slots
-            .push_arcs_along(&mut self.vertices, from, spokes)?;
-        Ok(())
-    }
-
-    // New edges from one vertex along each of the spokes, in that order. Room is taken for all of them at once.
-    pub(crate) fn add_edges_along(
-        &mut self,
-        from: VertexNo,
-        spokes: &[Spoke],
-    ) -> Result<(), Refusal>
-        requires from { from.0 < n_of self.old }
-        requires to { All (λ s. s.to < n_of self.old) spokes.now }
-        ensures graph { OnOk result (self.new ≡ with_all false self.old (map (along from.0) spokes.now)) }
-        ensures err { IfErr result (IsRefusedAt (made_of self.old + 2 * length spokes.now)) }
-        ensures unchanged { OnErr result (self.new ≡ self.old) }
-    {
-        self.slots
-            .push_edges_along(&mut self.vertices, from, spokes)?;
-        Ok(())
     }
 }

@@ -7,7 +7,7 @@ ghost use Rattle.sgb_graph.specs.Private.Link.{number_before, link_after, vertic
 
 use super::arena::{Arena, Slot};
 use super::codes::{Link, TipCode};
-use super::{Arcs, Vertices};
+use super::{Vertices, Walk};
 use crate::{ArcNo, CutArc, Util, VertexNo};
 
 // The arc that stands before this place of a list.
@@ -18,7 +18,7 @@ fn number_before(slots: &Arena, first: Link, place: u32) -> Option<ArcNo>
     if place == 0 {
         return None;
     }
-    Arcs::new(slots, first).nth(place as usize - 1)
+    Walk::new(slots, first, true).nth(place as usize - 1)
 }
 
 // Replaces the link that follows this arc, or else the owner's first link, and gives the link that was there.
@@ -68,7 +68,7 @@ fn place_in(slots: &Arena, first: Link, number: ArcNo) -> (u32, Option<ArcNo>)
 {
     let mut place = 0;
     let mut before = None;
-    for other in Arcs::new(slots, first) {
+    for other in Walk::new(slots, first, true) {
         if other == number {
             break;
         }

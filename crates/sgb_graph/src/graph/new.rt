@@ -60,7 +60,7 @@ fn bare_graph(alloc: Global, id: Text, types: Types, vertices: Vertices) -> Grap
     }
 }
 
-pub(super) fn six_zeros() -> [Util; 6]
+pub(crate) fn six_zeros() -> [Util; 6]
     ensures { result ≡ six_zeros }
 {
     [

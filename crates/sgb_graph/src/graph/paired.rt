@@ -4,7 +4,6 @@ ghost use Rattle.std.specs.List.{list_all, range_with_len};
 ghost use Rattle.sgb_graph.specs.Edit.{owner_of};
 ghost use Rattle.sgb_graph.specs.Graph.{IsGraph, n_of, made_of, arcs_of};
 ghost use Rattle.sgb_graph.specs.Paired.{goes, is_vertex, leads_from, is_loop, is_loop_pair, are_loops_paired, is_matched, is_tip_matched, is_paired};
-ghost use Rattle.sgb_graph.specs.Private.Together.{IsLedOn};
 
 use super::Graph;
 use crate::{ArcNo, ArcView, Tip, VertexNo};
@@ -14,12 +13,11 @@ impl Graph {
     /// vertex has arc k-1 lead back, one to a larger vertex arc k+1; and each loop is a second half, or the next
     /// arc of its list is its second half.
     ///
-    /// Takes no memory, and time of the whole graph. No list is walked where each loop and its second half stand
-    /// together, as edges put them.
+    /// Does not allocate. Takes time of the whole graph; lists are walked only where an arc is a loop.
     pub fn is_paired(&self) -> bool
         ensures { result ≡ is_paired self.now }
     {
-        self.are_arcs_matched() && (self.are_loops_together() || self.are_all_loops_paired())
+        self.are_arcs_matched() && (self.has_no_loops() || self.are_all_loops_paired())
     }
 
     fn are_arcs_matched(&self) -> bool
@@ -33,50 +31,25 @@ impl Graph {
         true
     }
 
-    // By number, each loop that is no second half is followed in its list by its second half, numbered next: then no
-    // list need be walked.
-    fn are_loops_together(&self) -> bool
+    // No arc leads to its own vertex. Then no list need be walked.
+    fn has_no_loops(&self) -> bool
         ensures { IsTrue result → list_all (λ v. are_loops_paired self.now v (arcs_of self.now v)) (range_with_len 0 (n_of self.now)) ≡ true }
     {
-        let mut is_second = false;
         for number in 0..self.made() {
-            if is_second {
-                is_second = false;
-                continue;
-            }
-            if !self.is_own_loop(ArcNo(number)) {
-                continue;
-            }
-            if !self.is_led_on(ArcNo(number)) {
+            if self.is_own_loop(ArcNo(number)) {
                 return false;
             }
-            is_second = true;
         }
         true
     }
 
     // The arc leads to its own vertex.
-    #[inline]
     fn is_own_loop(&self, number: ArcNo) -> bool
         requires { number.0 < made_of self.now }
         ensures { result ≡ is_loop self.now (owner_of self.now number.0) number.0 }
     {
         match self.arc(number) {
             Some(arc) => is_vertex(arc.owner.0, arc.tip),
-            None => false,
-        }
-    }
-
-    // The arc, a loop, is followed in its list by the arc numbered next, a loop too.
-    fn is_led_on(&self, number: ArcNo) -> bool
-        requires { number.0 < made_of self.now }
-        ensures { IsTrue result → IsLedOn self.now number.0 }
-    {
-        let Some(arc) = self.arc(number) else {
-            return false;
-        };
-        match self.next_of(number) {
-            Some(next) => self.is_loop_pair(arc.owner, number, next),
             None => false,
         }
     }

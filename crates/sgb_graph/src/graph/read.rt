@@ -7,7 +7,7 @@ ghost use Rattle.sgb_graph.specs.Types.{IsTypes};
 ghost use Rattle.sgb_graph.specs.Paired.{walk};
 ghost use Rattle.sgb_graph.specs.Edit.{owner_of, entry_at};
 
-use super::{Arcs, Graph, Walk};
+use super::{Graph, Walk};
 use crate::{ArcNo, Tip, Types, Util, VertexNo};
 
 /// A live arc: the vertex that lists it, its tip and its length.
@@ -81,7 +81,7 @@ impl Graph {
 
     /// The numbers of a vertex's arcs, the newest first. Each is live.
     #[inline]
-    pub fn arcs(&self, vertex: VertexNo) -> Arcs<'_>
+    pub fn arcs(&self, vertex: VertexNo) -> Walk<'_>
         requires { vertex.0 < n_of self.now }
         ensures value { result ≡ arcs_of self.now vertex.0 }
         ensures live { All (λ k. IsSome (arc_at self.now k)) result }
@@ -90,7 +90,7 @@ impl Graph {
         ensures few { length result ≤ made_of self.now }
         ensures graph { IsGraph self.now }
     {
-        Arcs::new(&self.slots, self.vertices.first(vertex))
+        Walk::new(&self.slots, self.vertices.first(vertex), true)
     }
 
     /// The numbers of a vertex's arcs, the newest first, as many as there were insertions: where `directed` is false

@@ -1,7 +1,7 @@
 //! Undoing an edit.
 ghost use Rattle.std.specs.Prelude.{◌≡◌};
 ghost use Rattle.sgb_graph.specs.Graph.{GraphOf, IsGraph};
-ghost use Rattle.sgb_graph.specs.Private.Revert.{CanBothBeTakenOut, TakesOutBoth};
+ghost use Rattle.sgb_graph.specs.Private.Link.{CanBothBeTakenOut, TakesOutBoth};
 ghost use Rattle.sgb_graph.specs.Delta.{LeftBy, LeftByArc, LeftByEdge, LeftByCut, LeftByLen, LeftByUtil, LeftByLabel, LeftById, LeftByTypes};
 
 use super::arena::Arena;

@@ -4,10 +4,9 @@ ghost use Rattle.std.specs.List.{list_all};
 ghost use Rattle.sgb_graph.specs.declared.field.Util.TheVariants as utils;
 ghost use Rattle.sgb_graph.specs.Honest.{are_allowed};
 ghost use Rattle.sgb_graph.specs.New.{six_zeros};
-ghost use Rattle.sgb_graph.specs.Private.Blank.{blank};
+ghost use Rattle.sgb_graph.specs.Private.Vertices.{blank, values_at, SameValues, PutsValues, row, unlinked, with_first, with_name, with_value};
 ghost use Rattle.sgb_graph.specs.Private.Link.{vertex_in};
 ghost use Rattle.sgb_graph.specs.Private.SameRows.{each_eq, row_eq};
-ghost use Rattle.sgb_graph.specs.Private.Vertices.{values_at, SameValues, PutsValues, row, unlinked, with_first, with_name, with_value};
 
 use super::codes::Link;
 use super::fields::is_zero;
@@ -102,18 +101,6 @@ impl Vertices {
     {
         make_room(&mut self.labels, &mut self.firsts, &mut self.fields, 1)?;
         put_last(&mut self.fields, self.labels.len(), fields);
-        self.labels.push_reserved(label);
-        self.firsts.push_reserved(Link::none());
-        Ok(())
-    }
-
-    /// Adds a vertex without arcs and values, last.
-    #[inline]
-    pub fn push_named(&mut self, label: Label) -> Result<(), AllocError>
-        ensures ok { OnOk result (self.new ≡ self.old ++ unlinked label six_zeros ∷ []) }
-        ensures unchanged { OnErr result (self.new ≡ self.old) }
-    {
-        make_room(&mut self.labels, &mut self.firsts, &mut self.fields, 1)?;
         self.labels.push_reserved(label);
         self.firsts.push_reserved(Link::none());
         Ok(())

@@ -1,4 +1,4 @@
-//! The arcs of one vertex that stand for an insertion each.
+//! The arcs of one vertex in order: all of them, or those that stand for an insertion each.
 ghost use Rattle.std.specs.Prelude.{◌≡◌, ◌<◌, length};
 ghost use Rattle.sgb_graph.specs.Private.Arena.{IsLinked, numbers};
 ghost use Rattle.sgb_graph.specs.Private.Walk.{is_pair_in, walked, past};

@@ -6,7 +6,7 @@ use Rattle.std.specs.List.{filter, flat_map, position, range_with_len}
 use Rattle.sgb_graph.specs.Builder.{Insertion, insertion}
 use Rattle.sgb_graph.specs.Graph.{GraphOf, n_of}
 use Rattle.sgb_graph.specs.declared.spoke.Spoke.{Spoke}
-use Rattle.sgb_operand.specs.Operand.{spokes}
+use Rattle.sgb_graph.specs.Operand.{spokes}
 use Rattle.sgb_induced.specs.declared.fate.Fate.{Fate}
 use Rattle.sgb_induced.specs.declared.image.Image.{Image}
 use Rattle.sgb_induced.specs.declared.run.Run.{Run}

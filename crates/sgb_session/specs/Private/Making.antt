@@ -1,5 +1,5 @@
 -- What a command did, on the way from a graph to the session.
-use Rattle.std.specs.Prelude.{◌≡◌, ◌⊎◌, ◌&&◌, ◌||◌, ℕ, List, Option, None, Some, is_none, is_ok, Bool, true, false, Result, Ok, Err}
+use Rattle.std.specs.Prelude.{◌≡◌, ◌⊎◌, ◌&&◌, ◌||◌, ℕ, List, Option, None, Some, is_none, Bool, true, false, Result, Ok, Err}
 use Rattle.sgb_graph.specs.declared.delta.GraphDelta.{GraphDelta}
 use Rattle.sgb_graph.specs.declared.refusal.Refusal.{Refusal}
 use Rattle.sgb_graph.specs.declared.refusal.Refusal.TheVariants as graphs
@@ -8,7 +8,7 @@ use Rattle.sgb_graph.specs.Delta.{LeftBy}
 use Rattle.sgb_undo.specs.Outcome.{Accepted, Refused}
 use Rattle.sgb_script.specs.declared.command.Single.{Single}
 use Rattle.sgb_script.specs.declared.command.Maker.{Maker}
-use Rattle.sgb_script.specs.declared.command.Maker.TheVariants.{Empty, Complement, Gunion, Intersection, Product, Induced}
+use Rattle.sgb_script.specs.declared.command.Maker.TheVariants.{Complement, Gunion, Intersection, Product, Induced}
 use Rattle.sgb_script.specs.declared.command.Edit.{Edit}
 use Rattle.sgb_script.specs.declared.refusal.ShellRefusal.{ShellRefusal}
 use Rattle.sgb_script.specs.declared.refusal.ShellRefusal.TheVariants.{NoRoom}
@@ -19,7 +19,7 @@ use Rattle.sgb_session.specs.declared.reply.SingleReply.TheVariants as replies
 use Rattle.sgb_session.specs.declared.table.Entry.{Entry}
 use Rattle.sgb_session.specs.Edits.{Edited, edited, edit_has_text, edit_takes_memory}
 use Rattle.sgb_session.specs.Drawing.{Drawing}
-use Rattle.sgb_session.specs.Make.{operands, graph_made, generator_after, kept_of}
+use Rattle.sgb_session.specs.Make.{operands, graph_made, maker_may_allocate, generator_after, kept_of}
 use Rattle.sgb_session.specs.Private.Slots.{held, slot_in, slot_with_graph}
 use Rattle.sgb_session.specs.Source.{turned_back, CanTurnBack}
 use Rattle.sgb_session.specs.State.{State, step, before, can_revert, may_want, refusal_of_making}
@@ -70,20 +70,15 @@ abbrev pub Judges : State → List ℕ → Maker → Result (ℕ × ℕ) ShellRe
 Judges s name m (Ok p) = (refusal_of_making s name m ≡ None) × StandAt s.table m p
 Judges s name m (Err r) = refusal_of_making s name m ≡ Some r
 
--- a graph without arcs wants for memory only where it is made; others may at any time
-abbrev pub may_lack : Maker → Result GraphOf Refusal → Bool
-may_lack (Empty n) made = is_ok made
-may_lack m made = true
-
--- the graph is made, or it is refused, or memory was wanted and may be
-abbrev pub AnswersGraph : Maker → Result GraphOf Refusal → Result GraphOf Refusal → Type 0
-AnswersGraph m made (Ok g) = made ≡ Ok g
-AnswersGraph m made (Err r) = ((r ≡ graphs.NoRoom) × (may_lack m made ≡ true)) ⊎ (made ≡ Err r)
+-- the graph is made, or it is refused, or an allocation failed where one may
+abbrev pub AnswersGraph : Bool → Result GraphOf Refusal → Result GraphOf Refusal → Type 0
+AnswersGraph may made (Ok g) = made ≡ Ok g
+AnswersGraph may made (Err r) = ((r ≡ graphs.NoRoom) × (may ≡ true)) ⊎ (made ≡ Err r)
 
 -- the same with what the maker leaves of the generator, and what is kept of it
 abbrev pub MakesGraph : Drawing → Drawing → List Entry → Maker → Result (GraphOf × SingleDelta) Refusal → Type 0
 MakesGraph old new t m (Ok a) = (graph_made old t m ≡ Ok a.0) × (new ≡ generator_after old m) × (a.1 ≡ kept_of old m)
-MakesGraph old new t m (Err r) = (new ≡ old) × AnswersGraph m (graph_made old t m) (Err r)
+MakesGraph old new t m (Err r) = (new ≡ old) × AnswersGraph (maker_may_allocate t m) (graph_made old t m) (Err r)
 
 -- the generator behind a graph that is not kept
 abbrev pub unmade : SingleDelta → Drawing → Drawing

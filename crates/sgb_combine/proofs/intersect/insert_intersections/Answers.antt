@@ -3,7 +3,7 @@ use Rattle.std.proofs.lemmas.Result.{err_from_is_err_and}
 use Rattle.sgb_graph.specs.Builder.{grown}
 use Rattle.sgb_graph.specs.Graph.{n_of}
 use Rattle.sgb_graph.proofs.Inserting.{RefusesInsertions, from_some, from_refused, from_end, from_n}
-use Rattle.sgb_operand.specs.Operand.{spokes}
+use Rattle.sgb_graph.specs.Operand.{spokes}
 use Rattle.sgb_combine.specs.Lowest.{lowest}
 use Rattle.sgb_combine.proofs.Joint.{intersection_is}
 use Rattle.sgb_combine.proofs.Reached.{within_as, passed_within}

@@ -1,61 +1,22 @@
-use Rattle.std.proofs.Common.{[], ◌∷◌, codes, None, Some, refl, ap₂, subst, ◌∙◌}
-use Rattle.std.proofs.lemmas.Result.{err_from_is_err_and}
-use Rattle.sgb_graph.specs.Graph.{IsGraph}
-use Rattle.sgb_operand.specs.Operand.{refusal_of_operand}
-use Rattle.sgb_plan.specs.Id.{id_of_two, flag_text}
+use Rattle.std.proofs.Common.{refl, arith}
+use Rattle.sgb_plan.proofs.Refusing.{planned, refused, never_answered}
 use Rattle.sgb_combine.specs.Combined.{refusal_of_operands}
 use Rattle.sgb_combine.specs.Intersection.{intersection_plan}
-use Rattle.sgb_combine.proofs.Beginning.{refused, first_some, first_none, named_so, begun_refused, inserts_refused, all_inserted, n_begun}
+use Rattle.sgb_combine.proofs.Beginning.{may_allocate_as, no_room_of_operands}
 use Rattle.sgb_combine.proofs.intersect.intersection.Goals as goal
 
-pub returns-in_err-check_operand : goal.returns-in_err-check_operand
-returns-in_err-check_operand c =
-    let p = err_from_is_err_and c.from_residual.result c.from_residual.ensures.1 in
-    let g = c.args.first.now in
-    let h = c.args.second.now in
-    record {
-      made = rw (p.1, p.2) (refused (refusal_of_operands g h) (intersection_plan g h c.args.directed) _
-          (first_some (refusal_of_operand g) (refusal_of_operand h) _ c.in_err-check_operand.ensures.err));
-    }
+pub returns-in_err-check_operands-clause-made : goal.returns-in_err-check_operands-clause-made
+returns-in_err-check_operands-clause-made c =
+    refused (refusal_of_operands c.args.first.now c.args.second.now) (intersection_plan c.args.first.now c.args.second.now c.args.directed) c.from_residual.result c.from_residual.ensures.1 c.in_err-check_operands.ensures.err
 
-pub returns-in_err-check_operand-2 : goal.returns-in_err-check_operand-2
-returns-in_err-check_operand-2 c =
-    let p = err_from_is_err_and c.from_residual-in_err-check_operand-2.result c.from_residual-in_err-check_operand-2.ensures.1 in
-    let g = c.args.first.now in
-    let h = c.args.second.now in
-    record {
-      made = rw (p.1, p.2) (refused (refusal_of_operands g h) (intersection_plan g h c.args.directed) _
-          (first_none (refusal_of_operand g) (refusal_of_operand h) (Some _) c.in_ok-check_operand.ensures.ok c.in_err-check_operand-2.ensures.err));
-    }
+pub returns-in_err-check_operands-clause-room : goal.returns-in_err-check_operands-clause-room
+returns-in_err-check_operands-clause-room c = λ is.
+    absurd (never_answered c.from_residual.result (no_room_of_operands c.args.first.now c.args.second.now) c.from_residual.ensures.1 c.in_err-check_operands.ensures.err is)
 
-pub returns-in_err-builder : goal.returns-in_err-builder
-returns-in_err-builder c =
-    let p = err_from_is_err_and c.from_residual-in_err-builder.result c.from_residual-in_err-builder.ensures.1 in
-    let g = c.args.first.now in
-    let h = c.args.second.now in
-    let none = first_none (refusal_of_operand g) (refusal_of_operand h) None c.in_ok-check_operand.ensures.ok c.in_ok-check_operand-2.ensures.ok in
-    let id = c.in_ok-id.ensures.value ∙ ap₂ (λ i j. id_of_two (codes "intersection") i j (codes "0" ∷ flag_text c.args.directed ∷ [])) c.id.ensures.value c.id-2.ensures.value in
-    record { made = rw (p.1, p.2) (begun_refused (refusal_of_operands g h) (intersection_plan g h c.args.directed) c.in_ok-id.id _ none id refl c.in_err-builder.ensures) }
+pub returns-clause-made : goal.returns-clause-made
+returns-clause-made c =
+    planned (refusal_of_operands c.args.first.now c.args.second.now) (intersection_plan c.args.first.now c.args.second.now c.args.directed) c.build_intersection.result c.in_ok-check_operands.ensures.ok c.build_intersection.ensures
 
-pub insert_intersections-requires : goal.insert_intersections-requires
-insert_intersections-requires c = n_begun c.in_ok-id.id c.args.directed c.args.first.now c.in_ok-builder.ensures
-
-pub returns-in_err-insert_intersections : goal.returns-in_err-insert_intersections
-returns-in_err-insert_intersections c =
-    let p = err_from_is_err_and c.from_residual-in_err-insert_intersections.result c.from_residual-in_err-insert_intersections.ensures.1 in
-    let g = c.args.first.now in
-    let h = c.args.second.now in
-    let none = first_none (refusal_of_operand g) (refusal_of_operand h) None c.in_ok-check_operand.ensures.ok c.in_ok-check_operand-2.ensures.ok in
-    let id = c.in_ok-id.ensures.value ∙ ap₂ (λ i j. id_of_two (codes "intersection") i j (codes "0" ∷ flag_text c.args.directed ∷ [])) c.id.ensures.value c.id-2.ensures.value in
-    let named = named_so (intersection_plan g h c.args.directed) c.in_ok-id.id id refl c.in_ok-builder.ensures in
-    record { made = rw (p.1, p.2) (inserts_refused (refusal_of_operands g h) (intersection_plan g h c.args.directed) _ none named c.in_err-insert_intersections.ensures) }
-
-pub returns : goal.returns
-returns c =
-    let g = c.args.first.now in
-    let h = c.args.second.now in
-    let none = first_none (refusal_of_operand g) (refusal_of_operand h) None c.in_ok-check_operand.ensures.ok c.in_ok-check_operand-2.ensures.ok in
-    let id = c.in_ok-id.ensures.value ∙ ap₂ (λ i j. id_of_two (codes "intersection") i j (codes "0" ∷ flag_text c.args.directed ∷ [])) c.id.ensures.value c.id-2.ensures.value in
-    let named = named_so (intersection_plan g h c.args.directed) c.in_ok-id.id id refl c.in_ok-builder.ensures in
-    let whole = all_inserted (refusal_of_operands g h) (intersection_plan g h c.args.directed) none named c.in_ok-insert_intersections.ensures (subst IsGraph c.finish.ensures.value c.finish.ensures.sound) in
-    record { made = rw c.finish.ensures.value whole }
+pub returns-clause-room : goal.returns-clause-room
+returns-clause-room c = λ is.
+    may_allocate_as (refusal_of_operands c.args.first.now c.args.second.now) (intersection_plan c.args.first.now c.args.second.now c.args.directed) c.args.first.now c.in_ok-check_operands.ensures.ok refl (omega (arith, c.n.ensures.value, c.n.ensures.limit))

@@ -2,7 +2,7 @@ use Rattle.std.proofs.Common.{◌++◌, true, arith, ap, ap₂, subst, ◌∙◌
 use Rattle.std.proofs.lemmas.Result.{err_from_is_err_and}
 use Rattle.sgb_graph.specs.Builder.{grown}
 use Rattle.sgb_graph.proofs.Inserting.{RefusesInsertions, from_some, from_refused, from_end, from_n}
-use Rattle.sgb_operand.specs.Operand.{spokes}
+use Rattle.sgb_graph.specs.Operand.{spokes}
 use Rattle.sgb_combine.specs.Complement.{wanted_steps}
 use Rattle.sgb_combine.proofs.Reached.{within_as}
 use Rattle.sgb_combine.proofs.negate.insert_complement.Goals as goal

@@ -1,46 +1,39 @@
-use Rattle.std.proofs.Common.{refl, subst}
-use Rattle.std.proofs.lemmas.Result.{err_from_is_err_and}
-use Rattle.sgb_graph.specs.Graph.{IsGraph}
+use Rattle.std.proofs.Common.{◌*◌, Err, refl, ap₂, ◌∙◌, arith}
+use Rattle.sgb_graph.specs.declared.refusal.Refusal.TheVariants.{TooLarge}
+use Rattle.sgb_plan.proofs.Planning.{many_vertices}
+use Rattle.sgb_plan.proofs.Refusing.{may_allocate, never_answered, planned, refused}
 use Rattle.sgb_combine.specs.Product.{product_plan, refusal_of_product}
-use Rattle.sgb_combine.proofs.Beginning.{refused, named_so, begun_refused, inserts_refused, all_inserted}
-use Rattle.sgb_combine.proofs.Named.{n_pairs}
+use Rattle.sgb_combine.proofs.Beginning.{no_room_of_product}
+use Rattle.sgb_combine.proofs.Named.{count_pairs}
 use Rattle.sgb_combine.proofs.pairs.product.Goals as goal
 
-pub returns-in_err-check_product : goal.returns-in_err-check_product
-returns-in_err-check_product c =
-    let p = err_from_is_err_and c.from_residual.result c.from_residual.ensures.1 in
+pub returns-in_err-check_product-clause-made : goal.returns-in_err-check_product-clause-made
+returns-in_err-check_product-clause-made c =
     let g = c.args.first.now in
     let h = c.args.second.now in
-    record { made = rw (p.1, p.2) (refused (refusal_of_product g h c.args.spec.now) (product_plan g h c.args.spec.now) _ c.in_err-check_product.ensures.err) }
+    refused (refusal_of_product g h c.args.spec.now) (product_plan g h c.args.spec.now) c.from_residual.result c.from_residual.ensures.1 c.in_err-check_product.ensures.err
 
-pub returns-in_err-builder : goal.returns-in_err-builder
-returns-in_err-builder c =
-    let p = err_from_is_err_and c.from_residual-in_err-builder.result c.from_residual-in_err-builder.ensures.1 in
+pub returns-in_err-check_product-clause-room : goal.returns-in_err-check_product-clause-room
+returns-in_err-check_product-clause-room c = λ is.
+    absurd (never_answered c.from_residual.result (no_room_of_product c.args.first.now c.args.second.now c.args.spec.now) c.from_residual.ensures.1 c.in_err-check_product.ensures.err is)
+
+pub returns-then-from-gt65535-clause-made : goal.returns-then-from-gt65535-clause-made
+returns-then-from-gt65535-clause-made c =
     let g = c.args.first.now in
     let h = c.args.second.now in
-    let spec = c.args.spec.now in
-    let id = c.in_ok-id.ensures.value in
-    record { made = rw (p.1, p.2) (begun_refused (refusal_of_product g h spec) (product_plan g h spec) c.in_ok-id.id _ c.in_ok-check_product.ensures.ok id refl c.in_err-builder.ensures) }
+    let plan = product_plan g h c.args.spec.now in
+    planned (refusal_of_product g h c.args.spec.now) plan (Err TooLarge) c.in_ok-check_product.ensures.ok
+    (many_vertices plan refl (omega (arith, count_pairs g h, ap₂ (λ m n. m * n) (c.from.ensures ∙ c.n.ensures.value) (c.from-2.ensures ∙ c.n-2.ensures.value), c.if-from-gt65535.true)))
 
-pub insert_product-requires : goal.insert_product-requires
-insert_product-requires c = n_pairs c.in_ok-id.id c.args.spec.now.directed c.args.first.now c.args.second.now c.in_ok-builder.ensures
-
-pub returns-in_err-insert_product : goal.returns-in_err-insert_product
-returns-in_err-insert_product c =
-    let p = err_from_is_err_and c.from_residual-in_err-insert_product.result c.from_residual-in_err-insert_product.ensures.1 in
+pub returns-clause-made : goal.returns-clause-made
+returns-clause-made c =
     let g = c.args.first.now in
     let h = c.args.second.now in
-    let spec = c.args.spec.now in
-    let id = c.in_ok-id.ensures.value in
-    let named = named_so (product_plan g h spec) c.in_ok-id.id id refl c.in_ok-builder.ensures in
-    record { made = rw (p.1, p.2) (inserts_refused (refusal_of_product g h spec) (product_plan g h spec) _ c.in_ok-check_product.ensures.ok named c.in_err-insert_product.ensures) }
+    planned (refusal_of_product g h c.args.spec.now) (product_plan g h c.args.spec.now) c.build_product.result c.in_ok-check_product.ensures.ok c.build_product.ensures
 
-pub returns : goal.returns
-returns c =
+pub returns-clause-room : goal.returns-clause-room
+returns-clause-room c = λ is.
     let g = c.args.first.now in
     let h = c.args.second.now in
-    let spec = c.args.spec.now in
-    let id = c.in_ok-id.ensures.value in
-    let named = named_so (product_plan g h spec) c.in_ok-id.id id refl c.in_ok-builder.ensures in
-    let whole = all_inserted (refusal_of_product g h spec) (product_plan g h spec) c.in_ok-check_product.ensures.ok named c.in_ok-insert_product.ensures (subst IsGraph c.finish.ensures.value c.finish.ensures.sound) in
-    record { made = rw c.finish.ensures.value whole }
+    may_allocate (refusal_of_product g h c.args.spec.now) (product_plan g h c.args.spec.now) c.in_ok-check_product.ensures.ok
+    (omega (arith, count_pairs g h, ap₂ (λ m n. m * n) (c.from.ensures ∙ c.n.ensures.value) (c.from-2.ensures ∙ c.n-2.ensures.value), c.if-from-gt65535.false))

@@ -1,5 +1,5 @@
 use Rattle.std.proofs.Common.{◌++◌, ap, ◌∙◌}
-use Rattle.sgb_operand.specs.Operand.{spokes}
+use Rattle.sgb_graph.specs.Operand.{spokes}
 use Rattle.sgb_induced.proofs.Gathering.{runs_skip, runs_step}
 use Rattle.sgb_induced.proofs.gather.read_runs.Goals as goal
 

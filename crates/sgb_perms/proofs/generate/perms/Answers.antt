@@ -10,9 +10,8 @@ use Rattle.sgb_graph.specs.New.{bare_graph}
 use Rattle.sgb_graph.specs.Builder.{grown}
 use Rattle.sgb_graph.proofs.Inserting.{RefusesInsertions}
 use Rattle.sgb_plan.specs.Distinct.{Distinct}
-use Rattle.sgb_plan.specs.Plan.{Plan, IsMade, with_named}
+use Rattle.sgb_plan.specs.Plan.{Plan, IsMade, with_named, MayAllocate}
 use Rattle.sgb_plan.proofs.Planning.{begun, n-with_named, RefusesNames, made, refused_before, refused_names, refused_insertions, many_vertices}
-use Rattle.sgb_simplex.specs.Room.{MayWant}
 use Rattle.sgb_perms.specs.declared.spec.PermsSpec.{PermsSpec}
 use Rattle.sgb_perms.specs.Arrangement.{arrangements}
 use Rattle.sgb_perms.specs.Perms.{counts_of, are_allowed, most_of, row_vertex, exchanges, perms_id, perms_plan, plan_of_perms}
@@ -84,11 +83,11 @@ rows_closed [] most some = absurd (omega arith)
 rows_closed (zeros ∷ counts) most some = closed zeros counts most
 
 -- ---- the answers
-may_want : (s : PermsSpec) (counts : List ℕ) (most count : ℕ) → Planned s counts most → (count ≡ length (arrangements counts most)) × (count ≤ 65535) → MayWant (plan_of_perms s)
+may_want : (s : PermsSpec) (counts : List ℕ) (most count : ℕ) → Planned s counts most → (count ≡ length (arrangements counts most)) × (count ≤ 65535) → MayAllocate (plan_of_perms s)
 may_want s counts most count p few =
     let long : length (plan_with s counts most).vertices ≡ length (arrangements counts most) =
     sym (ap length (planned_vertices s counts most (arrangements counts most) refl)) ∙ length-map (arrangements counts most) row_vertex in
-    subst MayWant (sym (is_planned s counts most p)) (omega (arith, few.0, few.1, long))
+    subst MayAllocate (sym (is_planned s counts most p)) (omega (arith, few.0, few.1, long))
 
 too_many_rows : (s : PermsSpec) (counts : List ℕ) (most : ℕ) (e : Refusal) → Planned s counts most → (e ≡ NoRoom) ⊎ ((e ≡ TooLarge) × (65535 < length (arrangements counts most))) → IsMade (plan_of_perms s) (Err e)
 too_many_rows s counts most e p (inl room) = inl room

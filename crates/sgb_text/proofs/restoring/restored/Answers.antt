@@ -5,16 +5,17 @@ use Rattle.sgb_grammar.specs.Saved.{shown}
 use Rattle.sgb_graph.specs.Graph.{GraphOf}
 use Rattle.sgb_graph.specs.Parts.{Builds}
 use Rattle.sgb_grammar.specs.declared.fault.Fault.TheVariants as faults
-use Rattle.sgb_text.proofs.Exactness.{nothing, spoiled, partless}
+use Rattle.sgb_text.proofs.Exactness.{has_header, nothing, spoiled, partless}
 use Rattle.sgb_text.proofs.restoring.restored.Goals as goal
 
 pub returns-then-not-is_within_limits-clause-err : goal.returns-then-not-is_within_limits-clause-err
-returns-then-not-is_within_limits-clause-err c = record {
-  header = c.in-Ok.header;
-  lines = c.in-Ok.lines.now;
-  first = c.in-Ok.ensures.ok;
-  limits = sym c.is_within_limits.ensures ∙ c.if-not-is_within_limits.true;
-}
+returns-then-not-is_within_limits-clause-err c = has_header c.in-Ok.ensures.ok (sym c.is_within_limits.ensures ∙ c.if-not-is_within_limits.true)
+
+pub returns-in-Err-NoRoom-build-clause-err : goal.returns-in-Err-NoRoom-build-clause-err
+returns-in-Err-NoRoom-build-clause-err c = has_header c.in-Ok.ensures.ok (sym c.is_within_limits.ensures ∙ c.if-not-is_within_limits.false)
+
+pub returns-in-Err-NoRoom-clause-err : goal.returns-in-Err-NoRoom-clause-err
+returns-in-Err-NoRoom-clause-err c = has_header c.in-Ok.ensures.ok (sym c.is_within_limits.ensures ∙ c.if-not-is_within_limits.false)
 
 pub returns-then-agrees-clause-ok : goal.returns-then-agrees-clause-ok
 returns-then-agrees-clause-ok c = record {
@@ -55,12 +56,7 @@ returns-in-Err c =
     record {
       ok = tt;
       err = inr (
-        record {
-          header = c.in-Ok.header;
-          lines = c.in-Ok.lines.now;
-          first = c.in-Ok.ensures.ok;
-          limits = sym c.is_within_limits.ensures ∙ c.if-not-is_within_limits.false;
-        },
+        has_header c.in-Ok.ensures.ok (sym c.is_within_limits.ensures ∙ c.if-not-is_within_limits.false),
         partless c.args.text.now c.in-Ok.header c.in-Ok.lines.now (shown c.in-Ok-read_saved.saved) c.in-Ok.ensures.only c.in-Ok-read_saved.ensures.only none,
       );
     }
@@ -69,12 +65,7 @@ pub returns-in-Err-Syntax-clause-err : goal.returns-in-Err-Syntax-clause-err
 returns-in-Err-Syntax-clause-err c =
     let syntax : c.in-Err-Syntax.field-0 ≡ faults.Syntax = search rules in
     inr (
-      record {
-        header = c.in-Ok.header;
-        lines = c.in-Ok.lines.now;
-        first = c.in-Ok.ensures.ok;
-        limits = sym c.is_within_limits.ensures ∙ c.if-not-is_within_limits.false;
-      },
+      has_header c.in-Ok.ensures.ok (sym c.is_within_limits.ensures ∙ c.if-not-is_within_limits.false),
       spoiled c.args.text.now c.in-Ok.header c.in-Ok.lines.now c.in-Ok.ensures.only
           (nothing c.in-Ok.header c.in-Ok.lines.now c.in-Err-Syntax.field-0 syntax c.in-Err-Syntax.ensures.err),
     )

@@ -2,7 +2,7 @@ use Rattle.std.proofs.Common.{All, IsSome, arith, ap, sym, subst, ◌∙◌}
 use Rattle.std.specs.List.{filter}
 use Rattle.std.proofs.lemmas.List.Elements.{All-tail}
 use Rattle.sgb_graph.specs.Graph.{n_of, arc_at}
-use Rattle.sgb_operand.specs.Operand.{spokes}
+use Rattle.sgb_graph.specs.Operand.{spokes}
 use Rattle.sgb_combine.specs.Gunion.{is_candidate}
 use Rattle.sgb_combine.proofs.Meeting.{holds_from, holds_one, holds_next, passing_walk, passing_past, from_nothing}
 use Rattle.sgb_combine.proofs.both.Both.read.Goals as goal

@@ -1,5 +1,5 @@
 use Rattle.std.proofs.Common.{◌≡◌, [], ◌∷◌, ◌++◌, length, ap, ◌∙◌, arith}
-use Rattle.sgb_operand.specs.Operand.{spokes}
+use Rattle.sgb_graph.specs.Operand.{spokes}
 use Rattle.sgb_combine.specs.Private.Rows.{row_of}
 use Rattle.sgb_combine.proofs.Rowed.{row_kept, rows_more}
 use Rattle.sgb_combine.proofs.rows.Rows.read.Goals as goal

@@ -12,23 +12,10 @@ invariant_of-self c =
     let b : Inside = record { id = a.id; types = a.types; fields = a.fields; vertices = a.vertices; slots = c.aim.new.self; holes = a.holes } in
     (aim_done a b g c.args.number.0 c.args.tip _ c.args.len _ c.self.view_is c.self.invariant c.requires.live c.requires.tip c.ranges.len c.new.ensures (to_z-of_z w64 c.args.len c.ranges.len) refl refl refl refl refl c.aim.ensures).arena
 
-pub returns-clause-value : goal.returns-clause-value
-returns-clause-value c =
+pub returns : goal.returns
+returns c =
     let a = c.self.inside in
     let g = c.args.self.now in
     let b : Inside = record { id = a.id; types = a.types; fields = a.fields; vertices = a.vertices; slots = c.aim.new.self; holes = a.holes } in
-    (aim_done a b g c.args.number.0 c.args.tip _ c.args.len _ c.self.view_is c.self.invariant c.requires.live c.requires.tip c.ranges.len c.new.ensures (to_z-of_z w64 c.args.len c.ranges.len) refl refl refl refl refl c.aim.ensures).graph
-
-pub returns-clause-names : goal.returns-clause-names
-returns-clause-names c =
-    let a = c.self.inside in
-    let g = c.args.self.now in
-    let b : Inside = record { id = a.id; types = a.types; fields = a.fields; vertices = a.vertices; slots = c.aim.new.self; holes = a.holes } in
-    (aim_done a b g c.args.number.0 c.args.tip _ c.args.len _ c.self.view_is c.self.invariant c.requires.live c.requires.tip c.ranges.len c.new.ensures (to_z-of_z w64 c.args.len c.ranges.len) refl refl refl refl refl c.aim.ensures).names
-
-pub returns-clause-sound : goal.returns-clause-sound
-returns-clause-sound c =
-    let a = c.self.inside in
-    let g = c.args.self.now in
-    let b : Inside = record { id = a.id; types = a.types; fields = a.fields; vertices = a.vertices; slots = c.aim.new.self; holes = a.holes } in
-    (aim_done a b g c.args.number.0 c.args.tip _ c.args.len _ c.self.view_is c.self.invariant c.requires.live c.requires.tip c.ranges.len c.new.ensures (to_z-of_z w64 c.args.len c.ranges.len) refl refl refl refl refl c.aim.ensures).sound
+    let done = aim_done a b g c.args.number.0 c.args.tip _ c.args.len _ c.self.view_is c.self.invariant c.requires.live c.requires.tip c.ranges.len c.new.ensures (to_z-of_z w64 c.args.len c.ranges.len) refl refl refl refl refl c.aim.ensures in
+    record { value = done.graph; names = done.names; sound = done.sound }

@@ -1,9 +1,8 @@
-use Rattle.std.proofs.Common.{refl, sym, ap, subst, ◌∙◌, inr}
-use Rattle.sgb_graph.specs.Parts.{Builds}
+use Rattle.std.proofs.Common.{refl, ap, subst, ◌∙◌, inr}
 use Rattle.sgb_graph.specs.Private.Fill.{can_name_vertices, FillsVertices, FillsArcs}
 use Rattle.std.proofs.lemmas.Result.{err_from_is_err_and}
 use Rattle.sgb_graph.proofs.Filling.{names_then, each-same}
-use Rattle.sgb_graph.proofs.Building.{lays_moved, unnamed_refused, named_parts, arc_refused, filled_names, arcs_filled_names, builds, not_laid, long_id}
+use Rattle.sgb_graph.proofs.Owning.{lays_moved, unnamed_refused, named_parts, arc_refused, filled_names, arcs_filled_names, builds, not_laid, long_id}
 use Rattle.sgb_graph.proofs.graph.Graph.build.Goals as goal
 
 pub returns-in_err-graph-clause-err : goal.returns-in_err-graph-clause-err

@@ -1,5 +1,5 @@
 use Rattle.std.proofs.Common.{◌≡◌, ◌∙◌, ap, sym, refl, Bool, true, false, ◌&&◌}
-use Rattle.sgb_graph.proofs.HonestLemmas.{honest_is}
+use Rattle.sgb_graph.proofs.Cells.{honest_is}
 use Rattle.sgb_graph.proofs.graph.Graph.is_honest.Goals as goal
 
 last_decides : (x y z : Bool) → x ≡ true → y ≡ true → z ≡ (x && y && z)

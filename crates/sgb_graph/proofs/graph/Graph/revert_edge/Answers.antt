@@ -1,7 +1,7 @@
 use Rattle.std.proofs.Common.{refl}
 use Rattle.sgb_graph.specs.declared.graph.Graph.TheInside.{Inside}
 use Rattle.sgb_graph.proofs.Shows.{Opened, opened, closed, closed_arena}
-use Rattle.sgb_graph.proofs.InsertLemmas.{SameOwn}
+use Rattle.sgb_graph.proofs.Joining.{SameOwn}
 use Rattle.sgb_graph.specs.Graph.{GraphOf}
 use Rattle.sgb_graph.specs.Delta.{LeftByEdge}
 use Rattle.sgb_graph.proofs.CutLemmas.{RevertCan, revert_edge_requires, revert_edge_after}
@@ -11,22 +11,14 @@ pub take_out_both-requires : goal.take_out_both-requires
 take_out_both-requires c =
     let h = c.args.self.now in
     let a = c.self.inside in
-    let x : RevertCan a h c.self.inside.vertices c.self.inside.slots = record {
-      opened = opened a h c.self.view_is c.self.invariant;
-      vertices = refl;
-      slots = refl;
-    } in
+    let x : RevertCan a h c.self.inside.vertices c.self.inside.slots = record { opened = opened a h c.self.view_is c.self.invariant; vertices = refl; slots = refl } in
     revert_edge_requires a h c.args.number _ _ c.requires.0 x c.requires.1
 
 pub invariant_of-self : goal.invariant_of-self
 invariant_of-self c =
     let h = c.args.self.now in
     let a = c.self.inside in
-    let x : RevertCan a h c.self.inside.vertices c.self.inside.slots = record {
-      opened = opened a h c.self.view_is c.self.invariant;
-      vertices = refl;
-      slots = refl;
-    } in
+    let x : RevertCan a h c.self.inside.vertices c.self.inside.slots = record { opened = opened a h c.self.view_is c.self.invariant; vertices = refl; slots = refl } in
     let b : Inside = record { id = a.id; types = a.types; fields = a.fields; vertices = c.take_out_both.new.vertices; slots = c.truncate.new.self; holes = a.holes } in
     let own : SameOwn a b = record { id = refl; types = refl; fields = refl } in
     let after : (g : GraphOf) → LeftByEdge g c.args.number h → Opened b g = λ g l.
@@ -36,15 +28,11 @@ invariant_of-self c =
     refl own in
     closed_arena b c.requires.0 (after c.requires.0 c.requires.1)
 
-pub returns-clause-back : goal.returns-clause-back
-returns-clause-back c =
+pub returns : goal.returns
+returns c =
     let h = c.args.self.now in
     let a = c.self.inside in
-    let x : RevertCan a h c.self.inside.vertices c.self.inside.slots = record {
-      opened = opened a h c.self.view_is c.self.invariant;
-      vertices = refl;
-      slots = refl;
-    } in
+    let x : RevertCan a h c.self.inside.vertices c.self.inside.slots = record { opened = opened a h c.self.view_is c.self.invariant; vertices = refl; slots = refl } in
     let b : Inside = record { id = a.id; types = a.types; fields = a.fields; vertices = c.take_out_both.new.vertices; slots = c.truncate.new.self; holes = a.holes } in
     let own : SameOwn a b = record { id = refl; types = refl; fields = refl } in
     let after : (g : GraphOf) → LeftByEdge g c.args.number h → Opened b g = λ g l.
@@ -52,22 +40,4 @@ returns-clause-back c =
     refl
     c.truncate.ensures
     refl own in
-    λ g l. closed b g (after g l)
-
-pub returns-clause-sound : goal.returns-clause-sound
-returns-clause-sound c =
-    let h = c.args.self.now in
-    let a = c.self.inside in
-    let x : RevertCan a h c.self.inside.vertices c.self.inside.slots = record {
-      opened = opened a h c.self.view_is c.self.invariant;
-      vertices = refl;
-      slots = refl;
-    } in
-    let b : Inside = record { id = a.id; types = a.types; fields = a.fields; vertices = c.take_out_both.new.vertices; slots = c.truncate.new.self; holes = a.holes } in
-    let own : SameOwn a b = record { id = refl; types = refl; fields = refl } in
-    let after : (g : GraphOf) → LeftByEdge g c.args.number h → Opened b g = λ g l.
-    revert_edge_after a b h c.args.number _ _ _ _ g x l c.take_out_both.ensures
-    refl
-    c.truncate.ensures
-    refl own in
-    (closed_arena b c.requires.0 (after c.requires.0 c.requires.1)).graph
+    record { back = λ g l. closed b g (after g l); sound = (closed_arena b c.requires.0 (after c.requires.0 c.requires.1)).graph }

@@ -21,20 +21,11 @@ invariant_of-self c =
     revert_label_after a b h c.args.vertex c.args.label g c.self.view_is c.self.invariant l refl refl refl refl refl c.replace_label.ensures.vertices in
     closed_arena b c.requires.0 (after c.requires.0 c.requires.1)
 
-pub returns-clause-back : goal.returns-clause-back
-returns-clause-back c =
+pub returns : goal.returns
+returns c =
     let a = c.self.inside in
     let h = c.args.self.now in
     let b : Inside = record { id = a.id; types = a.types; fields = a.fields; vertices = c.replace_label.new.self; slots = a.slots; holes = a.holes } in
     let after : (g : GraphOf) → LeftByLabel g c.args.vertex c.args.label h → Opened b g = λ g l.
     revert_label_after a b h c.args.vertex c.args.label g c.self.view_is c.self.invariant l refl refl refl refl refl c.replace_label.ensures.vertices in
-    λ g l. closed b g (after g l)
-
-pub returns-clause-sound : goal.returns-clause-sound
-returns-clause-sound c =
-    let a = c.self.inside in
-    let h = c.args.self.now in
-    let b : Inside = record { id = a.id; types = a.types; fields = a.fields; vertices = c.replace_label.new.self; slots = a.slots; holes = a.holes } in
-    let after : (g : GraphOf) → LeftByLabel g c.args.vertex c.args.label h → Opened b g = λ g l.
-    revert_label_after a b h c.args.vertex c.args.label g c.self.view_is c.self.invariant l refl refl refl refl refl c.replace_label.ensures.vertices in
-    (closed_arena b c.requires.0 (after c.requires.0 c.requires.1)).graph
+    record { back = λ g l. closed b g (after g l); sound = (closed_arena b c.requires.0 (after c.requires.0 c.requires.1)).graph }

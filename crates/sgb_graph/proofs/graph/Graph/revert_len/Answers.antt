@@ -23,8 +23,8 @@ invariant_of-self c =
     refl in
     closed_arena b c.requires.0 (after c.requires.0 c.requires.1)
 
-pub returns-clause-back : goal.returns-clause-back
-returns-clause-back c =
+pub returns : goal.returns
+returns c =
     let a = c.self.inside in
     let h = c.args.self.now in
     let b : Inside = record { id = a.id; types = a.types; fields = a.fields; vertices = a.vertices; slots = c.replace_len.new.self; holes = a.holes } in
@@ -32,15 +32,4 @@ returns-clause-back c =
     revert_len_after a b h c.args.number c.args.len _ _ _ g c.self.view_is c.self.invariant l (to_z-of_z w64 c.args.len c.ranges.len)
     refl c.replace_len.ensures.slots refl refl refl refl refl
     refl in
-    λ g l. closed b g (after g l)
-
-pub returns-clause-sound : goal.returns-clause-sound
-returns-clause-sound c =
-    let a = c.self.inside in
-    let h = c.args.self.now in
-    let b : Inside = record { id = a.id; types = a.types; fields = a.fields; vertices = a.vertices; slots = c.replace_len.new.self; holes = a.holes } in
-    let after : (g : GraphOf) → LeftByLen g c.args.number c.args.len h → Opened b g = λ g l.
-    revert_len_after a b h c.args.number c.args.len _ _ _ g c.self.view_is c.self.invariant l (to_z-of_z w64 c.args.len c.ranges.len)
-    refl c.replace_len.ensures.slots refl refl refl refl refl
-    refl in
-    (closed_arena b c.requires.0 (after c.requires.0 c.requires.1)).graph
+    record { back = λ g l. closed b g (after g l); sound = (closed_arena b c.requires.0 (after c.requires.0 c.requires.1)).graph }

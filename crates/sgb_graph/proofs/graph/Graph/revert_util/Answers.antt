@@ -24,8 +24,8 @@ invariant_of-self c =
     refl refl refl refl refl).0 in
     closed_arena b c.requires.0 (after c.requires.0 c.requires.1)
 
-pub returns-clause-back : goal.returns-clause-back
-returns-clause-back c =
+pub returns : goal.returns
+returns c =
     let a = c.self.inside in
     let h = c.args.self.now in
     let b : Inside = record { id = a.id; types = a.types; fields = c.exchange.new.fields; vertices = c.exchange.new.vertices; slots = c.exchange.new.slots; holes = a.holes } in
@@ -34,16 +34,4 @@ returns-clause-back c =
     (util_after a b h c.args.place c.args.value c.args.value c.exchange.result _ _ _ _ _ _
     (revert_util_requires a h c.args.place c.args.value _ _ _ g c.self.view_is c.self.invariant l refl refl refl) c.exchange.ensures refl
     refl refl refl refl refl).0 in
-    λ g l. closed b g (after g l)
-
-pub returns-clause-sound : goal.returns-clause-sound
-returns-clause-sound c =
-    let a = c.self.inside in
-    let h = c.args.self.now in
-    let b : Inside = record { id = a.id; types = a.types; fields = c.exchange.new.fields; vertices = c.exchange.new.vertices; slots = c.exchange.new.slots; holes = a.holes } in
-    let after : (g : GraphOf) → LeftByUtil g c.args.place c.args.value h → Opened b g = λ g l.
-    subst (Opened b) (left_util g h c.args.place c.args.value l).back
-    (util_after a b h c.args.place c.args.value c.args.value c.exchange.result _ _ _ _ _ _
-    (revert_util_requires a h c.args.place c.args.value _ _ _ g c.self.view_is c.self.invariant l refl refl refl) c.exchange.ensures refl
-    refl refl refl refl refl).0 in
-    (closed_arena b c.requires.0 (after c.requires.0 c.requires.1)).graph
+    record { back = λ g l. closed b g (after g l); sound = (closed_arena b c.requires.0 (after c.requires.0 c.requires.1)).graph }

@@ -1,4 +1,4 @@
-use Rattle.std.proofs.Common.{◌<◌, refl}
+use Rattle.std.proofs.Common.{◌<◌, refl, rules}
 use Rattle.sgb_graph.specs.declared.graph.Graph.TheInside.{Inside}
 use Rattle.sgb_graph.specs.Graph.{n_of}
 use Rattle.sgb_graph.proofs.SetLemmas.{label_done}
@@ -13,29 +13,12 @@ invariant_of-self c =
     (label_done a b g c.args.vertex c.args.label c.replace_label.result c.self.view_is c.self.invariant low c.bytes.ensures.text
     c.replace_label.ensures.old refl refl refl refl refl c.replace_label.ensures.vertices).arena
 
-pub returns-clause-graph : goal.returns-clause-graph
-returns-clause-graph c =
+pub returns : goal.returns
+returns c =
     let a = c.self.inside in
     let g = c.args.self.now in
     let low : c.args.vertex.0 < n_of g = c.requires in
     let b : Inside = record { id = a.id; types = a.types; fields = a.fields; vertices = c.replace_label.new.self; slots = a.slots; holes = a.holes } in
-    (label_done a b g c.args.vertex c.args.label c.replace_label.result c.self.view_is c.self.invariant low c.bytes.ensures.text
-    c.replace_label.ensures.old refl refl refl refl refl c.replace_label.ensures.vertices).graph
-
-pub returns-clause-left : goal.returns-clause-left
-returns-clause-left c =
-    let a = c.self.inside in
-    let g = c.args.self.now in
-    let low : c.args.vertex.0 < n_of g = c.requires in
-    let b : Inside = record { id = a.id; types = a.types; fields = a.fields; vertices = c.replace_label.new.self; slots = a.slots; holes = a.holes } in
-    (label_done a b g c.args.vertex c.args.label c.replace_label.result c.self.view_is c.self.invariant low c.bytes.ensures.text
-    c.replace_label.ensures.old refl refl refl refl refl c.replace_label.ensures.vertices).left
-
-pub returns-clause-sound : goal.returns-clause-sound
-returns-clause-sound c =
-    let a = c.self.inside in
-    let g = c.args.self.now in
-    let low : c.args.vertex.0 < n_of g = c.requires in
-    let b : Inside = record { id = a.id; types = a.types; fields = a.fields; vertices = c.replace_label.new.self; slots = a.slots; holes = a.holes } in
-    (label_done a b g c.args.vertex c.args.label c.replace_label.result c.self.view_is c.self.invariant low c.bytes.ensures.text
-    c.replace_label.ensures.old refl refl refl refl refl c.replace_label.ensures.vertices).sound
+    let done = label_done a b g c.args.vertex c.args.label c.replace_label.result c.self.view_is c.self.invariant low c.bytes.ensures.text
+    c.replace_label.ensures.old refl refl refl refl refl c.replace_label.ensures.vertices in
+    record { value = search rules; graph = done.graph; left = done.left; sound = done.sound }

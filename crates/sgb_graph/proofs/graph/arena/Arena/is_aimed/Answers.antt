@@ -1,4 +1,4 @@
-use Rattle.sgb_graph.proofs.Aimed.{slot_aimed, zipped-aimed}
+use Rattle.sgb_graph.proofs.Cells.{slot_aimed, zipped-aimed}
 use Rattle.sgb_graph.specs.Private.Cells.{is_aimed}
 use Rattle.std.specs.List.{list_all}
 use Rattle.std.proofs.Common.{◌∙◌, ap, sym}

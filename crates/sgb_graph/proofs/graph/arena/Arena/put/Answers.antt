@@ -1,4 +1,4 @@
-use Rattle.std.proofs.Common.{◌∙◌, ◌&&◌, ℤ, ap, arith, sym, Some, to_z, of_z}
+use Rattle.std.proofs.Common.{◌∙◌, ℤ, ap, arith, Some, to_z, of_z}
 use Rattle.std.specs.Int.{w64}
 use Rattle.std.proofs.lemmas.Int.{to_z-of_z}
 use Rattle.sgb_graph.proofs.Cells.{cells_low, owned_some, slot_put}

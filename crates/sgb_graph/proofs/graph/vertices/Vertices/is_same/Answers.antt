@@ -1,18 +1,20 @@
 use Rattle.std.proofs.Common.{◌∙◌, sym, arith}
-use Rattle.sgb_graph.proofs.Vertices.{same_rows_more, rows_same, rows_differ}
+use Rattle.sgb_graph.specs.Private.Link.{any_vertex}
+use Rattle.sgb_graph.specs.Private.SameRows.{row_eq}
+use Rattle.sgb_graph.proofs.SameRows.{same_more, each_same, each_differs}
 use Rattle.sgb_graph.proofs.graph.vertices.Vertices.is_same.Goals as goal
 
 pub loop-index-init : goal.loop-index-init
 loop-index-init c = λ j low. absurd (omega (arith, low))
 
 pub loop-index-preserved : goal.loop-index-preserved
-loop-index-preserved c = same_rows_more c.args.self.now c.args.other.now c.loop-index.index c.loop-index.invariant (sym c.is_vertex_same.ensures ∙ c.if-not-is_vertex_same.false)
+loop-index-preserved c = same_more row_eq any_vertex c.args.self.now c.args.other.now c.loop-index.index c.loop-index.invariant (sym c.is_vertex_same.ensures ∙ c.if-not-is_vertex_same.false)
 
 pub returns-then-not-is_vertex_same : goal.returns-then-not-is_vertex_same
 returns-then-not-is_vertex_same c =
-    sym (rows_differ c.args.self.now c.args.other.now c.loop-index.index (omega arith) (omega arith) (sym c.is_vertex_same.ensures ∙ c.if-not-is_vertex_same.true))
+    sym (each_differs row_eq any_vertex c.args.self.now c.args.other.now c.loop-index.index (omega arith) (omega arith) (sym c.is_vertex_same.ensures ∙ c.if-not-is_vertex_same.true))
 
 pub returns : goal.returns
 returns c =
-    sym (rows_same c.args.self.now c.args.other.now (omega (arith, c.len.ensures, c.len-2.ensures, c.if-len.false))
+    sym (each_same row_eq any_vertex c.args.self.now c.args.other.now (omega (arith, c.len.ensures, c.len-2.ensures, c.if-len.false))
     (λ j low. c.loop-index.invariant j (omega (arith, low, c.loop-index-test.false, c.len-index-end.ensures))))

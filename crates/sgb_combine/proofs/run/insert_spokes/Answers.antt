@@ -1,0 +1,33 @@
+use Rattle.std.proofs.Common.{◌∷◌, [], arith}
+use Rattle.std.proofs.lemmas.List.{get_or_default}
+use Rattle.std.proofs.lemmas.Result.{err_from_is_err_and}
+use Rattle.sgb_graph.specs.Builder.{along}
+use Rattle.sgb_graph.proofs.Inserting.{of_start_map, of_some, of_refused, of_end, of_n}
+use Rattle.sgb_combine.proofs.Reached.{spoke_in, no_spoke}
+use Rattle.sgb_combine.proofs.run.insert_spokes.Goals as goal
+
+pub loop-spoke-init : goal.loop-spoke-init
+loop-spoke-init c = of_start_map c.args.builder.now (along c.args.from.0) c.args.spokes.now
+
+pub insert_spoke-requires-clause-from : goal.insert_spoke-requires-clause-from
+insert_spoke-requires-clause-from c = let low = c.requires.from in omega (arith, of_n c.loop-spoke.invariant)
+
+pub insert_spoke-requires-clause-to : goal.insert_spoke-requires-clause-to
+insert_spoke-requires-clause-to c =
+    omega (arith, of_n c.loop-spoke.invariant, c.requires.to c.loop-spoke.spoke-index no_spoke (omega arith))
+
+pub returns-in_err-insert_spoke : goal.returns-in_err-insert_spoke
+returns-in_err-insert_spoke c =
+    let p = err_from_is_err_and c.from_residual.result c.from_residual.ensures.1 in
+    let i = c.loop-spoke.spoke-index in
+    let ss = c.args.spokes.now in
+    rw (p.1, p.2) (of_refused (omega arith) (get_or_default ss i no_spoke (spoke_in ss i) (omega arith)) c.loop-spoke.invariant c.in_err-insert_spoke.ensures)
+
+pub loop-spoke-preserved : goal.loop-spoke-preserved
+loop-spoke-preserved c =
+    let i = c.loop-spoke.spoke-index in
+    let ss = c.args.spokes.now in
+    of_some (omega arith) (get_or_default ss i no_spoke (spoke_in ss i) (omega arith)) c.loop-spoke.invariant c.in_ok-insert_spoke.ensures
+
+pub returns : goal.returns
+returns c = of_end (omega arith) c.loop-spoke.invariant

@@ -1,0 +1,5 @@
+use Rattle.sgb_graph.proofs.Reverting.{reverted_is}
+use Rattle.sgb_graph.proofs.facts.revert_law.Goals as goal
+
+pub returns : goal.returns
+returns c = record { met = reverted_is }

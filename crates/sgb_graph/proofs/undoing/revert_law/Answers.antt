@@ -1,5 +1,0 @@
-use Rattle.sgb_graph.proofs.Reverting.{reverted_is}
-use Rattle.sgb_graph.proofs.undoing.revert_law.Goals as goal
-
-pub returns : goal.returns
-returns c = record { met = reverted_is }

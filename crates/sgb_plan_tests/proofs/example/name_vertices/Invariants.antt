@@ -1,8 +1,0 @@
-use Rattle.std.proofs.Common.{map}
-use Rattle.std.specs.List.{range_with_len}
-use Rattle.sgb_plan.proofs.Planning.{NamesFrom}
-use Rattle.sgb_plan_tests.specs.Path.{path_vertex}
-use Rattle.sgb_plan_tests.proofs.example.name_vertices.Given as goal
-
-abbrev pub invariant-loop-v : goal.invariant-loop-v
-invariant-loop-v l = NamesFrom l.initial.builder (map path_vertex (range_with_len 0 l.n)) l.builder path_vertex l.v l.n
