@@ -11,7 +11,7 @@ BENCH ?= /tmp/sgb_bench
 # What they compare with in plain Rust.
 PLAIN = plain_graph plain_make plain_combine plain_text plain_lines
 
-.PHONY: all demo test quick edits examples growths program bench bench_flip bench_graph bench_make bench_lines \
+.PHONY: all demo test quick mutants mutants-check examples growths program bench bench_flip bench_graph bench_make bench_lines \
 	bench_instructions install clean FORCE
 
 all: bin/sgb
@@ -24,7 +24,7 @@ bin/sgb: FORCE
 demo:
 	@sh examples/demo.sh
 
-# The merge gate: every proof from nothing, every test, every edit that must be refused; then the proved program
+# The merge gate: every proof from nothing, every test, the mutants of the gate; then the proved program
 # on the examples, with each of its allocations failed, and in its own tests.
 test:
 	@python3 tests/gate.py test
@@ -33,15 +33,13 @@ test:
 quick:
 	@python3 tests/gate.py quick
 
-# Tries all edits of the crates, those of crates/*/more_edits too, or of the one crate CRATE, telling what refused each.
-edits:
-	@python3 tests/edits.py $(if $(CRATE),-v $(CRATE))
+# Tries all mutants of the crates, those of crates/*/mutants/full too, or of the one crate CRATE, telling what refused each.
+mutants:
+	@python3 tests/mutants.py $(if $(CRATE),-v $(CRATE))
 
-.PHONY: twins
-
-# Tries the twins of those edits with their right bodies, which must be let pass. No part of the gate.
-twins:
-	@python3 tests/twins.py $(CRATE)
+# Tries the copies of functions on which mutants are laid with the bodies of these functions, which must pass. No part of the gate.
+mutants-check:
+	@python3 tests/mutants.py --unchanged $(CRATE)
 
 # Compares the transcripts of each example and of each script of tests/corpus, and those of the descriptions; and the programs
 # that docs/library.md shows with those that are proved.
@@ -96,12 +94,20 @@ bench: bench_combine bench_text
 .PHONY: bench_combine bench_text
 
 bench_combine: $(BENCH)/plain_combine
-	sh bench/build.sh combine "sgb_flip sgb_graph sgb_plan sgb_operand sgb_induced sgb_combine" $(BENCH)
+	sh bench/build.sh combine "sgb_flip sgb_graph sgb_plan sgb_induced sgb_combine" $(BENCH)
 	python3 bench/compare.py --same --turns 20 $(BENCH)/combine/crates/combine_bench/out/combine_bench $(BENCH)/plain_combine
 
 bench_text: $(BENCH)/plain_text
 	sh bench/build.sh text "sgb_graph sgb_grammar sgb_text" $(BENCH)
 	python3 bench/compare.py --same --turns 20 $(BENCH)/text/crates/text_bench/out/text_bench $(BENCH)/plain_text
+
+bench: bench_others
+
+.PHONY: bench_others
+
+# What users would take instead, where it is installed: igraph and networkx, beside lines of scripts of the same sizes.
+bench_others: bin/sgb
+	python3 bench/others.py bin/sgb
 
 bench_flip: $(BENCH)/plain_flip
 	sh bench/build.sh flip sgb_flip $(BENCH)
@@ -109,7 +115,7 @@ bench_flip: $(BENCH)/plain_flip
 
 bench_graph: $(BENCH)/plain_graph
 	sh bench/build.sh graph sgb_graph $(BENCH)
-	python3 bench/compare.py --turns 40 $(BENCH)/graph/crates/graph_bench/out/graph_bench $(BENCH)/plain_graph
+	python3 bench/compare.py --turns 20 $(BENCH)/graph/crates/graph_bench/out/graph_bench $(BENCH)/plain_graph
 
 bench_make: $(BENCH)/plain_make
 	sh bench/build.sh make "sgb_flip sgb_graph sgb_plan sgb_simplex sgb_perms sgb_binary sgb_random sgb_make" $(BENCH)
@@ -123,6 +129,28 @@ $(BENCH)/plain_flip: bench/plain_flip.c
 $(PLAIN:%=$(BENCH)/%): $(BENCH)/%: bench/%.rs $(wildcard bench/plain/*.rs)
 	mkdir -p $(BENCH)
 	rustc -O --edition 2021 -C target-cpu=x86-64-v2 -o $@ $<
+
+.PHONY: kept test-original bench_original
+
+# Reads the texts of tests/original, which Knuth's own library saved.
+kept: bin/sgb
+	sh tests/kept.sh bin/sgb
+
+# The program that is compared with Knuth's own library. It is proved first unless another is named.
+PROGRAM ?= bin/sgb
+
+# Fetches Debian's package `sgb` into tests/out/original, and compares the program with it: calls at random, and saved texts both ways. No
+# part of the gate.
+test-original: $(PROGRAM)
+	python3 tests/original.py $(PROGRAM)
+
+# Times whole scripts on the program and on Knuth's own library, which `make test-original` fetches.
+bench_original: $(PROGRAM)
+	python3 bench/original.py $(PROGRAM)
+
+ifneq ($(wildcard tests/out/original/original),)
+bench: bench_original
+endif
 
 .PHONY: test-tools pictures
 

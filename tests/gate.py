@@ -3,9 +3,10 @@
 
     gate.py prove   proves the program's crates, over what earlier runs kept, and leaves the program as bin/sgb
     gate.py library proves the crate in this folder alone, for `prove`
-    gate.py quick   checks and tests the crates that changed, and those above them, over the same work; no edits
-    gate.py test    the merge gate: all proofs and tests from nothing, the edits, and the proved program at work
+    gate.py quick   checks and tests the crates that changed, and those above them, over the same work; no mutants
+    gate.py test    the merge gate: all proofs and tests from nothing, the mutants, and the proved program at work
 """
+import contextlib
 import os
 import re
 import resource
@@ -15,12 +16,15 @@ import sys
 import tempfile
 import threading
 import time
+from collections import Counter
 from concurrent.futures import FIRST_COMPLETED, ThreadPoolExecutor, wait
 
-from edits import MEMORY, rt, rtlib
+from mutants import MEMORY, rt, rtlib
 
 PROGRAM = 'bin/sgb'
 REFUSING, FAILING = 'tests/out/refuse_growth.so', 'tests/out/fail_io.so'
+# What the gate spends processor time on.
+PROOFS, TESTS, MUTANTS = 'proofs', 'tests', 'mutants'
 # What stands before a command that takes only the processors that others leave.
 GENTLY = ['nice', '-n', '19']
 # How many lines of a part, and of those that explain a failure, are printed.
@@ -53,6 +57,32 @@ def kept_back():
     return int(words[8]) / os.sysconf('SC_CLK_TCK') if len(words) > 8 else 0
 
 
+def work_of(process):
+    """What a process of `rt ci` does."""
+    with open('/proc/%d/cmdline' % process, encoding='utf-8', errors='replace') as words:
+        if '_tests' in words.read():
+            return TESTS
+    return MUTANTS if '/rt-edit-' in os.readlink('/proc/%d/cwd' % process) else PROOFS
+
+
+def watch(top, seen):
+    """Keeps what each process below another one does, with its seconds of processor, as they are every other second until that ends."""
+    while os.path.isdir('/proc/%d' % top):
+        found = {}
+        for it in map(int, filter(str.isdigit, os.listdir('/proc'))):
+            # (a process may end while it is read)
+            with contextlib.suppress(OSError), open('/proc/%d/stat' % it, encoding='utf-8', errors='replace') as told:
+                words = told.read().rpartition(')')[2].split()
+                found[it] = int(words[1]), (int(words[11]) + int(words[12])) / os.sysconf('SC_CLK_TCK')
+        for it, (parent, used) in found.items():
+            while parent in found and parent != top:
+                parent = found[parent][0]
+            with contextlib.suppress(OSError):
+                if parent == top:
+                    seen[it] = work_of(it), used
+        time.sleep(2)
+
+
 class Log:
     """What all commands of a run say, in a file."""
 
@@ -63,12 +93,14 @@ class Log:
         self.start, self.kept_back, self.writing = time.time(), kept_back(), threading.Lock()
         print('what the prover says goes to %s' % self.path, flush=True)
 
-    def call(self, words, folder='.', tell=None, given=subprocess.DEVNULL):
+    def call(self, words, folder='.', tell=None, given=subprocess.DEVNULL, seen=None):
         """Runs a command on what is given, and returns its status, its lines and its seconds of processor; `tell` gets
-        each line as it comes."""
+        each line as it comes, and `seen` the processes below it."""
         lines = []
         with subprocess.Popen(words, cwd=folder, stdin=given, stdout=subprocess.PIPE,
                               stderr=subprocess.STDOUT, encoding='utf-8', errors='replace') as ran:
+            if seen is not None:
+                threading.Thread(target=watch, args=[ran.pid, seen], daemon=True).start()
             for line in ran.stdout:
                 lines.append(line.rstrip('\n'))
                 with self.writing:
@@ -202,9 +234,11 @@ class Gate:
 
     def __init__(self):
         self.log, self.passed, self.failed, self.telling = Log('test'), 0, 0, threading.Lock()
+        # The seconds of processor by what they are spent on, and what the mutants were refused by.
+        self.spent, self.refused = Counter(), 'mutants: none was tried'
 
     def tell(self, line):
-        """Prints what `rt ci` says of its way, and hands the crates that it proved on to those who try their edits."""
+        """Prints what `rt ci` says of its way, and names the crates that it proved to the part that tries their mutants."""
         if PROGRESS.match(line):
             self.say(line[len('rt: '):])
         proved = PROVED.match(line)
@@ -214,29 +248,36 @@ class Gate:
                 shutil.copytree(library, '%s/%s' % (self.copy, library))
             self.names.write(proved[1] + '\n')
 
-    def tell_edits(self, line):
-        """Prints what is said of edits, but for each that was refused as it must be, which the log alone tells."""
-        if ': refused, as it must be: ' not in line and not counted([line]):
+    def tell_mutants(self, line):
+        """Prints what is said of mutants, but for each that was refused, which the log alone tells."""
+        if line.startswith('mutants: ') and not counted([line]):
+            self.refused = line
+        elif ': refused by ' not in line and not counted([line]):
             self.say(line)
 
     def say(self, line):
         with self.telling:
             print('%6s  %s' % (clock(time.time() - self.log.start), line[:160]), flush=True)
 
-    def part(self, name, words, tell=None, folder='.', given=subprocess.DEVNULL):
+    def part(self, name, words, tell=None, folder='.', given=subprocess.DEVNULL, work=TESTS):
         """Runs a part, whose last line counts what passed and failed. Its first lines are printed, or those that `tell` picks."""
-        start, told = time.time(), []
+        start, told, seen = time.time(), [], {}
 
         def say(line):
             told.append(line)
             if len(told) <= SHOWN and not counted([line]):
                 self.say(line)
 
-        status, lines, used = self.log.call(words, folder, tell or say, given)
+        status, lines, used = self.log.call(words, folder, tell or say, given, seen if work == PROOFS else None)
         passed, failed = counted(lines) or (0, 1)
         failed += status != 0 and failed == 0
         with self.telling:
             self.passed, self.failed = self.passed + passed, self.failed + failed
+            others = Counter()
+            for it, spent in [*seen.values()]:
+                others[it] += spent * (it != work)
+            self.spent.update(others)
+            self.spent[work] += used - sum(others.values())
         if tell and failed:
             self.log.explain(lines)
         elif len(told) > SHOWN:
@@ -246,30 +287,33 @@ class Gate:
         self.say('%s: %d passed, %d failed, in %s, %s of processor' % (name, passed, failed, clock(time.time() - start), clock(used)))
 
     def run(self):
-        """Runs all parts. The edits are tried beside the others, in a copy, by the processors that the others leave."""
+        """Runs all parts. The mutants are tried beside the others, in a copy, by the processors that the others leave."""
         with tempfile.TemporaryDirectory(prefix='sgb-beside-') as room, ThreadPoolExecutor(2) as pool:
             self.copy = '%s/repository' % room
             shutil.copytree('.', self.copy, symlinks=True, ignore=shutil.ignore_patterns('.git', 'out', 'bin'))
             proved, told = os.pipe()
             with os.fdopen(told, 'w', buffering=1) as self.names:
-                beside = [pool.submit(self.beside, 'edits', ['tests/edits.py', '-v', '--as-proved'], proved, self.tell_edits),
-                          pool.submit(self.beside, 'the tests of tests/edits.py', ['tests/test_edits.py'])]
+                beside = [pool.submit(self.beside, 'mutants', ['tests/mutants.py', '-v', '--as-proved'], proved, self.tell_mutants),
+                          pool.submit(self.beside, 'the tests of tests/mutants.py', ['tests/test_mutants.py'])]
                 # Several jobs on one check take up to half as much processor again. Of two processors none is idle, so there a check has
                 # one job; of more it has those that no other check waits for, so that the last crates do not go one after another alone.
                 if rt.processors() <= 2:
                     os.environ.setdefault('RT_JOBS', str(max(1, min(rt.processors(), rt.free() // MEMORY))))
-                self.part('rt ci', ['rt', 'ci'], self.tell)
+                self.part('rt ci', ['rt', 'ci'], self.tell, work=PROOFS)
             self.run_program()
             for it in beside:
                 it.result()
         used, log = seconds(resource.getrusage(resource.RUSAGE_CHILDREN)), self.log
+        print(self.refused)
+        print('processor time: %s' % ', '.join('%s %.0f%%' % (it, 100 * self.spent[it] / max(1, sum(self.spent.values())))
+                                               for it in (PROOFS, TESTS, MUTANTS)))
         print('%.1f minutes of processor time, %.1f minutes by the clock, and %.1f of processor that the host gave to others'
               % (used / 60, (time.time() - log.start) / 60, (kept_back() - log.kept_back) / 60))
         print('%d passed, %d failed' % (self.passed, self.failed))
         return 1 if self.failed else 0
 
     def beside(self, name, words, given=subprocess.DEVNULL, tell=None):
-        self.part(name, [*GENTLY, sys.executable, *words], tell, self.copy, given)
+        self.part(name, [*GENTLY, sys.executable, *words], tell, self.copy, given, MUTANTS)
 
     def run_program(self):
         program = next(it for it in crates() if it.is_program)
@@ -291,6 +335,7 @@ class Gate:
         yield 'documents', [sys.executable, 'tests/documents.py', PROGRAM, 'README.md', 'docs/language.md', 'docs/combinations.md']
         yield 'shown', [sys.executable, 'tests/shown.py', 'docs/library.md', 'crates/sgb_library_tests']
         yield 'manual', [sys.executable, 'docs/manual.py', '--check', 'sgb.1']
+        yield 'kept', ['sh', 'tests/kept.sh', PROGRAM]
         yield 'growths', [sys.executable, 'tests/growths.py', PROGRAM, REFUSING]
         yield 'wants', [sys.executable, 'tests/wants.py', PROGRAM, REFUSING]
         yield 'ends', [sys.executable, 'tests/ends.py', PROGRAM, FAILING]
