@@ -1,8 +1,8 @@
 #!/bin/sh
 # Builds the benchmark NAME over CRATES, words of one argument, in a workspace of its own below PLACE, outside this
 # repository, so that neither the gate nor `rt` here meets the copy. For the same reason the benchmark's
-# source is no file of Rattle here, and becomes one there. One crate is proved anew; several are taken as they
-# were built here, where they were, and those that they stand on are among them.
+# source is no file of Rattle here, and becomes one there. The crates are taken as they were built here, where they
+# were, and those that they depend on are among them.
 set -eu
 name=$1
 crates=$2
@@ -12,9 +12,6 @@ mkdir -p "$place/crates/${name}_bench/src"
 for crate in $crates; do
     mkdir "$place/crates/$crate"
     (cd "crates/$crate" && tar cf - --exclude=./out/incremental .) | (cd "$place/crates/$crate" && tar xf -)
-    if [ "$crate" = "$crates" ]; then
-        rm -rf "$place/crates/$crate/out"
-    fi
     grep "^$crate:" crates.txt >> "$place/crates.txt"
 done
 cp "bench/$name.rt.in" "$place/crates/${name}_bench/src/main.rt"

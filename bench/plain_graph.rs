@@ -1,27 +1,21 @@
-// The same edits of a graph in plain Rust, over an arena with 24 bytes an arc, and how long each takes.
+// The same edits of a graph in plain Rust, and how long each takes.
+use std::mem::replace;
 use std::time::Instant;
 
 #[path = "plain/arena.rs"]
 mod arena;
+#[path = "plain/graph.rs"]
+mod graph;
 
-use arena::{Arc, Arena, Cut, Fields, NONE, ONE, Util};
+use arena::{Arc, Cut, Fields, NONE};
+use graph::{Graph, Refusal};
 
 const VERTICES: u32 = 65_535;
 const ARCS: u32 = 1_000_000;
 const CUTS: u32 = 200_000;
 const RECORDS: u32 = 600_000;
-
-#[derive(Default)]
-struct Vertex {
-    #[allow(dead_code)]
-    label: Box<[u8]>,
-    fields: Option<Box<[Util; 6]>>,
-}
-
-struct Graph {
-    vertices: Vec<Vertex>,
-    arena: Arena,
-}
+// Each is made several times in a row, so that it finds memory that was taken before.
+const ROUNDS: u32 = 5;
 
 struct ArcPart {
     tip: u32,
@@ -30,109 +24,47 @@ struct ArcPart {
     fields: Fields,
 }
 
-impl Graph {
-    fn new(n: u32) -> Graph {
-        let mut vertices = Vec::new();
-        vertices.resize_with(n as usize, Vertex::default);
-        Graph { vertices, arena: Arena::new(n) }
-    }
+fn blank(n: u32) -> Graph {
+    let mut graph = Graph::new(String::new(), n as usize);
+    graph.labels.resize_with(n as usize, Box::default);
+    graph.arena.firsts.resize(n as usize, NONE);
+    graph
+}
 
-    fn has_vertex(&self, v: u32) -> bool {
-        (v as usize) < self.vertices.len()
+fn insert(graph: &mut Graph, from: u32, to: u32, len: i64, directed: bool) -> Result<(), Refusal> {
+    if !graph.has_vertex(from) || !graph.has_vertex(to) {
+        return Err(Refusal::BadOperand);
     }
+    graph.insert(from, to, len, directed)
+}
 
-    fn new_arc(&mut self, from: u32, to: u32, len: i64) -> Result<u32, ()> {
-        if !self.has_vertex(from) || !self.has_vertex(to) {
-            return Err(());
+fn cut(graph: &mut Graph, number: u32) -> Result<Cut, Refusal> {
+    if !graph.arena.is_live(number) || graph.arena.arcs[number as usize].names > 0 {
+        return Err(Refusal::BadOperand);
+    }
+    Ok(graph.arena.cut(number))
+}
+
+// The graph of linked records: a record that no list reaches is a hole.
+fn build(labels: Vec<Box<[u8]>>, firsts: Vec<u32>, parts: Vec<ArcPart>) -> Result<Graph, Refusal> {
+    let mut graph = Graph::new(String::new(), 0);
+    graph.labels = labels;
+    graph.arena.firsts = firsts;
+    graph.arena.reserve(parts.len());
+    for (number, part) in parts.into_iter().enumerate() {
+        let ArcPart { tip, next, len, fields } = part;
+        graph.arena.arcs.push(Arc { owner: NONE, tip, next, names: 0, len });
+        if fields.is_some() {
+            *graph.arena.fields_mut(number as u32) = fields;
         }
-        self.arena.new_arc(from, to, len).map_err(|_| ())
     }
+    graph.link_lists()?;
+    Ok(graph)
+}
 
-    fn new_edge(&mut self, from: u32, to: u32, len: i64) -> Result<u32, ()> {
-        if !self.has_vertex(from) || !self.has_vertex(to) {
-            return Err(());
-        }
-        self.arena.new_edge(from, to, len).map_err(|_| ())
-    }
-
-    fn cut(&mut self, number: u32) -> Result<Cut, ()> {
-        if !self.arena.is_live(number) || self.arena.arcs[number as usize].names > 0 {
-            return Err(());
-        }
-        Ok(self.arena.cut(number))
-    }
-
-    // The graph of linked records: a record that no chain reaches is a hole.
-    fn build(vertices: Vec<Vertex>, firsts: Vec<u32>, parts: Vec<ArcPart>) -> Result<Graph, ()> {
-        let holes = parts.len() as u32;
-        let mut graph = Graph { vertices, arena: Arena { firsts, arcs: Vec::new(), fields: Vec::new(), holes } };
-        graph.arena.arcs.reserve_exact(parts.len());
-        for (number, part) in parts.into_iter().enumerate() {
-            let ArcPart { tip, next, len, fields } = part;
-            graph.arena.arcs.push(Arc { owner: NONE, tip, next, names: 0, len });
-            if fields.is_some() {
-                *graph.arena.fields_mut(number as u32) = fields;
-            }
-        }
-        graph.lay_chains()?;
-        graph.check_tips()?;
-        graph.count_names()?;
-        Ok(graph)
-    }
-
-    // Each arc of a chain has the chain's vertex as owner; chains do not meet or return.
-    fn lay_chains(&mut self) -> Result<(), ()> {
-        for (owner, first) in self.arena.firsts.iter().enumerate() {
-            let mut link = *first;
-            while link != NONE {
-                let arc = self.arena.arcs.get_mut(link as usize).ok_or(())?;
-                if arc.owner != NONE {
-                    return Err(());
-                }
-                arc.owner = owner as u32;
-                link = arc.next;
-                self.arena.holes -= 1;
-            }
-        }
-        Ok(())
-    }
-
-    fn check_tips(&mut self) -> Result<(), ()> {
-        let n = self.arena.n();
-        self.arena.clear_holes();
-        for arc in &self.arena.arcs {
-            if arc.owner != NONE && arc.tip >= n && arc.tip < ONE {
-                return Err(());
-            }
-        }
-        Ok(())
-    }
-
-    // Each field names what is there.
-    fn count_names(&mut self) -> Result<(), ()> {
-        let of_vertices = self.vertices.iter().flat_map(|vertex| vertex.fields.iter()).flat_map(|fields| fields.iter());
-        let of_arcs = self.arena.fields.iter().flatten().flat_map(|fields| fields.iter());
-        let mut named = Vec::new();
-        for value in of_vertices.chain(of_arcs) {
-            match value {
-                Util::Vertex(v) if !self.has_vertex(*v) => return Err(()),
-                Util::Arc(number) => named.push(*number),
-                _ => {}
-            }
-        }
-        for number in named {
-            if !self.arena.is_live(number) {
-                return Err(());
-            }
-            self.arena.arcs[number as usize].names += 1;
-        }
-        Ok(())
-    }
-
-    fn walk(&self) -> u64 {
-        let lists = (0..self.arena.n()).flat_map(|v| self.arena.walk(v));
-        lists.fold(0, |sum: u64, (number, _)| sum.wrapping_add(u64::from(number)))
-    }
+fn walk(graph: &Graph) -> u64 {
+    let lists = (0..graph.n()).flat_map(|v| graph.arena.walk(v));
+    lists.fold(0, |sum: u64, (number, _)| sum.wrapping_add(u64::from(number)))
 }
 
 fn tell(name: &str, start: Instant, count: u32, check: u64) {
@@ -143,72 +75,54 @@ fn ends(i: u32) -> (u32, u32) {
     (i.wrapping_mul(7919) % VERTICES, i.wrapping_mul(31) % VERTICES)
 }
 
-fn parts() -> (Vec<Vertex>, Vec<u32>, Vec<ArcPart>) {
-    let mut vertices = Vec::new();
-    vertices.resize_with(VERTICES as usize, Vertex::default);
-    let mut firsts = vec![NONE; VERTICES as usize];
-    let mut arcs = Vec::new();
-    for i in 0..RECORDS {
+fn time_inserts(name: &str, count: u32, directed: bool) -> Graph {
+    let mut graph = blank(VERTICES);
+    let start = Instant::now();
+    for i in 0..count {
         let (from, to) = ends(i);
-        let next = std::mem::replace(&mut firsts[from as usize], i);
-        arcs.push(ArcPart { tip: to, next, len: 1, fields: None });
+        let _ = insert(&mut graph, from, to, 1, directed);
     }
-    (vertices, firsts, arcs)
+    tell(name, start, count, u64::from(graph.arena.live()));
+    graph
 }
 
-// Each is made several times in a row, so that it finds memory that was taken before.
-const ROUNDS: u32 = 5;
+fn time_arcs() {
+    let mut graph = time_inserts("new_arc", ARCS, true);
+    let start = Instant::now();
+    let sum = walk(&graph);
+    tell("walk", start, ARCS, sum);
+    let start = Instant::now();
+    for i in 0..CUTS {
+        let number = i.wrapping_mul(4001) % ARCS;
+        if let Ok(place) = cut(&mut graph, number) {
+            graph.arena.revert(number, &place);
+        }
+    }
+    tell("cut_and_revert", start, CUTS, u64::from(graph.arena.live()));
+}
+
+fn time_build() {
+    let Graph { labels, arena, .. } = blank(VERTICES);
+    let mut firsts = arena.firsts;
+    let mut parts = Vec::new();
+    for i in 0..RECORDS {
+        let (from, to) = ends(i);
+        let next = replace(&mut firsts[from as usize], i);
+        parts.push(ArcPart { tip: to, next, len: 1, fields: None });
+    }
+    let start = Instant::now();
+    let built = build(labels, firsts, parts);
+    tell("build", start, RECORDS, built.map_or(0, |graph| u64::from(graph.arena.live())));
+}
 
 fn main() {
     for _ in 0..ROUNDS {
         time_arcs();
     }
     for _ in 0..ROUNDS {
-        time_edges();
+        time_inserts("new_edge", ARCS / 2, false);
     }
     for _ in 0..ROUNDS {
         time_build();
     }
-}
-
-fn time_arcs() {
-    let mut graph = Graph::new(VERTICES);
-    let start = Instant::now();
-    for i in 0..ARCS {
-        let (from, to) = ends(i);
-        let _ = graph.new_arc(from, to, 1);
-    }
-    tell("new_arc", start, ARCS, u64::from(graph.arena.live()));
-    let start = Instant::now();
-    let sum = graph.walk();
-    tell("walk", start, ARCS, sum);
-    let start = Instant::now();
-    for i in 0..CUTS {
-        let number = i.wrapping_mul(4001) % ARCS;
-        if let Ok(cut) = graph.cut(number) {
-            graph.arena.revert(number, &cut);
-        }
-    }
-    tell("cut_and_revert", start, CUTS, u64::from(graph.arena.live()));
-    let lens: i64 = graph.arena.arcs.iter().map(|arc| arc.len).sum();
-    assert!(lens > 0);
-}
-
-fn time_edges() {
-    let mut graph = Graph::new(VERTICES);
-    let start = Instant::now();
-    for i in 0..ARCS / 2 {
-        let (from, to) = ends(i);
-        let _ = graph.new_edge(from, to, 1);
-    }
-    tell("new_edge", start, ARCS / 2, u64::from(graph.arena.live()));
-    let tips: u64 = graph.arena.arcs.iter().map(|arc| u64::from(arc.tip)).sum();
-    assert!(tips > 0);
-}
-
-fn time_build() {
-    let (vertices, firsts, arcs) = parts();
-    let start = Instant::now();
-    let built = Graph::build(vertices, firsts, arcs);
-    tell("build", start, RECORDS, built.map_or(0, |graph| u64::from(graph.arena.live())));
 }

@@ -1,9 +1,8 @@
 // The arcs of a graph in an arena of 24 bytes an arc, for the plain programs beside this directory: fields, which few
-// arcs have, stand apart.
+// arcs have, are stored separately.
 #![allow(dead_code)]
 
 use std::mem::replace;
-use std::ops::Range;
 
 pub const MOST_VERTICES: usize = 65_535;
 pub const MOST_ARCS: usize = 1_000_000;
@@ -95,7 +94,7 @@ impl Arena {
         replace(&mut self.firsts[owner as usize], number)
     }
 
-    #[inline(always)]
+    #[inline]
     pub fn new_arc(&mut self, from: u32, to: u32, len: i64) -> Result<u32, TooLarge> {
         self.make_room(1)?;
         let number = self.arcs.len() as u32;
@@ -105,7 +104,7 @@ impl Arena {
     }
 
     // The arc from the larger end is linked first, so that of a loop the first arc stands before the second.
-    #[inline(always)]
+    #[inline]
     pub fn new_edge(&mut self, from: u32, to: u32, len: i64) -> Result<u32, TooLarge> {
         self.make_room(2)?;
         let number = self.arcs.len() as u32;
@@ -119,40 +118,9 @@ impl Arena {
         Ok(number)
     }
 
-    #[inline(always)]
+    #[inline]
     pub fn insert(&mut self, from: u32, to: u32, len: i64, directed: bool) -> Result<u32, TooLarge> {
         if directed { self.new_arc(from, to, len) } else { self.new_edge(from, to, len) }
-    }
-
-    // An arc to each of a run of vertices, in order.
-    pub fn new_arcs(&mut self, from: u32, tips: Range<u32>, len: i64) -> Result<(), TooLarge> {
-        if tips.is_empty() {
-            return Ok(());
-        }
-        self.make_room(tips.len())?;
-        let mut number = self.arcs.len() as u32;
-        let mut next = self.link(from, number + tips.len() as u32 - 1);
-        self.arcs.extend(tips.map(|tip| {
-            let arc = Arc { owner: from, tip, next, names: 0, len };
-            next = number;
-            number += 1;
-            arc
-        }));
-        Ok(())
-    }
-
-    // An edge to each of a run of vertices, in order.
-    pub fn new_edges(&mut self, from: u32, tips: Range<u32>, len: i64) -> Result<(), TooLarge> {
-        self.make_room(2 * tips.len())?;
-        for to in tips {
-            self.new_edge(from, to, len)?;
-        }
-        Ok(())
-    }
-
-    #[inline]
-    pub fn insert_run(&mut self, from: u32, tips: Range<u32>, len: i64, directed: bool) -> Result<(), TooLarge> {
-        if directed { self.new_arcs(from, tips, len) } else { self.new_edges(from, tips, len) }
     }
 
     // Takes the last arcs back, each of which is first in its list once those before it are gone.

@@ -28,7 +28,7 @@ impl Flip {
             bits = (bits >> 1) | ((bits & 1) << 30);
             now = less(now, bits);
             before = flip.words[i - 1];
-            i = if i < 34 { i + 21 } else { i - 34 };
+            i = (i + 21) % 55;
         }
         for _ in 0..5 {
             flip.cycle();
@@ -85,7 +85,7 @@ impl Flip {
         loop {
             let number = self.next();
             if number < below.end {
-                return (below.reduce(number), draws);
+                return (number % below.bound, draws);
             }
             draws += 1;
         }
@@ -101,20 +101,10 @@ impl Flip {
 pub struct Below {
     pub bound: u32,
     pub end: u32,
-    // 2^64 by the bound, rounded up.
-    inverse: u64,
 }
 
 impl Below {
     pub fn new(bound: u32) -> Below {
-        let inverse = (u64::MAX / u64::from(bound)).wrapping_add(1);
-        Below { bound, end: 0x8000_0000 - 0x8000_0000 % bound, inverse }
-    }
-
-    // A number modulo the bound, by the fraction that a division would leave: two multiplications take less time.
-    #[inline]
-    fn reduce(self, number: u32) -> u32 {
-        let fraction = self.inverse.wrapping_mul(u64::from(number));
-        (u128::from(fraction) * u128::from(self.bound) >> 64) as u32
+        Below { bound, end: 0x8000_0000 - 0x8000_0000 % bound }
     }
 }
