@@ -24,7 +24,7 @@ bin/sgb: FORCE
 demo:
 	@sh examples/demo.sh
 
-# The merge gate: every proof from nothing, every test, the mutants of the gate; then the proved program
+# The merge gate: every proof, every test, the mutants of the gate; then the proved program
 # on the examples, with each of its allocations failed, and in its own tests.
 test:
 	@python3 tests/gate.py test
@@ -33,7 +33,7 @@ test:
 quick:
 	@python3 tests/gate.py quick
 
-# Tries all mutants of the crates, those of crates/*/mutants/full too, or of the one crate CRATE, telling what refused each.
+# Tries the mutants of the crates, those of crates/*/mutants/full too, or of the one crate CRATE, telling what refused each.
 mutants:
 	@python3 tests/mutants.py $(if $(CRATE),-v $(CRATE))
 

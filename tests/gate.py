@@ -4,7 +4,7 @@
     gate.py prove   proves the program's crates, over what earlier runs kept, and leaves the program as bin/sgb
     gate.py library proves the crate in this folder alone, for `prove`
     gate.py quick   checks and tests the crates that changed, and those above them, over the same work; no mutants
-    gate.py test    the merge gate: all proofs and tests from nothing, the mutants, and the proved program at work
+    gate.py test    the merge gate: all proofs and tests, the mutants, and the proved program at work
 """
 import contextlib
 import os
