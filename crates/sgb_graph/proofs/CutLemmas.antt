@@ -6,11 +6,11 @@ use Rattle.sgb_graph.specs.declared.graph.arena.Slot.{Slot}
 use Rattle.sgb_graph.specs.declared.graph.Graph.TheInside.{Inside}
 use Rattle.sgb_graph.specs.declared.delta.CutArc.{CutArc}
 use Rattle.sgb_graph.specs.Graph.{GraphOf, IsGraph, n_of, made_of, m_of, has_arc, names_of, arcs_of, occurrences, has_vertex, names_in}
-use Rattle.sgb_graph.specs.Edit.{without_arc, without_listed, with_cut_arc, with_listed, refusal_of_cut, refusal_unless, refusal_of_edge, with_edge, refusal_of_arc, with_arc, with_entry_last}
+use Rattle.sgb_graph.specs.Edit.{without_arc, without_listed, with_cut_arc, with_listed, refusal_of_cut, refusal_unless, with_edge, with_arc, with_entry_last}
 use Rattle.sgb_graph.specs.Delta.{cut_arc, LeftByArc, LeftByEdge, LeftByCut}
 use Rattle.sgb_graph.specs.Private.Arena.{Slots, Shows, IsArena, graph_of, slot_at, entry_of, owner_in, next_of, next_at, names_counted}
 use Rattle.sgb_graph.specs.Field.{arc_no}
-use Rattle.sgb_graph.specs.Private.Link.{CanTakeOut, CanBeTakenOut, TakesOut, CanPutBack, CanBePutBack, PutsBack, TakesOutBoth, CanBothBeTakenOut}
+use Rattle.sgb_graph.specs.Private.Link.{CanTakeOut, CanBeTakenOut, TakesOut, CanPutBack, PutsBack}
 use Rattle.sgb_graph.proofs.Shows.{Opened, closed, closed_arena}
 use Rattle.std.proofs.lemmas.Bool.{and_parts, ltb-true, leb-true, eqb-true, cases_Bool, cases_order}
 use Rattle.std.proofs.lemmas.List.{get_or_past, get_or-take, length-take-le, take-take}
@@ -22,7 +22,7 @@ use Rattle.sgb_graph.proofs.ShowsPut.{put_sound, put_entry_same, put_names}
 use Rattle.sgb_graph.specs.Private.Insert.{new_cut}
 use Rattle.sgb_graph.proofs.Sound.{hole_unnamed}
 use Rattle.sgb_graph.proofs.Laws.{cut_can, with_cut_arc-without_arc, without_arc-with_cut_arc}
-use Rattle.sgb_graph.proofs.Joining.{SameOwn, put_after, one_less}
+use Rattle.sgb_graph.proofs.NewArcs.{SameOwn, put_after, one_less}
 use Rattle.sgb_graph.proofs.TakeOut.{found_live, take_sound, take_m, take_made}
 
 -- what `cut` knows before it takes the arc out
@@ -116,11 +116,6 @@ take_hole vs ts g x =
     }
 
 -- undoing a cut
-pub record RevertCan (a : Inside) (h : GraphOf) (vs : List Vertex) (ss : Slots) : Type 0 where
-  pub opened : Opened a h
-  pub vertices : vs ≡ a.vertices
-  pub slots : ss ≡ a.slots
-
 pub cut_taken : (g h : GraphOf) (c : CutArc) → LeftByCut g c h → CanTakeOut g c.number.0
 cut_taken g h c left =
     elim (cases_Bool (has_arc g c.number.0 && (names_of g c.number.0 == 0))) [
@@ -135,33 +130,28 @@ revert_cut_can g h c left =
     subst (λ k. CanPutBack k c) (sym left.left)
     (subst (CanPutBack (without_arc g c.number.0)) (sym left.arc) (cut_can g c.number.0 left.graph can f))
 
-pub revert_cut_requires : (a : Inside) (h : GraphOf) (c : CutArc) (vs : List Vertex) (ss : Slots) (g : GraphOf) → RevertCan a h vs ss → LeftByCut g c h → CanBePutBack vs ss c
-revert_cut_requires a h c vs ss g x left =
-    record { graph = h; sound = x.opened.graph; shows = rw (x.vertices, x.slots) x.opened.shows; can = revert_cut_can g h c left }
-
-pub revert_cut_after : (a b : Inside) (h : GraphOf) (c : CutArc) (vs ws : List Vertex) (ss ts : Slots) (g : GraphOf) → RevertCan a h vs ss → LeftByCut g c h
-    → PutsBack vs ss c ws ts → b.vertices ≡ ws → b.slots ≡ ts → b.holes ≡ a.holes - 1 → SameOwn a b → Opened b g
-revert_cut_after a b h c vs ws ss ts g x left puts vertices slots holes own =
-    let o = x.opened in
+pub revert_cut_after : (a b : Inside) (h : GraphOf) (c : CutArc) (g : GraphOf) → Opened a h → LeftByCut g c h
+    → PutsBack a.vertices a.slots c b.vertices b.slots → b.holes ≡ a.holes - 1 → SameOwn a b → Opened b g
+revert_cut_after a b h c g o left puts holes own =
     let can = cut_taken g h c left in
     let f = found_live g c.number.0 left.graph can.live in
     let back : with_cut_arc h c ≡ g =
     ap (λ k. with_cut_arc k c) left.left ∙ (ap (with_cut_arc (without_arc g c.number.0)) left.arc ∙ with_cut_arc-without_arc g c.number.0 f) in
-    let shows : Shows b.vertices b.slots (with_cut_arc h c) = rw (vertices, slots) (puts h (rw (x.vertices, x.slots) o.shows) o.graph (revert_cut_can g h c left)) in
+    let shows = puts h o.shows o.graph (revert_cut_can g h c left) in
     subst (Opened b) back
     (put_after b h c o.graph (revert_cut_can g h c left) shows (one_less a b h c o (revert_cut_can g h c left) holes) (own.id ∙ o.id) (own.types ∙ o.types) (own.fields ∙ o.fields))
 
 -- undoing a new arc
-pub arc_refused : (g : GraphOf) (u v : ℕ) → refusal_of_arc g u v ≡ None → (u < n_of g) × (v < n_of g) × (made_of g + 1 ≤ 1000000)
-arc_refused g u v none =
+join_refused : (g : GraphOf) (u v made : ℕ) → refusal_unless (has_vertex g u && has_vertex g v) BadOperand (refusal_unless (nat_le made 1000000) TooLarge None) ≡ None → (u < n_of g) × (v < n_of g) × (made ≤ 1000000)
+join_refused g u v made none =
     elim (cases_Bool (has_vertex g u && has_vertex g v)) [
       | inl both ↦
           let p = and_parts (has_vertex g u) (has_vertex g v) both in
-          elim (cases_Bool (nat_le (made_of g + 1) 1000000)) [
-            | inl few ↦ (ltb-true u (n_of g) p.0, ltb-true v (n_of g) p.1, leb-true (made_of g + 1) 1000000 few)
+          elim (cases_Bool (nat_le made 1000000)) [
+            | inl few ↦ (ltb-true u (n_of g) p.0, ltb-true v (n_of g) p.1, leb-true made 1000000 few)
             | inr many ↦ absurd (let bad = ap (λ b. refusal_unless (has_vertex g u && has_vertex g v) BadOperand (refusal_unless b TooLarge None)) many in let same = ap (λ b. refusal_unless b BadOperand (refusal_unless false TooLarge None)) both in cc)
           ]
-      | inr not_both ↦ absurd (let bad = ap (λ b. refusal_unless b BadOperand (refusal_unless (nat_le (made_of g + 1) 1000000) TooLarge None)) not_both in cc)
+      | inr not_both ↦ absurd (let bad = ap (λ b. refusal_unless b BadOperand (refusal_unless (nat_le made 1000000) TooLarge None)) not_both in cc)
     ]
 
 pub record NewArcLeft (g : GraphOf) (k : ArcNo) (h : GraphOf) (c : CutArc) : Type 0 where
@@ -173,7 +163,7 @@ pub record NewArcLeft (g : GraphOf) (k : ArcNo) (h : GraphOf) (c : CutArc) : Typ
 
 pub new_arc_left : (g h : GraphOf) (k : ArcNo) (l : LeftByArc g k h) → NewArcLeft g k h (new_cut (arc_no (made_of g)) (record { 0 = l.from }) (record { 0 = l.to }) l.len)
 new_arc_left g h k l =
-    let p = arc_refused g l.from l.to l.accepted in
+    let p = join_refused g l.from l.to (made_of g + 1) l.accepted in
     record {
       hole = hole_sound g l.graph (omega (arith, p.2));
       can = new_can g l.from l.to l.len l.graph p.0 p.1 l.fits;
@@ -203,27 +193,23 @@ revert_arc_law g h k l =
     let x = new_arc_left g h k l in
     ap (λ z. without_arc h z.0) (sym x.number) ∙ (ap (λ z. without_arc z c.number.0) x.left ∙ without_arc-with_cut_arc (with_hole g) c x.hole x.can)
 
-pub revert_requires : (a : Inside) (h : GraphOf) (k : ℕ) (vs : List Vertex) (ss : Slots) → RevertCan a h vs ss → CanTakeOut h k → CanBeTakenOut vs ss k
-revert_requires a h k vs ss x can = record { graph = h; sound = x.opened.graph; shows = rw (x.vertices, x.slots) x.opened.shows; can = can }
-
 -- a new arc leaves id, types and own fields as they were
 pub same_own : (g h : GraphOf) (k : ArcNo) → LeftByArc g k h → (h.id ≡ g.id) × (h.types ≡ g.types) × (h.fields ≡ g.fields)
 unfolding with_arc with_listed with_entry_last
 same_own g h k l = (ap (λ z. z.id) l.left, ap (λ z. z.types) l.left, ap (λ z. z.fields) l.left)
 
-pub revert_arc_after : (a b : Inside) (h : GraphOf) (k : ArcNo) (c : CutArc) (vs ws : List Vertex) (ss ts : Slots) (g : GraphOf) → RevertCan a h vs ss → LeftByArc g k h
-    → TakesOut vs ss k.0 c ws ts → b.vertices ≡ ws → b.slots ≡ take k.0 ts → b.holes ≡ a.holes → SameOwn a b → Opened b g
-revert_arc_after a b h k c vs ws ss ts g x l takes vertices slots holes own =
-    let o = x.opened in
+pub revert_arc_after : (a b : Inside) (h : GraphOf) (k : ArcNo) (c : CutArc) (ts : Slots) (g : GraphOf) → Opened a h → LeftByArc g k h
+    → TakesOut a.vertices a.slots k.0 c b.vertices ts → b.slots ≡ take k.0 ts → b.holes ≡ a.holes → SameOwn a b → Opened b g
+revert_arc_after a b h k c ts g o l takes slots holes own =
     let can = revert_arc_can g h k l in
     let f = found_live h k.0 o.graph can.live in
-    let t = takes h (rw (x.vertices, x.slots) o.shows) o.graph can in
+    let t = takes h o.shows o.graph can in
     let law = revert_arc_law g h k l in
-    let shown : Shows ws (take (made_of g) ts) g = take_hole ws ts g (subst (Shows ws ts) law t.1) in
+    let shown : Shows b.vertices (take (made_of g) ts) g = take_hole b.vertices ts g (subst (Shows b.vertices ts) law t.1) in
     let number : k.0 ≡ made_of g = ap (λ z. z.0) l.number in
     record {
       graph = l.graph;
-      shows = rw (vertices, slots, number) shown;
+      shows = rw (slots, number) shown;
       holes = omega (arith, holes, o.holes, take_m h k.0 f, take_made h k.0, ap m_of law, ap made_of law, hole_m g, hole_made g);
       id = own.id ∙ (o.id ∙ (same_own g h k l).0);
       types = own.types ∙ (o.types ∙ (same_own g h k l).1);
@@ -231,18 +217,6 @@ revert_arc_after a b h k c vs ws ss ts g x l takes vertices slots holes own =
     }
 
 -- undoing a new edge
-pub edge_refused : (g : GraphOf) (u v : ℕ) → refusal_of_edge g u v ≡ None → (u < n_of g) × (v < n_of g) × (made_of g + 2 ≤ 1000000)
-edge_refused g u v none =
-    elim (cases_Bool (has_vertex g u && has_vertex g v)) [
-      | inl both ↦
-          let p = and_parts (has_vertex g u) (has_vertex g v) both in
-          elim (cases_Bool (nat_le (made_of g + 2) 1000000)) [
-            | inl few ↦ (ltb-true u (n_of g) p.0, ltb-true v (n_of g) p.1, leb-true (made_of g + 2) 1000000 few)
-            | inr many ↦ absurd (let bad = ap (λ b. refusal_unless (has_vertex g u && has_vertex g v) BadOperand (refusal_unless b TooLarge None)) many in let same = ap (λ b. refusal_unless b BadOperand (refusal_unless false TooLarge None)) both in cc)
-          ]
-      | inr not_both ↦ absurd (let bad = ap (λ b. refusal_unless b BadOperand (refusal_unless (nat_le (made_of g + 2) 1000000) TooLarge None)) not_both in cc)
-    ]
-
 pub record NewEdgeLeft (g : GraphOf) (k : ArcNo) (h : GraphOf) : Type 0 where
   pub hole : IsGraph (with_hole (with_hole g))
   pub second : CutArc
@@ -256,7 +230,7 @@ pub record NewEdgeLeft (g : GraphOf) (k : ArcNo) (h : GraphOf) : Type 0 where
 
 pub new_edge_left : (g h : GraphOf) (k : ArcNo) → LeftByEdge g k h → NewEdgeLeft g k h
 new_edge_left g h k l =
-    let p = edge_refused g l.from l.to l.accepted in
+    let p = join_refused g l.from l.to (made_of g + 2) l.accepted in
     let low = min l.from l.to in
     let high = max l.from l.to in
     let below : low < n_of g = omega (arith, p.0, p.1) in
@@ -295,10 +269,11 @@ revert_edge_can g h k l =
       middle = subst IsGraph (sym law) sound;
     }
 
-pub revert_edge_requires : (a : Inside) (h : GraphOf) (k : ArcNo) (vs : List Vertex) (ss : Slots) (g : GraphOf) → RevertCan a h vs ss → LeftByEdge g k h → CanBothBeTakenOut vs ss k.0
-revert_edge_requires a h k vs ss g x l =
+-- the second arc can be taken out once the first is
+pub revert_edge_next : (a : Inside) (h : GraphOf) (k : ArcNo) (c : CutArc) (us : List Vertex) (rs : Slots) (g : GraphOf) → Opened a h → LeftByEdge g k h → TakesOut a.vertices a.slots k.0 c us rs → CanBeTakenOut us rs (k.0 + 1)
+revert_edge_next a h k c us rs g o l takes =
     let y = revert_edge_can g h k l in
-    record { graph = h; sound = x.opened.graph; shows = rw (x.vertices, x.slots) x.opened.shows; can = y.can; next = y.next }
+    record { graph = without_arc h k.0; sound = y.middle; shows = (takes h o.shows o.graph y.can).1; can = y.next }
 
 pub same_own_edge : (g h : GraphOf) (k : ArcNo) → LeftByEdge g k h → (h.id ≡ g.id) × (h.types ≡ g.types) × (h.fields ≡ g.fields)
 unfolding with_edge with_listed with_entry_last
@@ -311,19 +286,19 @@ revert_edge_counts g h k sound l =
       omega (arith, take_made h k.0, take_made (without_arc h k.0) (k.0 + 1), ap made_of y.law, hole_made g, hole_made (with_hole g)),
     )
 
-pub revert_edge_after : (a b : Inside) (h : GraphOf) (k : ArcNo) (vs ws : List Vertex) (ss ts : Slots) (g : GraphOf) → RevertCan a h vs ss → LeftByEdge g k h
-    → TakesOutBoth vs ss k.0 ws ts → b.vertices ≡ ws → b.slots ≡ take k.0 ts → b.holes ≡ a.holes → SameOwn a b → Opened b g
-revert_edge_after a b h k vs ws ss ts g x l takes vertices slots holes own =
-    let o = x.opened in
+pub revert_edge_after : (a b : Inside) (h : GraphOf) (k : ArcNo) (c d : CutArc) (us : List Vertex) (rs ts : Slots) (g : GraphOf) → Opened a h → LeftByEdge g k h
+    → TakesOut a.vertices a.slots k.0 c us rs → TakesOut us rs (k.0 + 1) d b.vertices ts → b.slots ≡ take k.0 ts → b.holes ≡ a.holes → SameOwn a b → Opened b g
+revert_edge_after a b h k c d us rs ts g o l first second slots holes own =
+    let ws = b.vertices in
     let y = revert_edge_can g h k l in
-    let t : Shows ws ts (with_hole (with_hole g)) = subst (Shows ws ts) y.law (takes h (rw (x.vertices, x.slots) o.shows) o.graph y.can y.next) in
+    let t : Shows ws ts (with_hole (with_hole g)) = subst (Shows ws ts) y.law (second (without_arc h k.0) (first h o.shows o.graph y.can).1 y.middle y.next).1 in
     let one : Shows ws (take (made_of (with_hole g)) ts) (with_hole g) = take_hole ws ts (with_hole g) t in
     let two : Shows ws (take (made_of g) (take (made_of (with_hole g)) ts)) g = take_hole ws (take (made_of (with_hole g)) ts) g one in
     let shown : Shows ws (take (made_of g) ts) g = subst (λ r. Shows ws r g) (take-take (made_of g) (made_of (with_hole g)) ts (omega (arith, hole_made g))) two in
     let number : k.0 ≡ made_of g = ap (λ z. z.0) l.number in
     record {
       graph = l.graph;
-      shows = rw (vertices, slots, number) shown;
+      shows = rw (slots, number) shown;
       holes = omega (arith, holes, o.holes, (revert_edge_counts g h k o.graph l).0, (revert_edge_counts g h k o.graph l).1);
       id = own.id ∙ (o.id ∙ (same_own_edge g h k l).0);
       types = own.types ∙ (o.types ∙ (same_own_edge g h k l).1);

@@ -17,18 +17,19 @@ use Rattle.sgb_graph.specs.declared.field.Place.{Place}
 use Rattle.sgb_graph.specs.declared.field.Place.TheVariants.{Vertex, Arc, Graph}
 use Rattle.sgb_graph.specs.declared.graph.Vertex as vertex
 use Rattle.sgb_graph.specs.declared.graph.arena.Slot.{Slot}
+use Rattle.sgb_graph.specs.declared.graph.Graph.TheInside.{Inside}
 use Rattle.sgb_graph.specs.Field.{vertex_place, arc_place, graph_place}
 use Rattle.sgb_graph.specs.Graph.{GraphOf, VertexOf, ArcOf, IsGraph, IsVertex, IsArc, IsValue, n_of, made_of, m_of, vertex_at, no_vertex, arcs_of, arc_at, has_arc, occurrences, listings, is_name, names_in, names_in_entry, names_of}
 use Rattle.sgb_graph.specs.Edit.{with_util, util_at, has_place, entry_at, arc_or, no_arc}
 use Rattle.sgb_graph.specs.Private.Arena.{Slots, Shows, ShowsVertex, slot_at, next_of, next_at, entry_of, owner_in, names_counted}
 use Rattle.sgb_graph.specs.Private.Link.{any_vertex, vertex_in, IsCounted, slots_gaining, slots_losing}
-use Rattle.sgb_graph.specs.Private.Exchange.{fields_in, with_field, value_in, fields_with, vertices_with, slots_with, CanExchange, Exchanged}
+use Rattle.sgb_graph.specs.Private.Exchange.{fields_in, with_field, value_in, fields_with, vertices_with, slots_with, CanExchange}
 use Rattle.sgb_graph.specs.Chain.{Leads}
 use Rattle.sgb_graph.proofs.Chains.{Leads-agree}
 use Rattle.sgb_graph.proofs.Graphs.{made_of_live}
 use Rattle.sgb_graph.proofs.Slots.{one_name, slot_same, slot_other, slot_unseen, length-gaining, counted_more, counted_less}
 use Rattle.sgb_graph.proofs.Sound.{Keeps, IsValue-keeps, IsVertex-keeps, IsArc-keeps, IsEntry-keeps, All-set, entry_same, entry_other, few_names}
-use Rattle.sgb_graph.proofs.Shows.{ShowsBut, but_of}
+use Rattle.sgb_graph.proofs.Shows.{Opened, ShowsBut, but_of}
 use Rattle.sgb_graph.proofs.ShowsPut.{gaining_but, losing_but, one_at_most}
 use Rattle.sgb_graph.proofs.ShowsTake.{counted_enough}
 use Rattle.sgb_graph.proofs.TakeOut.{some_entry}
@@ -338,31 +339,38 @@ exchange_known vs ss g p u shows sound can j =
     subst (λ o. IfSome o (λ m. m ≡ names_of (with_util g p u) j + one_name j (util_at g p))) (sym (slots_unseen names_counted field_blind_names (slots_gaining ss u) p u j))
     (subst (λ z. IfSome (names_counted (slot_at (slots_gaining ss u) j)) (λ m. m ≡ z)) (sym (y.names j)) (counted_more ss u j (names_of g j) (shows.names j)))
 
--- what the steps of `exchange` leave
-pub exchange_done : (us : List Util) (vs : List vertex.Vertex) (ss : Slots) (g : GraphOf) (p : Place) (u : Util) (us' : List Util) (ws : List vertex.Vertex) (rs ts qs : Slots) (old : Util)
-    → us ≡ g.fields → Shows vs ss g → IsGraph g → CanExchange g p u
-    → rs ≡ slots_gaining ss u → old ≡ value_in us vs rs p → us' ≡ fields_with us p u → ws ≡ vertices_with vs p u → ts ≡ slots_with rs p u → qs ≡ slots_losing ts old → Exchanged us' ws qs g p u old
-exchange_done us vs ss g p u us' ws rs ts qs old same shows sound can rs_is old_is us_is ws_is ts_is qs_is =
+-- what the steps of `swap_util` leave
+pub exchange_done : (a b : Inside) (g : GraphOf) (p : Place) (u : Util) (rs ts : Slots) (old : Util) → Opened a g → CanExchange g p u
+    → rs ≡ slots_gaining a.slots u → old ≡ value_in a.fields a.vertices rs p → b.fields ≡ fields_with a.fields p u → b.vertices ≡ vertices_with a.vertices p u → ts ≡ slots_with rs p u → b.slots ≡ slots_losing ts old
+    → b.holes ≡ a.holes → b.id ≡ a.id → b.types ≡ a.types → (old ≡ util_at g p) × Opened b (with_util g p u)
+exchange_done a b g p u rs ts old o can rs_is old_is us_is ws_is ts_is qs_is holes id types =
     let h = with_util g p u in
-    let as' = slots_gaining ss u in
-    let x : ShowsBut vs as' g = gaining_but vs ss g u (but_of vs ss g shows) in
-    let was : old ≡ util_at g p = old_is ∙ (ap (λ r. value_in us vs r p) rs_is ∙ value_shown us vs as' g p same x can.place) in
+    let vs = a.vertices in
+    let as' = slots_gaining a.slots u in
+    let f = util_facts g p u o.graph can in
+    let x : ShowsBut vs as' g = gaining_but vs a.slots g u (but_of vs a.slots g o.shows) in
+    let was : old ≡ util_at g p = old_is ∙ (ap (λ r. value_in a.fields vs r p) rs_is ∙ value_shown a.fields vs as' g p o.fields x can.place) in
     let bs = slots_with as' p u in
-    let y : ShowsBut (vertices_with vs p u) (slots_losing bs (util_at g p)) h = losing_but (vertices_with vs p u) bs h (util_at g p) (exchange_but vs as' g p u x sound can) in
+    let y : ShowsBut (vertices_with vs p u) (slots_losing bs (util_at g p)) h = losing_but (vertices_with vs p u) bs h (util_at g p) (exchange_but vs as' g p u x o.graph can) in
     let shown : Shows (vertices_with vs p u) (slots_losing bs (util_at g p)) h = record {
       n = y.n;
       vertices = y.vertices;
       made = y.made;
       entries = y.entries;
       owners = y.owners;
-      names = λ j. counted_less bs (util_at g p) j (names_of h j) (exchange_known vs ss g p u shows sound can j);
+      names = λ j. counted_less bs (util_at g p) j (names_of h j) (exchange_known vs a.slots g p u o.shows o.graph can j);
     } in
-    let slots : qs ≡ slots_losing bs (util_at g p) = qs_is ∙ (ap (λ r. slots_losing r old) (ts_is ∙ ap (λ r. slots_with r p u) rs_is) ∙ ap (slots_losing bs) was) in
-    record {
-      kept = was;
-      fields = us_is ∙ fields_shown us g p u same;
-      shows = rw (ws_is, slots) shown;
-    }
+    let slots : b.slots ≡ slots_losing bs (util_at g p) = qs_is ∙ (ap (λ r. slots_losing r old) (ts_is ∙ ap (λ r. slots_with r p u) rs_is) ∙ ap (slots_losing bs) was) in (
+      was,
+      record {
+        graph = f.sound;
+        shows = rw (ws_is, slots) shown;
+        holes = omega (arith, holes, o.holes, f.m, f.made);
+        id = id ∙ (o.id ∙ sym f.id);
+        types = types ∙ (o.types ∙ sym f.types);
+        fields = us_is ∙ fields_shown a.fields g p u o.fields;
+      },
+    )
 
 -- what losing the old name requires
 pub exchange_room : (us : List Util) (vs : List vertex.Vertex) (ss : Slots) (g : GraphOf) (p : Place) (u : Util) (rs ts : Slots) (old : Util)

@@ -1,17 +1,18 @@
 -- Lemmas on second halves, and on the other half of an arc.
-use Rattle.std.proofs.Common.{◌≡◌, ◌<◌, ◌≤◌, ◌+◌, ◌-◌, ℕ, zero, suc, List, [], ◌∷◌, length, get_or, map, Option, Some, None, is_some, Bool, true, false, ◌&&◌, not, ◌==◌, nat_lt, nat_le, cond, ◌⊎◌, inl, inr, refl, sym, ap, subst, ◌∙◌, arith, zero-add}
+use Rattle.std.proofs.Common.{◌≡◌, ◌≢◌, ◌<◌, ◌≤◌, ◌+◌, ◌-◌, ℕ, suc, List, [], ◌∷◌, length, get_or, map, Option, Some, None, is_some, Bool, true, false, ◌&&◌, not, ◌==◌, nat_lt, nat_le, cond, ◌⊎◌, inl, inr, refl, sym, ap, subst, ◌∙◌, arith, zero-add}
+use Rattle.std.specs.Bool.{Decides}
 use Rattle.std.specs.List.{list_all, filter, range_with_len}
-use Rattle.std.proofs.lemmas.Bool.{cases_Bool, and_parts, eqb-true, eq-eqb, ne_eqb, lt-ltb, le-ltb, leb-true, cases_lt}
+use Rattle.std.proofs.lemmas.Bool.{cases_Bool, and_parts, and_from, eqb-true, eq-eqb, ne_eqb, lt-ltb, le-ltb, leb-true, le-leb, cases_lt, cases_eq}
 use Rattle.sgb_graph.proofs.SameRows.{and_no}
 use Rattle.sgb_graph.specs.declared.field.Tip.{Tip}
 use Rattle.sgb_graph.specs.declared.field.Tip.TheVariants.{Zero, One, To}
 use Rattle.sgb_graph.specs.Graph.{GraphOf, ArcOf, n_of, made_of, arcs_of, arc_at, has_arc}
 use Rattle.sgb_graph.specs.Edit.{owner_of, entry_at, arc_or, no_arc}
 use Rattle.sgb_graph.specs.Read.{entry_view}
-use Rattle.sgb_graph.specs.Paired.{goes, is_vertex, leads_from, is_loop, is_loop_pair, without_halves, is_half, without_half_places, walk, are_loops_paired, is_tip_matched, is_view_matched, is_matched, is_paired, GoesTo}
+use Rattle.sgb_graph.specs.Paired.{goes, is_vertex, leads_from, is_loop, is_loop_pair, without_halves, is_half, without_half_places, walk, are_loops_paired, is_tip_matched, is_view_matched, is_matched, is_paired, GoesTo, HasHalves}
 use Rattle.sgb_graph.proofs.Graphs.{made_of_live, no_arcs_past}
 use Rattle.sgb_graph.proofs.TakeOut.{some_entry}
-use Rattle.sgb_graph.proofs.PairedLemmas.{below_all}
+use Rattle.sgb_graph.proofs.PairedLemmas.{below_all, range_all}
 
 -- the next place, told from this one
 half_next : (g : GraphOf) (v : ℕ) (ks : List ℕ) (i : ℕ) → is_half g v ks (i + 1) ≡ (is_loop_pair g v (get_or ks i 0) (get_or ks (i + 1) 0) && not (is_half g v ks i))
@@ -43,6 +44,9 @@ half_over g v ks i half =
 -- the rest of a list stands in it from place i on
 abbrev pub StandsAt : List ℕ → ℕ → List ℕ → Type 0
 StandsAt all i rest = (m : ℕ) → m < length rest → get_or all (i + m) 0 ≡ get_or rest m 0
+
+stands_all : (ks : List ℕ) → StandsAt ks 0 ks
+stands_all ks m h = ap (λ n. get_or ks n 0) (zero-add m)
 
 pub stands_first : (all : List ℕ) (i j : ℕ) (ks : List ℕ) → StandsAt all i (j ∷ ks) → get_or all i 0 ≡ j
 stands_first all i j ks at = let here : i + 0 ≡ i = omega arith in subst (λ n. get_or all n 0 ≡ j) here (at 0 (omega arith))
@@ -90,39 +94,21 @@ halves_at g v all (j ∷ (k ∷ ks)) i at none =
 pub walk_undirected : (g : GraphOf) (v : ℕ) → walk false g v ≡ without_half_places g v (arcs_of g v)
 walk_undirected g v =
     let ks = arcs_of g v in
-    halves_at g v ks ks 0 (λ m h. ap (λ n. get_or ks n 0) (zero-add m)) (half_first g v ks)
+    halves_at g v ks ks 0 (stands_all ks) (half_first g v ks)
 
 -- a loop is a second half, or the place behind it has one
-abbrev pub HasHalf : GraphOf → ℕ → List ℕ → ℕ → ℕ → Type 0
-HasHalf g v all end i = (is_half g v all i ≡ true) ⊎ ((i + 1 < end) × (is_half g v all (i + 1) ≡ true))
+abbrev HasHalf : GraphOf → ℕ → List ℕ → ℕ → Type 0
+HasHalf g v all i = (is_half g v all i ≡ true) ⊎ ((i + 1 < length all) × (is_half g v all (i + 1) ≡ true))
 
--- behind a pair, and behind an arc that is none
-loops_behind : (g : GraphOf) (v : ℕ) (all : List ℕ) (j k : ℕ) (ks : List ℕ) (i : ℕ) → is_half g v all (i + 1) ≡ true → (m : ℕ) → m < length (j ∷ (k ∷ ks))
-    → ((n : ℕ) → n < length ks → is_loop g v (get_or ks n 0) ≡ true → HasHalf g v all (i + 1 + 1 + length ks) (i + 1 + 1 + n)) → is_loop g v (get_or (j ∷ (k ∷ ks)) m 0) ≡ true → HasHalf g v all (i + length (j ∷ (k ∷ ks))) (i + m)
-loops_behind g v all j k ks i half zero h rest loop =
-    let at : i ≡ i + 0 = omega arith in
-    subst (λ n. HasHalf g v all (i + length (j ∷ (k ∷ ks))) n) at (inr (omega arith, half))
-loops_behind g v all j k ks i half (suc zero) h rest loop = inl half
-loops_behind g v all j k ks i half (suc (suc m)) h rest loop =
-    let end : i + 1 + 1 + length ks ≡ i + length (j ∷ (k ∷ ks)) = omega arith in
-    let at : i + 1 + 1 + m ≡ i + suc (suc m) = omega arith in
-    subst (λ n. HasHalf g v all (i + length (j ∷ (k ∷ ks))) n) at (subst (λ n. HasHalf g v all n (i + 1 + 1 + m)) end (rest m (omega arith) loop))
-
-loops_single : (g : GraphOf) (v : ℕ) (all : List ℕ) (j k : ℕ) (ks : List ℕ) (i m : ℕ) → m < length (j ∷ (k ∷ ks)) → not (is_loop g v j) ≡ true
-    → ((n : ℕ) → n < length (k ∷ ks) → is_loop g v (get_or (k ∷ ks) n 0) ≡ true → HasHalf g v all (i + 1 + length (k ∷ ks)) (i + 1 + n)) → is_loop g v (get_or (j ∷ (k ∷ ks)) m 0) ≡ true → HasHalf g v all (i + length (j ∷ (k ∷ ks))) (i + m)
-loops_single g v all j k ks i zero h other rest loop = absurd (let not' : not (is_loop g v j) ≡ false = ap not loop in cc)
-loops_single g v all j k ks i (suc m) h other rest loop =
-    let end : i + 1 + length (k ∷ ks) ≡ i + length (j ∷ (k ∷ ks)) = omega arith in
-    let at : i + 1 + m ≡ i + suc m = omega arith in
-    subst (λ n. HasHalf g v all (i + length (j ∷ (k ∷ ks))) n) at (subst (λ n. HasHalf g v all n (i + 1 + m)) end (rest m (omega arith) loop))
-
-loops_at : (g : GraphOf) (v : ℕ) (all rest : List ℕ) (i : ℕ) → StandsAt all i rest → is_half g v all i ≡ false → are_loops_paired g v rest ≡ true
-    → (m : ℕ) → m < length rest → is_loop g v (get_or rest m 0) ≡ true → HasHalf g v all (i + length rest) (i + m)
+loops_at : (g : GraphOf) (v : ℕ) (all rest : List ℕ) (i : ℕ) → StandsAt all i rest → length all ≡ i + length rest → is_half g v all i ≡ false → are_loops_paired g v rest ≡ true
+    → (n : ℕ) → i ≤ n → n < length all → is_loop g v (get_or all n 0) ≡ true → HasHalf g v all n
 unfolding are_loops_paired
-loops_at g v all [] i at none paired m h loop = absurd (omega arith)
-loops_at g v all (j ∷ []) i at none paired zero h loop = absurd (let not' : not (is_loop g v j) ≡ false = ap not loop in cc)
-loops_at g v all (j ∷ []) i at none paired (suc m) h loop = absurd (omega arith)
-loops_at g v all (j ∷ (k ∷ ks)) i at none paired m h loop =
+loops_at g v all [] i at end none paired n low high loop = absurd (omega (arith, end))
+loops_at g v all (j ∷ []) i at end none paired n low high loop =
+    let here : n ≡ i = omega (arith, end) in
+    let yes' : is_loop g v j ≡ true = ap (is_loop g v) (sym (ap (λ m. get_or all m 0) here ∙ stands_first all i j [] at)) ∙ loop in
+    absurd (let not' : not (is_loop g v j) ≡ false = ap not yes' in cc)
+loops_at g v all (j ∷ (k ∷ ks)) i at end none paired n low high loop =
     let here = stands_first all i j (k ∷ ks) at in
     let at' = stands_rest all i j (k ∷ ks) at in
     let next = stands_first all (i + 1) k ks at' in
@@ -131,18 +117,62 @@ loops_at g v all (j ∷ (k ∷ ks)) i at none paired m h loop =
       | inl pair ↦
           let half : is_half g v all (i + 1) ≡ true = half_after g v all i j k true here next none pair in
           let paired' : are_loops_paired g v ks ≡ true = sym (ap split pair) ∙ paired in
-          loops_behind g v all j k ks i half m h (λ m' h' loop'. loops_at g v all ks (i + 1 + 1) (stands_rest all (i + 1) k ks at') (half_over g v all (i + 1) half) paired' m' h' loop') loop
+          elim (cases_eq n i) [
+            | inl first ↦ subst (HasHalf g v all) (sym first) (inr (omega (arith, end), half))
+            | inr other ↦ elim (cases_eq n (i + 1)) [
+              | inl second ↦ subst (HasHalf g v all) (sym second) (inl half)
+              | inr later ↦
+                  let ne : n ≢ i = other in
+                  let ne' : n ≢ i + 1 = later in
+                  loops_at g v all ks (i + 1 + 1) (stands_rest all (i + 1) k ks at') (omega (arith, end)) (half_over g v all (i + 1) half) paired' n (omega arith) high loop
+            ]
+          ]
       | inr single ↦
           let whole : is_half g v all (i + 1) ≡ false = half_after g v all i j k false here next none single in
           let p = and_parts (not (is_loop g v j)) (are_loops_paired g v (k ∷ ks)) (sym (ap split single) ∙ paired) in
-          loops_single g v all j k ks i m h p.0 (λ m' h' loop'. loops_at g v all (k ∷ ks) (i + 1) at' whole p.1 m' h' loop') loop
+          elim (cases_eq n i) [
+            | inl first ↦
+                let yes' : is_loop g v j ≡ true = ap (is_loop g v) (sym (ap (λ m. get_or all m 0) first ∙ here)) ∙ loop in
+                absurd (let not' : not (is_loop g v j) ≡ false = ap not yes' in let p0 = p.0 in cc)
+            | inr other ↦
+                let ne : n ≢ i = other in
+                loops_at g v all (k ∷ ks) (i + 1) at' (omega (arith, end)) whole p.1 n (omega arith) high loop
+          ]
     ]
 
-pub loops_paired : (g : GraphOf) (v i : ℕ) → are_loops_paired g v (arcs_of g v) ≡ true → i < length (arcs_of g v) → is_loop g v (get_or (arcs_of g v) i 0) ≡ true → HasHalf g v (arcs_of g v) (length (arcs_of g v)) i
-loops_paired g v i paired h loop =
-    let ks = arcs_of g v in
-    let x = loops_at g v ks ks 0 (λ m l. ap (λ n. get_or ks n 0) (zero-add m)) (half_first g v ks) paired i h loop in
-    subst (λ n. HasHalf g v ks n i) (zero-add (length ks)) (subst (λ n. HasHalf g v ks (0 + length ks) n) (zero-add i) x)
+-- where neither the place nor the one behind it is a second half, no loop stands
+no_loop : (g : GraphOf) (v : ℕ) (all : List ℕ) (i j : ℕ) → get_or all i 0 ≡ j → is_half g v all i ≡ false → (i + 1 < length all → is_half g v all (i + 1) ≡ false)
+    → (is_loop g v (get_or all i 0) ≡ true → HasHalf g v all i) → not (is_loop g v j) ≡ true
+no_loop g v all i j here none behind has =
+    elim (cases_Bool (is_loop g v j)) [
+      | inl loop ↦ elim (has (ap (is_loop g v) here ∙ loop)) [
+        | inl half ↦ absurd (let bad : true ≡ false = sym half ∙ none in cc)
+        | inr p ↦ absurd (let bad : true ≡ false = sym p.1 ∙ behind p.0 in cc)
+      ]
+      | inr not' ↦ ap not not'
+    ]
+
+loops_from : (g : GraphOf) (v : ℕ) (all rest : List ℕ) (i : ℕ) → StandsAt all i rest → length all ≡ i + length rest → is_half g v all i ≡ false
+    → ((n : ℕ) → n < length all → is_loop g v (get_or all n 0) ≡ true → HasHalf g v all n) → are_loops_paired g v rest ≡ true
+unfolding are_loops_paired
+loops_from g v all [] i at end none has = refl
+loops_from g v all (j ∷ []) i at end none has =
+    no_loop g v all i j (stands_first all i j [] at) none (λ h. absurd (omega (arith, h, end))) (has i (omega (arith, end)))
+loops_from g v all (j ∷ (k ∷ ks)) i at end none has =
+    let here = stands_first all i j (k ∷ ks) at in
+    let at' = stands_rest all i j (k ∷ ks) at in
+    let next = stands_first all (i + 1) k ks at' in
+    let split : Bool → Bool = λ b. cond b (are_loops_paired g v ks) (not (is_loop g v j) && are_loops_paired g v (k ∷ ks)) in
+    elim (cases_Bool (is_loop_pair g v j k)) [
+      | inl pair ↦
+          let half : is_half g v all (i + 1) ≡ true = half_after g v all i j k true here next none pair in
+          ap split pair ∙ loops_from g v all ks (i + 1 + 1) (stands_rest all (i + 1) k ks at') (omega (arith, end)) (half_over g v all (i + 1) half) has
+      | inr single ↦
+          let whole : is_half g v all (i + 1) ≡ false = half_after g v all i j k false here next none single in
+          ap split single
+          ∙ and_from (not (is_loop g v j)) (are_loops_paired g v (k ∷ ks)) (no_loop g v all i j here none (λ h. whole) (has i (omega (arith, end))))
+          (loops_from g v all (k ∷ ks) (i + 1) at' (omega (arith, end)) whole has)
+    ]
 
 -- an arc that lives, with its owner and its tip
 vertex_tip : (v : ℕ) (t : Tip) → is_vertex v t ≡ true → t ≡ To (record { 0 = v })
@@ -213,11 +243,58 @@ pair_up g k u v paired x high =
     ∙ matched_to g k u v paired x in
     leads_goes g (k + 1) v u is
 
-pub pair_loops : (g : GraphOf) (v i : ℕ) → is_paired g ≡ true → i < length (arcs_of g v) → GoesTo g (get_or (arcs_of g v) i 0) v v → HasHalf g v (arcs_of g v) (length (arcs_of g v)) i
+pair_loops : (g : GraphOf) (v i : ℕ) → is_paired g ≡ true → i < length (arcs_of g v) → GoesTo g (get_or (arcs_of g v) i 0) v v → HasHalf g v (arcs_of g v) i
 pair_loops g v i paired h x =
+    let ks = arcs_of g v in
     let p = and_parts (list_all (is_matched g) (range_with_len 0 (made_of g))) (list_all (λ w. are_loops_paired g w (arcs_of g w)) (range_with_len 0 (n_of g))) paired in
     elim (cases_lt v (n_of g)) [
       | inl low ↦
-          loops_paired g v i (below_all (λ w. are_loops_paired g w (arcs_of g w)) (n_of g) v p.1 low) h (goes_leads g (get_or (arcs_of g v) i 0) v v x)
+          loops_at g v ks ks 0 (stands_all ks) (sym (zero-add (length ks))) (half_first g v ks) (below_all (λ w. are_loops_paired g w (arcs_of g w)) (n_of g) v p.1 low) i (omega arith) h
+          (goes_leads g (get_or ks i 0) v v x)
       | inr past ↦ absurd (let none : length (arcs_of g v) ≡ 0 = ap length (no_arcs_past g v past) in omega (arith, none, h))
     ]
+
+-- and the other way round
+tip_matched : (g : GraphOf) (k u v : ℕ) → HasHalves g → GoesTo g k u v → is_tip_matched g k u (To (record { 0 = v })) ≡ true
+tip_matched g k u v x goes =
+    let below : Bool = nat_le 1 k && leads_from g (k - 1) v u in
+    let above : Bool = leads_from g (k + 1) v u in
+    elim (cases_eq v u) [
+      | inl same ↦ ap (λ b. cond b true (cond (nat_lt v u) below above)) (eq-eqb v u same)
+      | inr ne ↦
+          ap (λ b. cond b true (cond (nat_lt v u) below above)) (ne_eqb v u ne)
+          ∙ elim (cases_lt v u) [
+            | inl low ↦
+                let d = x.down k u v goes low in
+                ap (λ b. cond b below above) (lt-ltb v u low) ∙ and_from (nat_le 1 k) (leads_from g (k - 1) v u) (le-leb 1 k d.0) (goes_leads g (k - 1) v u d.1)
+            | inr high ↦
+                let other : v ≢ u = ne in
+                ap (λ b. cond b below above) (le-ltb v u high) ∙ goes_leads g (k + 1) v u (x.up k u v goes (omega arith))
+          ]
+    ]
+
+view_hole : (g : GraphOf) (k u : ℕ) (o : Option ArcOf) → is_some o ≡ false → is_view_matched g k (entry_view u o) ≡ true
+view_hole g k u None hole = refl
+view_hole g k u (Some e) hole = absurd cc
+
+each_matched : (g : GraphOf) (k : ℕ) → HasHalves g → is_matched g k ≡ true
+unfolding is_matched
+each_matched g k x =
+    let u = owner_of g k in
+    elim (cases_Bool (has_arc g k)) [
+      | inl live ↦
+          let t = x.tip k live in
+          ap (λ o. is_view_matched g k (entry_view u o)) (some_entry (arc_at g k) live) ∙ (ap (is_tip_matched g k u) t.1.tip ∙ tip_matched g k u t.0 x t.1)
+      | inr hole ↦ view_hole g k u (arc_at g k) hole
+    ]
+
+pub pair_decides : (g : GraphOf) → Decides (is_paired g) (HasHalves g)
+pair_decides g = (
+  λ paired. record { tip = λ k. pair_tip g k paired; down = λ k u v. pair_down g k u v paired; up = λ k u v. pair_up g k u v paired; loops = λ v i. pair_loops g v i paired },
+  λ x. and_from (list_all (is_matched g) (range_with_len 0 (made_of g))) (list_all (λ v. are_loops_paired g v (arcs_of g v)) (range_with_len 0 (n_of g)))
+      (range_all (is_matched g) 0 (made_of g) (λ k. each_matched g k x))
+      (range_all (λ v. are_loops_paired g v (arcs_of g v)) 0 (n_of g)
+      (λ v.
+      let ks = arcs_of g v in
+      loops_from g v ks ks 0 (stands_all ks) (sym (zero-add (length ks))) (half_first g v ks) (λ n h loop. x.loops v n h (leads_goes g (get_or ks n 0) v v loop)))),
+)

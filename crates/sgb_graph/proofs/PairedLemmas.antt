@@ -117,3 +117,8 @@ below_all p n k all h =
       | inl yes' ↦ yes'
       | inr no' ↦ absurd (let none = below_all_not p n k h no' in cc)
     ]
+
+-- and of all numbers
+pub range_all : (q : ℕ → Bool) (a n : ℕ) → ((k : ℕ) → q k ≡ true) → list_all q (range_with_len a n) ≡ true
+range_all q a zero each = refl
+range_all q a (suc n) each = and_from (q a) (list_all q (range_with_len (a + 1) n)) (each a) (range_all q (a + 1) n each)

@@ -18,7 +18,7 @@ use Rattle.sgb_graph.specs.Same.{tip_eq, util_eq, graph_eq}
 use Rattle.sgb_graph.proofs.Counts.{occurs_no}
 use Rattle.sgb_graph.proofs.Graphs.{vertex_of_listed}
 use Rattle.sgb_graph.proofs.Shows.{Opened, opened}
-use Rattle.sgb_graph.proofs.Reading.{first_is, next_is}
+use Rattle.sgb_graph.proofs.Readers.{first_is, next_is}
 use Rattle.sgb_graph.specs.Private.SameLaws.{Tells, lists_tell, texts_tell, utils_tell, ints_tell, graphs_tell, tip_same, tip_self, same_graph}
 
 pub and_no : (b : Bool) → (b && false) ≡ false

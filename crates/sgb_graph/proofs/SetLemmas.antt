@@ -1,5 +1,5 @@
 -- Lemmas on what setting a length, a label, the id or the letters leaves.
-use Rattle.std.proofs.Common.{◌≡◌, ◌<◌, ℕ, ℤ, List, get_or, set, Option, Some, None, is_some, IsSome, IfSome, Bool, true, false, refl, sym, ap, subst, ◌∙◌, arith, inl, inr, FitsSigned, to_z, of_z}
+use Rattle.std.proofs.Common.{◌≡◌, ◌<◌, ℕ, ℤ, List, get_or, set, Option, Some, None, is_some, IfSome, Bool, true, false, refl, sym, ap, subst, ◌∙◌, arith, inl, inr, FitsSigned, to_z, of_z}
 use Rattle.std.specs.Int.{w64}
 use Rattle.std.proofs.lemmas.Bool.{cases_eq, ltb-true, lt-ltb}
 use Rattle.std.proofs.lemmas.Int.{to_z-of_z}
@@ -17,7 +17,7 @@ use Rattle.sgb_graph.specs.Private.Arena.{Slots, Shows, ShowsVertex, IsArena, gr
 use Rattle.sgb_graph.specs.Private.Link.{any_vertex, vertex_in}
 use Rattle.sgb_graph.specs.Private.Vertices.{with_name}
 use Rattle.sgb_graph.specs.Private.Fill.{with_aim, with_aim_in}
-use Rattle.sgb_graph.proofs.Aiming.{aim_opened}
+use Rattle.sgb_graph.proofs.ArcChanges.{aim_opened}
 use Rattle.sgb_graph.proofs.Graphs.{made_of_live}
 use Rattle.sgb_graph.proofs.Sound.{Keeps, IsValue-keeps, IsVertex-keeps, IsEntry-keeps, All-set, entry_same}
 use Rattle.sgb_graph.proofs.Shows.{Opened, opened, closed, closed_arena}
@@ -248,30 +248,9 @@ left_len g h k old l =
       back = same_graph (with_len h k.0 old) g (ap (λ (q : GraphOf). q.id) l.left) (ap (λ (q : GraphOf). q.types) l.left) (ap (λ (q : GraphOf). q.fields) l.left) (ap (λ (q : GraphOf). q.vertices) l.left) entries;
     }
 
-pub revert_len_after : (a b : Inside) (h : GraphOf) (k : ArcNo) (old z' : ℤ) (ss ts : Slots) (g : GraphOf) → graph_of a ≡ h → IsArena a → LeftByLen g k old h → z' ≡ old
-    → ss ≡ a.slots → ts ≡ set ss k.0 (with_len_in z' (slot_at ss k.0))
-    → b.id ≡ a.id → b.types ≡ a.types → b.fields ≡ a.fields → b.holes ≡ a.holes → b.vertices ≡ a.vertices → b.slots ≡ ts → Opened b g
-revert_len_after a b h k old z' ss ts g same arena l is ss_is ts_is id types fields holes vertices slots =
-    let o = opened a h same arena in
-    let x = left_len g h k old l in
-    let made : b.slots ≡ set a.slots k.0 (with_len_in old (slot_at a.slots k.0)) =
-    slots ∙ (ts_is ∙ (ap (λ r. set r k.0 (with_len_in z' (slot_at r k.0))) ss_is ∙ ap (λ y. set a.slots k.0 (with_len_in y (slot_at a.slots k.0))) is)) in
-    subst (Opened b) x.back (len_opened a b h k.0 old o x.there x.fits id types fields holes vertices made)
-
-live_slot : (o : Option Slot) → is_some o ≡ is_some (entry_of o)
-live_slot None = refl
-live_slot (Some s) = refl
-
-pub revert_len_slot : (a : Inside) (h : GraphOf) (k : ArcNo) (old : ℤ) (ss : Slots) (g : GraphOf) → graph_of a ≡ h → IsArena a → LeftByLen g k old h → ss ≡ a.slots → IsSome (slot_at ss k.0)
-revert_len_slot a h k old ss g same arena l is =
-    let o = opened a h same arena in
-    let x = left_len g h k old l in
-    ap (λ r. is_some (slot_at r k.0)) is ∙ (live_slot (slot_at a.slots k.0) ∙ (ap is_some (o.shows.entries k.0) ∙ x.there))
-
 -- undoing a set label
 pub record LeftLabel (g : GraphOf) (v : VertexNo) (old : List ℕ) (h : GraphOf) : Type 0 where
   pub low : v.0 < n_of h
-  pub text : IsText old
   pub back : with_label h v.0 old ≡ g
 
 pub left_label : (g h : GraphOf) (v : VertexNo) (old : List ℕ) → LeftByLabel g v old h → LeftLabel g v old h
@@ -288,14 +267,5 @@ left_label g h v old l =
     ∙ (ap (set (set g.vertices v.0 y) v.0) here ∙ (set-set g.vertices v.0 y x ∙ set-get_or g.vertices v.0 no_vertex)) in
     record {
       low = omega (arith, n, low);
-      text = subst IsText (sym l.kept) (l.graph.vertices v.0 no_vertex low).label;
       back = same_graph (with_label h v.0 old) g (ap (λ (q : GraphOf). q.id) l.left) (ap (λ (q : GraphOf). q.types) l.left) (ap (λ (q : GraphOf). q.fields) l.left) vertices (ap (λ (q : GraphOf). q.entries) l.left);
     }
-
-pub revert_label_after : (a b : Inside) (h : GraphOf) (v : VertexNo) (old : List ℕ) (g : GraphOf) → graph_of a ≡ h → IsArena a → LeftByLabel g v old h
-    → b.id ≡ a.id → b.types ≡ a.types → b.fields ≡ a.fields → b.holes ≡ a.holes → b.slots ≡ a.slots
-    → b.vertices ≡ set a.vertices v.0 (with_name old (vertex_in a.vertices v.0)) → Opened b g
-revert_label_after a b h v old g same arena l id types fields holes slots vertices =
-    let o = opened a h same arena in
-    let y = left_label g h v old l in
-    subst (Opened b) y.back (label_opened a b h v.0 old o y.low y.text id types fields holes slots vertices)

@@ -1,5 +1,5 @@
 -- Paired graphs: each arc has its other half, as the arcs of an edge have.
-use Rattle.std.specs.Prelude.{◌≡◌, ◌+◌, ◌-◌, ℕ, zero, suc, List, [], ◌∷◌, length, map, slice_index, Option, Some, None, Bool, true, false, ◌&&◌, not, ◌==◌, nat_lt, nat_le, if◌then◌else◌}
+use Rattle.std.specs.Prelude.{◌≡◌, ◌<◌, ◌≤◌, ◌⊎◌, ◌+◌, ◌-◌, ℕ, zero, suc, List, [], ◌∷◌, length, map, slice_index, Option, Some, None, Bool, true, false, ◌&&◌, not, ◌==◌, nat_lt, nat_le, if◌then◌else◌}
 use Rattle.std.specs.List.{list_all, filter, range_with_len}
 use Rattle.sgb_graph.specs.declared.field.Tip.{Tip}
 use Rattle.sgb_graph.specs.declared.field.Tip.TheVariants.{Zero, One, To}
@@ -84,3 +84,11 @@ pub record GoesTo (g : GraphOf) (k u v : ℕ) : Type 0 where
   pub live : has_arc g k ≡ true
   pub owner : owner_of g k ≡ u
   pub tip : (entry_at g k).tip ≡ To (record { 0 = v })
+
+-- each arc leads to a vertex and has its other half; and a loop is a second half, or the next arc of its list is one
+pub record HasHalves (g : GraphOf) : Type 0 where
+  pub tip : (k : ℕ) → has_arc g k ≡ true → (v : ℕ) × GoesTo g k (owner_of g k) v
+  pub down : (k u v : ℕ) → GoesTo g k u v → v < u → (1 ≤ k) × GoesTo g (k - 1) v u
+  pub up : (k u v : ℕ) → GoesTo g k u v → u < v → GoesTo g (k + 1) v u
+  pub loops : (v i : ℕ) → i < length (arcs_of g v) → GoesTo g (slice_index (arcs_of g v) i) v v →
+      (is_half g v (arcs_of g v) i ≡ true) ⊎ ((i + 1 < length (arcs_of g v)) × (is_half g v (arcs_of g v) (i + 1) ≡ true))

@@ -31,7 +31,6 @@ impl Builder {
     }
 
     /// The graph as far as it is built.
-    #[inline]
     pub fn graph(&self) -> &Graph
         ensures value { result.now ≡ self.now.graph }
         ensures sound { IsGraph self.now.graph }

@@ -1,12 +1,12 @@
 //! Laws of graphs. Each function does nothing: its clauses are the law.
-ghost use Rattle.std.specs.Prelude.{◌≡◌, ◌≤◌, ◌<◌, ◌⊎◌, ◌+◌, ◌-◌, ◌↔◌, ℕ, length, IsTrue, true, false, Some, None, slice_index};
+ghost use Rattle.std.specs.Prelude.{◌≡◌, ◌↔◌, ℕ, IsTrue, true, false, Some, None};
 ghost use Rattle.std.specs.Bool.{Decides};
 ghost use Rattle.sgb_graph.specs.Graph.{GraphOf, IsGraph, arcs_of, has_arc};
 ghost use Rattle.sgb_graph.specs.Delta.{LeftBy};
-ghost use Rattle.sgb_graph.specs.Edit.{owner_of, entry_at};
+ghost use Rattle.sgb_graph.specs.Edit.{entry_at};
 ghost use Rattle.sgb_graph.specs.Linked.{graph_of_parts};
 ghost use Rattle.sgb_graph.specs.Operand.{refusal_of_operand, spoke_of};
-ghost use Rattle.sgb_graph.specs.Paired.{walk, is_half, without_half_places, is_paired, GoesTo};
+ghost use Rattle.sgb_graph.specs.Paired.{walk, without_half_places, is_paired, HasHalves};
 ghost use Rattle.sgb_graph.specs.Parts.{Builds};
 ghost use Rattle.sgb_graph.specs.Reverted.{reverted};
 ghost use Rattle.sgb_graph.specs.Same.{graph_eq, util_eq};
@@ -33,18 +33,11 @@ pub fn walk_law()
     ensures undirected { (g : GraphOf) (v : ℕ) → walk false g v ≡ without_half_places g v (arcs_of g v) }
 {}
 
-/// In a paired graph each arc leads to a vertex, and has its other half: below it in number where it leads to a
-/// smaller vertex, above it where it leads to a larger one; and of a loop, the arc itself or the next in its list is a
-/// second half.
+/// A graph is paired exactly where each arc leads to a vertex, and has its other half: below it in number where it
+/// leads to a smaller vertex, above it where it leads to a larger one; and of a loop, the arc itself or the next in its
+/// list is a second half.
 pub fn pair_law()
-    ensures tip { (g : GraphOf) (k : ℕ) → is_paired g ≡ true → has_arc g k ≡ true → (v : ℕ) × GoesTo g k (owner_of g k) v }
-    ensures down { (g : GraphOf) (k u v : ℕ) → is_paired g ≡ true → GoesTo g k u v → v < u →
-        (1 ≤ k) × GoesTo g (k - 1) v u }
-    ensures up { (g : GraphOf) (k u v : ℕ) → is_paired g ≡ true → GoesTo g k u v → u < v → GoesTo g (k + 1) v u }
-    ensures loops { (g : GraphOf) (v i : ℕ) → is_paired g ≡ true → i < length (arcs_of g v) →
-        GoesTo g (slice_index (arcs_of g v) i) v v →
-        (is_half g v (arcs_of g v) i ≡ true) ⊎
-        ((i + 1 < length (arcs_of g v)) × (is_half g v (arcs_of g v) (i + 1) ≡ true)) }
+    ensures { (g : GraphOf) → Decides (is_paired g) (HasHalves g) }
 {}
 
 /// The test of a graph tells whether it is sound.

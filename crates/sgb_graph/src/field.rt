@@ -100,7 +100,6 @@ impl Util {
 
     /// The letter allows the value: `Z` allows `Zero` alone, `I` a number, `V` a vertex or the number 1, `A` an arc or
     /// the number 1, `S` a text, and each of them `Zero`.
-    #[inline]
     pub fn is_allowed(&self, letter: u8) -> bool
         ensures { result ≡ is_allowed letter self.now }
     {
@@ -118,7 +117,6 @@ impl Util {
 
 impl VertexField {
     /// The place among a vertex's fields, from 0 for `u`.
-    #[inline]
     pub fn place(self) -> usize
         ensures { result ≡ vertex_place self }
     {
@@ -128,7 +126,6 @@ impl VertexField {
 
 impl ArcField {
     /// The place among an arc's fields, from 0 for `a`.
-    #[inline]
     pub fn place(self) -> usize
         ensures { result ≡ arc_place self }
     {
@@ -138,7 +135,6 @@ impl ArcField {
 
 impl GraphField {
     /// The place among the graph's fields, from 0 for `uu`.
-    #[inline]
     pub fn place(self) -> usize
         ensures { result ≡ graph_place self }
     {

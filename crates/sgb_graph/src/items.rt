@@ -20,7 +20,6 @@ impl<T> Model for Items<T> {
 
 impl<T> Items<T> {
     /// No items. Takes no memory.
-    #[inline]
     pub fn new(alloc: Global) -> Items<T>
         ensures { result ≡ [] }
     {
@@ -30,7 +29,6 @@ impl<T> Items<T> {
     }
 
     /// The items of a `Vec`.
-    #[inline]
     pub fn from_vec(items: Vec<T>) -> Items<T>
         ensures { result ≡ items.items }
     {
@@ -38,7 +36,6 @@ impl<T> Items<T> {
     }
 
     /// The items as a `Vec`.
-    #[inline]
     pub fn into_vec(self) -> Vec<T>
         ensures { result.items ≡ self }
     {
@@ -47,7 +44,6 @@ impl<T> Items<T> {
     }
 
     /// How many items there are.
-    #[inline]
     pub fn len(&self) -> usize
         ensures { result ≡ length self.now }
     {
@@ -55,7 +51,6 @@ impl<T> Items<T> {
     }
 
     /// There are none.
-    #[inline]
     pub fn is_empty(&self) -> bool
         ensures { result ≡ (length self.now == 0) }
     {
@@ -63,7 +58,6 @@ impl<T> Items<T> {
     }
 
     /// The items.
-    #[inline]
     pub fn as_slice(&self) -> &[T]
         ensures { result.now ≡ self.now }
     {
@@ -71,7 +65,6 @@ impl<T> Items<T> {
     }
 
     /// Adds an item, last. Where memory is refused the list stays as it was, and the item is handed back.
-    #[inline]
     pub fn push(&mut self, item: T) -> Result<(), AllocFailed<T>>
         ensures ok { OnOk result (self.new ≡ self.old ++ item ∷ []) }
         ensures unchanged { OnErr result (self.new ≡ self.old) }
@@ -80,7 +73,6 @@ impl<T> Items<T> {
     }
 
     /// Takes room for so many items more.
-    #[inline]
     pub fn reserve(&mut self, count: usize) -> Result<(), AllocError>
         ensures { self.new ≡ self.old }
     {

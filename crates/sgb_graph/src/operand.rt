@@ -43,7 +43,6 @@ pub fn read_spokes(
 
 /// The spoke of a live arc: the vertex to which it leads, or vertex 0 where it leads to none, and its length. Takes no
 /// memory.
-#[inline]
 pub fn spoke_at(graph: &Graph, number: ArcNo) -> Spoke
     requires { IsSome (arc_at graph.now number.0) }
     ensures { result ≡ spoke_of (entry_at graph.now number.0) }

@@ -75,7 +75,6 @@ impl Text {
     }
 
     /// The bytes.
-    #[inline]
     pub fn bytes(&self) -> &[u8]
         ensures value { result.now ≡ self.now }
         ensures text { IsText self.now }
@@ -152,7 +151,6 @@ impl Eq for Label {
 
 impl Label {
     /// The empty label.
-    #[inline]
     pub fn empty() -> Label
         ensures { result ≡ [] }
     {
@@ -162,7 +160,6 @@ impl Label {
     }
 
     /// The label of this text.
-    #[inline]
     pub fn new(text: Text) -> Label
         ensures value { result ≡ text }
         ensures text { IsText text }
@@ -191,7 +188,6 @@ impl Label {
     }
 
     /// The label of these bytes, which are a text, copied. Takes memory where they are more than 14.
-    #[inline]
     pub fn from_text(alloc: Global, bytes: &[u8]) -> Result<Label, AllocError>
         requires { IsText bytes.now }
         ensures value { IfOk result (λ l. l ≡ bytes.now) }
@@ -219,7 +215,6 @@ impl Label {
     }
 
     /// The bytes.
-    #[inline]
     pub fn bytes(&self) -> &[u8]
         ensures value { result.now ≡ self.now }
         ensures text { IsText self.now }

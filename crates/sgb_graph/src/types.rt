@@ -52,7 +52,6 @@ impl Types {
     }
 
     /// The letters.
-    #[inline]
     pub fn letters(&self) -> &[u8; 14]
         ensures value { result.now ≡ self.now }
         ensures types { IsTypes self.now }

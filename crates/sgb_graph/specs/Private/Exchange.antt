@@ -7,9 +7,9 @@ use Rattle.sgb_graph.specs.declared.field.Place.TheVariants.{Vertex, Arc, Graph}
 use Rattle.sgb_graph.specs.declared.graph.Vertex as vertex
 use Rattle.sgb_graph.specs.declared.graph.arena.Slot.{Slot}
 use Rattle.sgb_graph.specs.Field.{vertex_place, arc_place, graph_place}
-use Rattle.sgb_graph.specs.Graph.{GraphOf, IsGraph, IsValue, n_of}
-use Rattle.sgb_graph.specs.Edit.{has_place, util_at, with_util}
-use Rattle.sgb_graph.specs.Private.Arena.{Slots, Shows, slot_at}
+use Rattle.sgb_graph.specs.Graph.{GraphOf, IsValue, n_of}
+use Rattle.sgb_graph.specs.Edit.{has_place}
+use Rattle.sgb_graph.specs.Private.Arena.{Slots, slot_at}
 use Rattle.sgb_graph.specs.Private.Link.{vertex_in}
 
 abbrev pub fields_in : Option Slot → List Util
@@ -52,19 +52,3 @@ IsPlaceIn us vs ss (Graph f) = length us ≡ 6
 pub record CanExchange (g : GraphOf) (p : Place) (u : Util) : Type 0 where
   pub place : has_place g p ≡ true
   pub value : IsValue (n_of g) g.entries u
-
--- of every sound graph that the fields show, they then show the graph with the value
-pub record Exchanged (us : List Util) (ws : List vertex.Vertex) (ts : Slots) (g : GraphOf) (p : Place) (u old : Util) : Type 0 where
-  pub kept : old ≡ util_at g p
-  pub fields : us ≡ (with_util g p u).fields
-  pub shows : Shows ws ts (with_util g p u)
-
-abbrev pub Exchanges : List Util → List vertex.Vertex → Slots → Place → Util → Util → List Util → List vertex.Vertex → Slots → Type 0
-Exchanges us vs ss p u old us' ws ts = (g : GraphOf) → us ≡ g.fields → Shows vs ss g → IsGraph g → CanExchange g p u → Exchanged us' ws ts g p u old
-
-pub record CanBeExchanged (us : List Util) (vs : List vertex.Vertex) (ss : Slots) (p : Place) (u : Util) : Type 0 where
-  pub graph : GraphOf
-  pub fields : us ≡ graph.fields
-  pub sound : IsGraph graph
-  pub shows : Shows vs ss graph
-  pub can : CanExchange graph p u

@@ -1,5 +1,5 @@
 -- Putting the values of parts into the fields of a graph.
-use Rattle.std.specs.Prelude.{ℕ, ℤ, Option, Some, None, Bool, true, nat_lt, ◌≡◌, ◌<◌, List, length, map, ◌&&◌, if◌then◌else◌}
+use Rattle.std.specs.Prelude.{ℕ, ℤ, Option, Some, None, Bool, true, nat_lt, ◌≡◌, ◌<◌, List, [], length, map, ◌&&◌, if◌then◌else◌}
 use Rattle.sgb_graph.specs.declared.field.Tip.{Tip}
 use Rattle.sgb_graph.specs.declared.field.Tip.TheVariants as tips
 use Rattle.sgb_graph.specs.declared.graph.arena.Slot.{Slot}
@@ -71,12 +71,12 @@ with_filled_arc g k part = with_entry g k (filled_entry part (arc_at g k))
 pub record FillsVertices (vs : List VertexPart) (g h : GraphOf) : Type 0 where
   pub n : n_of h ≡ n_of g
   pub vertices : (v : ℕ) → v < n_of g → vertex_at h v ≡ filled_vertex (vertex_part vs v) (vertex_at g v)
-  pub entries : h.entries ≡ g.entries
+  pub rest : record h { vertices = [] } ≡ record g { vertices = [] }
   pub graph : IsGraph h
 
 -- all live arcs are as their records say
 pub record FillsArcs (rs : List ArcPart) (g h : GraphOf) : Type 0 where
-  pub vertices : h.vertices ≡ g.vertices
+  pub rest : record h { entries = [] } ≡ record g { entries = [] }
   pub made : made_of h ≡ made_of g
   pub entries : (k : ℕ) → arc_at h k ≡ filled_entry (arc_part rs k) (arc_at g k)
   pub graph : IsGraph h

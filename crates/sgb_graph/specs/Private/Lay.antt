@@ -1,5 +1,5 @@
 -- Laying chains of records into a graph.
-use Rattle.std.specs.Prelude.{◌≡◌, ◌<◌, ◌≤◌, ◌⊎◌, ℕ, pos, ◌+◌, List, [], ◌∷◌, length, map, slice_index_or, min, None, Some, Option, IfSome}
+use Rattle.std.specs.Prelude.{◌≡◌, ◌<◌, ◌≤◌, ℕ, pos, ◌+◌, List, [], ◌∷◌, length, map, slice_index_or, min, None, Some, Option, IfSome}
 use Rattle.sgb_graph.specs.declared.field.ArcNo.{ArcNo}
 use Rattle.sgb_graph.specs.declared.field.VertexNo.{VertexNo}
 use Rattle.sgb_graph.specs.declared.field.Tip.TheVariants as tips
@@ -8,7 +8,7 @@ use Rattle.sgb_graph.specs.declared.delta.CutArc.{CutArc}
 use Rattle.sgb_graph.specs.declared.parts.ArcPart.{ArcPart}
 use Rattle.sgb_graph.specs.declared.parts.VertexPart.{VertexPart}
 use Rattle.sgb_graph.specs.declared.refusal.Refusal.{Refusal}
-use Rattle.sgb_graph.specs.declared.refusal.Refusal.TheVariants.{NoRoom, BadOperand}
+use Rattle.sgb_graph.specs.declared.refusal.Refusal.TheVariants.{BadOperand}
 use Rattle.sgb_graph.specs.Chain.{Leads}
 use Rattle.sgb_graph.specs.Graph.{GraphOf, ArcOf, IsGraph, n_of, made_of, m_of, vertex_at, label_of, arcs_of, arc_at, occurrences, names_of}
 use Rattle.sgb_graph.specs.New.{new_graph}
@@ -65,9 +65,9 @@ pub record LayingAt (vs : List VertexPart) (ls : List (Option ArcNo)) (v : ℕ) 
   pub empty : (w : ℕ) → v < w → arcs_of g w ≡ []
   pub graph : IsGraph g
 
--- want of memory, or no graph lays these chains
+-- no graph lays these chains
 abbrev pub RefusesToLay : List VertexPart → List (Option ArcNo) → Refusal → Type 0
-RefusesToLay vs ls e = (e ≡ NoRoom) ⊎ ((e ≡ BadOperand) × ((h : GraphOf) → Lays vs ls h → ⊥))
+RefusesToLay vs ls e = (e ≡ BadOperand) × ((h : GraphOf) → Lays vs ls h → ⊥)
 
 -- an arc that is to be filled, last in the list of its owner
 abbrev pub laid_arc : GraphOf → ArcNo → VertexNo → CutArc
@@ -102,10 +102,8 @@ laid_cell r = record { owner = r.owner; tip = tips.Zero; next = r.next; names = 
 abbrev pub laid_slot : Chained → Option Slot
 laid_slot r = slot_with two_zeros (laid_cell r)
 
--- all but the arcs of g is as in h
+-- the names and values of g are those of h
 pub record LikeBut (h g : GraphOf) : Type 0 where
-  pub id : g.id ≡ h.id
-  pub types : g.types ≡ h.types
   pub fields : g.fields ≡ h.fields
   pub n : n_of g ≡ n_of h
   pub labels : (w : ℕ) → label_of g w ≡ label_of h w

@@ -118,14 +118,3 @@ pub record CanBeTakenOut (vs : List vertex.Vertex) (ss : Slots) (k : ℕ) : Type
   pub sound : IsGraph graph
   pub shows : Shows vs ss graph
   pub can : CanTakeOut graph k
-
-abbrev pub TakesOutBoth : List vertex.Vertex → Slots → ℕ → List vertex.Vertex → Slots → Type 0
-TakesOutBoth vs ss k ws ts =
-    (g : GraphOf) → Shows vs ss g → IsGraph g → CanTakeOut g k → CanTakeOut (without_arc g k) (k + 1) → Shows ws ts (without_arc (without_arc g k) (k + 1))
-
-pub record CanBothBeTakenOut (vs : List vertex.Vertex) (ss : Slots) (k : ℕ) : Type 0 where
-  pub graph : GraphOf
-  pub sound : IsGraph graph
-  pub shows : Shows vs ss graph
-  pub can : CanTakeOut graph k
-  pub next : CanTakeOut (without_arc graph k) (k + 1)

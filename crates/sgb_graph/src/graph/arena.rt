@@ -1,5 +1,5 @@
 //! The arcs of a graph by number.
-ghost use Rattle.std.specs.Prelude.{◌≡◌, ◌<◌, ◌≤◌, ◌^◌, ◌-◌, ◌+◌, ◌*◌, ◌∷◌, ◌++◌, ◌&&◌, [], true, false, All, FitsSigned, length, map, vec_len, vec_capacity, take, is_some, IsSome, None, Some, IfOk, IfErr, OnOk, OnErr, slice_index_or, slice_set};
+ghost use Rattle.std.specs.Prelude.{◌≡◌, ◌<◌, ◌≤◌, ◌^◌, ◌-◌, ◌+◌, ◌*◌, ◌∷◌, ◌++◌, ◌&&◌, [], true, false, All, FitsSigned, length, map, vec_len, vec_capacity, take, is_some, IsSome, None, Some, IfOk, IfErr, IsErr, OnOk, OnErr, slice_index_or, slice_set};
 ghost use Rattle.std.specs.List.{list_all, zip};
 ghost use Rattle.sgb_graph.specs.declared.field.Util.TheVariants as utils;
 ghost use Rattle.sgb_graph.specs.Builder.{insertion};
@@ -25,7 +25,7 @@ use super::room::make_room;
 use super::same::{is_link_same, is_tip_same};
 use super::vertices::Vertices;
 use crate::{ArcNo, Refusal, Tip, Util, VertexNo};
-use std::alloc::Global;
+use std::alloc::{AllocError, Global};
 use std::marker::Model;
 use std::mem::{self, size_of};
 
@@ -93,14 +93,13 @@ impl Arena {
     }
 
     /// The slots of these records: those that have an owner are arcs, which lead nowhere yet.
-    pub fn laid(alloc: Global, rows: &[Chained]) -> Result<Arena, Refusal>
+    pub fn laid(alloc: Global, rows: &[Chained]) -> Result<Arena, AllocError>
         requires { length rows.now ≤ 1000000 }
         ensures ok { IfOk result (λ slots. slots ≡ map laid_slot rows.now) }
-        ensures err { IfErr result (λ e. e ≡ Refusal.NoRoom) }
+        ensures room { IsErr result → 0 < length rows.now }
     {
-        let mut cells = Vec::new(alloc);
-        let mut fields = Vec::new(alloc);
-        make_room(&mut cells, &mut fields, rows.len())?;
+        let mut cells = Vec::with_capacity(alloc, rows.len())?;
+        let fields = Vec::with_capacity(alloc, rows.len())?;
         push_laid(&mut cells, rows);
         Ok(Arena {
             cells,
@@ -109,7 +108,6 @@ impl Arena {
         })
     }
 
-    #[inline]
     pub fn len(&self) -> usize
         ensures { result ≡ length self.now }
     {
@@ -243,12 +241,11 @@ impl Arena {
         ensures fields { result ≡ fields_in (slot_at self.old index) }
         ensures slots { self.new ≡ slice_set self.old index None }
     {
-        self.cells[index] = hole();
+        self.cells[index].owner = OwnerCode::none();
         take_fields(&mut self.fields, index)
     }
 
     /// An arc has this number.
-    #[inline]
     pub fn has(&self, number: ArcNo) -> bool
         ensures { result ≡ is_some (slot_at self.now number.0) }
     {
@@ -256,7 +253,6 @@ impl Arena {
     }
 
     // What is kept of this slot but its fields.
-    #[inline]
     fn cell(&self, index: usize) -> Cell
         requires { index < length self.now }
         ensures { slot_at self.now index ≡ slot_with (fields_in (slot_at self.now index)) result }
@@ -265,7 +261,6 @@ impl Arena {
     }
 
     // Keeps this of the slot, beside its fields.
-    #[inline]
     fn set_cell(&mut self, index: usize, cell: Cell)
         requires { IsSome (slot_at self.old index) }
         ensures { self.new ≡ slice_set self.old index (slot_with (fields_in (slot_at self.old index)) cell) }
@@ -274,7 +269,6 @@ impl Arena {
     }
 
     /// The arc of this number: its owner, tip and length.
-    #[inline]
     pub fn arc(&self, number: ArcNo) -> Option<ArcView>
         requires { number.0 < length self.now }
         ensures { result ≡ view_in (slot_at self.now number.0) }
@@ -291,7 +285,6 @@ impl Arena {
     }
 
     /// The tip of a live arc.
-    #[inline]
     pub fn tip(&self, number: ArcNo) -> Tip
         requires { IsSome (slot_at self.now number.0) }
         ensures { tip_in (slot_at self.now number.0) ≡ Some result }
@@ -300,7 +293,6 @@ impl Arena {
     }
 
     /// The length of a live arc.
-    #[inline]
     pub fn length(&self, number: ArcNo) -> i64
         requires { IsSome (slot_at self.now number.0) }
         ensures { result ≡ len_in (slot_at self.now number.0) }
@@ -320,7 +312,6 @@ impl Arena {
     }
 
     /// The arc leads to its owner.
-    #[inline]
     pub fn is_loop(&self, number: ArcNo) -> bool
         requires { number.0 < length self.now }
         ensures { result ≡ is_loop_in (slot_at self.now number.0) }
@@ -333,7 +324,6 @@ impl Arena {
     }
 
     /// The arc that follows a live one in its list.
-    #[inline]
     pub fn next_after(&self, number: ArcNo) -> Link
         requires { IsSome (slot_at self.now number.0) }
         ensures { result ≡ next_at self.now number.0 }
@@ -359,7 +349,6 @@ impl Arena {
     }
 
     /// How many fields of the graph name the arc of this number.
-    #[inline]
     pub fn names(&self, number: ArcNo) -> Option<u32>
         ensures { result ≡ names_counted (slot_at self.now number.0) }
     {
@@ -374,7 +363,6 @@ impl Arena {
     }
 
     /// Counts one more field that has this value.
-    #[inline]
     pub fn gain_name(&mut self, value: &Util)
         requires { IsCounted self.old 0 (2 ^ 32 - 1) value.now }
         ensures { self.new ≡ slots_gaining self.old value.now }
@@ -389,7 +377,6 @@ impl Arena {
     }
 
     /// Counts one field less that has this value.
-    #[inline]
     pub fn lose_name(&mut self, value: &Util)
         requires { IsCounted self.old 1 (2 ^ 32) value.now }
         ensures { self.new ≡ slots_losing self.old value.now }
@@ -416,7 +403,6 @@ impl Arena {
     }
 
     /// Gives a live arc another tip and another length.
-    #[inline]
     pub fn aim(&mut self, number: ArcNo, tip: TipCode, len: i64)
         requires { IsSome (slot_at self.old number.0) }
         ensures { self.new ≡ slice_set self.old number.0 (with_aim_in tip len (slot_at self.old number.0)) }
@@ -428,16 +414,7 @@ impl Arena {
     }
 
     /// The fields of a live arc.
-    #[inline]
-    pub fn fields(&self, number: ArcNo) -> &[Util; 2]
-        requires { IsSome (slot_at self.now number.0) }
-        ensures { result.now ≡ fields_in (slot_at self.now number.0) }
-    {
-        self.fields_at(number.0 as usize)
-    }
-
-    #[inline]
-    fn fields_at(&self, index: usize) -> &[Util; 2]
+    pub fn fields(&self, index: usize) -> &[Util; 2]
         requires { IsSome (slot_at self.now index) }
         ensures { result.now ≡ fields_in (slot_at self.now index) }
     {
@@ -445,14 +422,13 @@ impl Arena {
     }
 
     /// A field of a live arc.
-    #[inline]
     pub fn field(&self, number: ArcNo, place: usize) -> &Util
         requires number { number.0 < length self.now }
         requires fields { length (fields_in (slot_at self.now number.0)) ≡ 2 }
         requires place { place < 2 }
         ensures { result.now ≡ slice_index_or (fields_in (slot_at self.now number.0)) place utils.Zero }
     {
-        &self.fields(number)[place]
+        &self.fields(number.0 as usize)[place]
     }
 
     /// Puts a value into a field of a live arc, and gives the one that was there. Counts no names. Takes no memory,
@@ -509,7 +485,7 @@ impl Arena {
                 is_tip_same(cell.tip.get(), other_cell.tip.get())
                     && is_link_same(cell.next, other_cell.next)
                     && cell.len == other_cell.len
-                    && self.fields_at(index) == other.fields_at(index)
+                    && self.fields(index) == other.fields(index)
             }
             (None, None) => true,
             _ => false,
@@ -517,20 +493,6 @@ impl Arena {
     }
 }
 
-#[inline]
-fn hole() -> Cell
-    ensures { result.owner ≡ None }
-{
-    Cell {
-        owner: OwnerCode::none(),
-        tip: TipCode::new(Tip::Zero),
-        next: Link::none(),
-        names: 0,
-        len: 0,
-    }
-}
-
-#[inline]
 fn new_cell(owner: VertexNo, to: VertexNo, next: Link, len: i64) -> Cell
     requires owner { owner.0 < 65535 }
     requires to { to.0 < 65535 }
@@ -557,7 +519,6 @@ fn push_laid(cells: &mut Vec<Cell>, rows: &[Chained])
     }
 }
 
-#[inline]
 fn laid_cell(row: &Chained) -> Cell
     ensures { result ≡ laid_cell row.now }
 {
@@ -590,7 +551,6 @@ fn is_cell_honest(letters: &[u8], cell: &Cell, fields: &[Util; 2]) -> bool
 }
 
 // A hole, or an arc that leads to a vertex.
-#[inline]
 fn is_aimed(cell: &Cell) -> bool
     ensures { result ≡ is_aimed cell.now }
 {

@@ -1,5 +1,6 @@
 //! Graphs from their saved parts.
-ghost use Rattle.std.specs.Prelude.{◌≡◌, ◌⊎◌, IfOk, IfErr};
+ghost use Rattle.std.specs.Prelude.{◌≡◌, ◌⊎◌, ◌<◌, ◌+◌, length, IfOk, IfErr};
+ghost use Rattle.std.specs.Result.{IsErrOf};
 ghost use Rattle.sgb_graph.specs.Graph.{GraphOf};
 ghost use Rattle.sgb_graph.specs.Parts.{Builds};
 
@@ -14,34 +15,30 @@ impl Graph {
     ///
     /// Refused `BadOperand` where no graph has these parts: where chains meet, return or leave the records; where a
     /// tip or a value names no vertex, no record or a hole; above 65,535 vertices, 1,000,000 records or 160 bytes of
-    /// id. Takes memory for the graph and eight bytes for each record, and time of the parts.
+    /// id. Takes memory for the graph and eight bytes for each record, and time of the parts; of parts without vertices
+    /// and records it takes none.
     #[inline(never)]
     pub fn build(alloc: Global, parts: Parts) -> Result<Graph, Refusal>
         ensures ok { IfOk result (λ g. Builds parts g) }
         ensures err { IfErr result (λ e. (e ≡ Refusal.NoRoom) ⊎
             ((e ≡ Refusal.BadOperand) × ((g : GraphOf) → Builds parts g → ⊥))) }
+        ensures room { IsErrOf result Refusal.NoRoom → 0 < length parts.vertices + length parts.arcs }
     {
-        let Parts {
-            id,
-            types,
-            fields,
-            vertices,
-            arcs,
-        } = parts;
-        let vertices = vertices.into_vec();
-        let arcs = arcs.into_vec();
+        let vertices = parts.vertices.into_vec();
+        let arcs = parts.arcs.into_vec();
         if vertices.len() > MOST_VERTICES as usize || arcs.len() > MOST_ARCS as usize {
             return Err(Refusal::BadOperand);
         }
-        let mut graph = Graph::laid(alloc, &vertices, &arcs)?;
-        if !graph.can_name_all(&fields, &vertices) {
+        if parts.id.bytes().len() > 160 {
+            return Err(Refusal::BadOperand);
+        }
+        let mut graph = Graph::laid(alloc, parts.id, parts.types, &vertices, &arcs)?;
+        if !graph.can_name_all(&parts.fields, &vertices) {
             return Err(Refusal::BadOperand);
         }
         graph.fill_vertices(vertices);
         graph.fill_arcs(arcs)?;
-        graph.fill_own(fields);
-        let _ = graph.set_types(types);
-        let _ = graph.set_id(id)?;
+        graph.fill_own(parts.fields);
         Ok(graph)
     }
 }

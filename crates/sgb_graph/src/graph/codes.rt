@@ -41,14 +41,12 @@ impl Model for Link {
 }
 
 impl Link {
-    #[inline]
     pub fn none() -> Link
         ensures { result ≡ None }
     {
         Link { code: NONE }
     }
 
-    #[inline]
     pub fn to(number: ArcNo) -> Link
         requires { number.0 ≤ 1000000 }
         ensures { result ≡ Some number }
@@ -56,7 +54,6 @@ impl Link {
         Link { code: number.0 }
     }
 
-    #[inline]
     pub fn get(self) -> Option<ArcNo>
         ensures { result ≡ self }
     {
@@ -93,14 +90,12 @@ impl Model for OwnerCode {
 }
 
 impl OwnerCode {
-    #[inline]
     pub fn none() -> OwnerCode
         ensures { result ≡ None }
     {
         OwnerCode { code: NONE }
     }
 
-    #[inline]
     pub fn new(vertex: VertexNo) -> OwnerCode
         requires { vertex.0 < 65535 }
         ensures { result ≡ Some vertex }
@@ -108,7 +103,6 @@ impl OwnerCode {
         OwnerCode { code: vertex.0 }
     }
 
-    #[inline]
     pub fn get(self) -> Option<VertexNo>
         ensures { result ≡ self }
     {
@@ -144,7 +138,6 @@ impl Model for TipCode {
 }
 
 impl TipCode {
-    #[inline]
     pub fn new(tip: Tip) -> TipCode
         requires { IsTip 65535 tip }
         ensures { result ≡ tip }
@@ -156,7 +149,6 @@ impl TipCode {
         }
     }
 
-    #[inline]
     pub fn get(self) -> Tip
         ensures { result ≡ self }
     {

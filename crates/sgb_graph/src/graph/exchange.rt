@@ -1,11 +1,34 @@
 //! Putting a value into a utility field.
 ghost use Rattle.std.specs.Prelude.{◌≡◌};
-ghost use Rattle.sgb_graph.specs.Private.Exchange.{IsPlaceIn, value_in, fields_with, vertices_with, slots_with, Exchanges, CanBeExchanged};
+ghost use Rattle.sgb_graph.specs.Graph.{IsGraph};
+ghost use Rattle.sgb_graph.specs.Edit.{with_util, util_at};
+ghost use Rattle.sgb_graph.specs.Private.Exchange.{IsPlaceIn, value_in, fields_with, vertices_with, slots_with, CanExchange};
 
-use super::Vertices;
 use super::arena::Arena;
+use super::{Graph, Vertices};
 use crate::{Place, Util};
 use std::mem;
+
+impl Graph {
+    // Gives a field another value, as it is stored, and answers the one that it had.
+    pub(super) fn swap_util(&mut self, place: Place, value: Util) -> Util
+        requires { CanExchange self.old place value }
+        ensures value { result ≡ util_at self.old place }
+        ensures graph { self.new ≡ with_util self.old place value }
+        ensures sound { IsGraph self.new }
+    {
+        self.slots.gain_name(&value);
+        let old = replace_value(
+            &mut self.fields,
+            &mut self.vertices,
+            &mut self.slots,
+            place,
+            value,
+        );
+        self.slots.lose_name(&old);
+        old
+    }
+}
 
 // Puts the value into the field, and gives the one that was there. No count of names is touched.
 fn replace_value(
@@ -26,21 +49,4 @@ fn replace_value(
         Place::Arc(number, field) => slots.replace_field(number, field.place(), value),
         Place::Graph(field) => mem::replace(&mut fields[field.place()], value),
     }
-}
-
-// Puts the value into the field, counts its name and forgets the old one's, and gives the old one.
-pub(super) fn exchange(
-    fields: &mut [Util; 6],
-    vertices: &mut Vertices,
-    slots: &mut Arena,
-    place: Place,
-    value: Util,
-) -> Util
-    requires { CanBeExchanged fields.old vertices.old slots.old place value }
-    ensures { Exchanges fields.old vertices.old slots.old place value result fields.new vertices.new slots.new }
-{
-    slots.gain_name(&value);
-    let old = replace_value(fields, vertices, slots, place, value);
-    slots.lose_name(&old);
-    old
 }

@@ -1,4 +1,4 @@
-//! The fields of arcs, which stand apart from all else, as far as one was ever set: those of all others are Zero.
+//! The fields of arcs, kept beside their cells, as far as one was ever set: those of all others are Zero.
 ghost use Rattle.std.specs.Prelude.{◌≡◌, ◌<◌, ◌≤◌, ◌+◌, max, length, vec_len, vec_capacity, slice_index_or, slice_set};
 ghost use Rattle.sgb_graph.specs.declared.field.Util.TheVariants as utils;
 ghost use Rattle.sgb_graph.specs.Private.Cells.{two_zeros, kept_at, SameFields, PutsFields, is_zero};
@@ -12,7 +12,6 @@ pub(super) fn two_zeros() -> [Util; 2]
     [Util::Zero, Util::Zero]
 }
 
-#[inline]
 pub(super) fn is_zero(value: &Util) -> bool
     ensures { result ≡ is_zero value.now }
 {
@@ -20,7 +19,6 @@ pub(super) fn is_zero(value: &Util) -> bool
 }
 
 // The fields of the arc of this number, where those beyond the end are the zeros.
-#[inline]
 pub(super) fn kept_at<'a>(
     fields: &'a [[Util; 2]],
     zeros: &'a [Util; 2],

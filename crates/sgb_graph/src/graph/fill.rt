@@ -77,7 +77,8 @@ impl Graph {
     // Gives the graph's own fields these values.
     pub(super) fn fill_own(&mut self, fields: [Util; 6])
         requires { can_name_each self.old fields ≡ true }
-        ensures { self.new ≡ record self.old { fields = map stored fields } }
+        ensures value { self.new ≡ record self.old { fields = map stored fields } }
+        ensures sound { IsGraph self.new }
     {
         let (uu, vv, ww, xx, yy, zz) = six(fields);
         self.fill(Place::Graph(GraphField::Uu), uu);
@@ -116,7 +117,6 @@ impl Graph {
     }
 
     // Gives a live arc this tip and this length.
-    #[inline]
     fn aim(&mut self, number: ArcNo, tip: Tip, len: i64)
         requires live { has_arc self.old number.0 ≡ true }
         requires tip { can_lead (n_of self.old) tip ≡ true }
@@ -144,7 +144,6 @@ impl Graph {
     }
 
     // The field and the value that it is given are Zero.
-    #[inline]
     fn stays_zero(&self, place: Place, value: &Util) -> bool
         requires { IsTrue (has_place self.now place) }
         ensures { result ≡ (is_zero value.now && is_zero (util_at self.now place)) }
@@ -154,7 +153,6 @@ impl Graph {
 }
 
 // A tip that names a vertex names one of so many.
-#[inline]
 fn can_lead(n: u32, tip: Tip) -> bool
     ensures { result ≡ can_lead n tip }
 {

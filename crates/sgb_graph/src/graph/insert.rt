@@ -68,7 +68,6 @@ impl Graph {
     }
 
     // Whether there are both vertices.
-    #[inline]
     fn has_both(&self, from: VertexNo, to: VertexNo) -> bool
         ensures value { result ≡ (has_vertex self.now from.0 && has_vertex self.now to.0) }
         ensures sound { IsGraph self.now }

@@ -1,15 +1,13 @@
 //! Laying the chains of saved records into the lists of a graph. A chain is followed over owners and links alone, which take
 //! eight bytes a record, and the arcs are then laid in the order of their numbers. What a record tells beside its link is put in
 //! later.
-ghost use Rattle.std.specs.Prelude.{◌≡◌, ◌<◌, ◌≤◌, ◌+◌, length, map, IsSome, None, Some, IfOk, IfErr, OnOk, slice_set};
-ghost use Rattle.sgb_graph.specs.New.{new_graph};
+ghost use Rattle.std.specs.Prelude.{◌≡◌, ◌<◌, ◌≤◌, ◌+◌, ◌⊎◌, length, map, IsSome, IsErr, None, Some, IfOk, IfErr, OnOk, slice_set};
 ghost use Rattle.sgb_graph.specs.Private.Lay.{Lays, RefusesToLay, FirstsOf, OwnsBelow, Owns, links_of, nexts, kept_link, row_at, owned_row, unowned};
 
 use super::arena::Arena;
 use super::codes::{Link, OwnerCode};
-use super::vertices::Vertices;
-use super::{Graph, MOST_ARCS};
-use crate::{ArcNo, ArcPart, Refusal, VertexNo, VertexPart};
+use super::{Graph, MOST_ARCS, Vertices, six_zeros};
+use crate::{ArcNo, ArcPart, Refusal, Text, Types, VertexNo, VertexPart};
 use std::alloc::{AllocError, Global};
 
 /// A record's link, and the vertex whose chain it stands in, as far as the chains were followed.
@@ -20,61 +18,57 @@ pub(super) struct Chained {
 }
 
 impl Graph {
-    // The graph whose lists are the chains of these records, and whose arcs lead nowhere yet. Refused where there is none.
+    // The graph of this id and these letters whose lists are the chains of these records, and whose arcs lead nowhere yet.
+    // Refused where there is none.
     pub(super) fn laid(
         alloc: Global,
-        vertices: &[VertexPart],
+        id: Text,
+        types: Types,
+        parts: &[VertexPart],
         arcs: &[ArcPart],
     ) -> Result<Graph, Refusal>
-        requires vertices { length vertices.now ≤ 65535 }
+        requires id { length id ≤ 160 }
+        requires vertices { length parts.now ≤ 65535 }
         requires arcs { length arcs.now ≤ 1000000 }
-        ensures ok { IfOk result (Lays vertices.now (links_of arcs.now)) }
-        ensures err { IfErr result (RefusesToLay vertices.now (links_of arcs.now)) }
+        ensures ok { IfOk result (Lays parts.now (links_of arcs.now)) }
+        ensures own { IfOk result (λ g. (g.id ≡ id) × (g.types ≡ types)) }
+        ensures err { IfErr result (λ e. ((e ≡ Refusal.NoRoom) × (0 < length parts.now + length arcs.now)) ⊎
+            RefusesToLay parts.now (links_of arcs.now) e) }
     {
+        let _ = id.bytes();
+        let _ = types.letters();
         let mut rows = unowned(alloc, arcs)?;
-        let holes = own_all(vertices, &mut rows)?;
-        let mut graph = Graph::new(alloc, vertices.len() as u32)?;
-        graph.list(alloc, vertices, &rows, holes)?;
-        Ok(graph)
-    }
-
-    // Lists the arcs of these records, so many of which stand in no chain.
-    fn list(
-        &mut self,
-        alloc: Global,
-        vertices: &[VertexPart],
-        rows: &[Chained],
-        holes: u32,
-    ) -> Result<(), Refusal>
-        requires new { self.old ≡ new_graph (length vertices.now) }
-        requires owns { Owns vertices.now rows.now holes }
-        ensures ok { OnOk result (Lays vertices.now (nexts rows.now) self.new) }
-        ensures err { IfErr result (λ e. e ≡ Refusal.NoRoom) }
-    {
-        let slots = Arena::laid(alloc, rows)?;
-        link_firsts(&mut self.vertices, vertices);
-        self.slots = slots;
-        self.holes = holes;
-        Ok(())
+        let holes = own_all(parts, &mut rows)?;
+        let slots = Arena::laid(alloc, &rows)?;
+        let mut vertices = Vertices::blank(alloc, parts.len() as u32)?;
+        link_firsts(&mut vertices, parts);
+        Ok(Graph {
+            id,
+            types,
+            fields: six_zeros(),
+            vertices,
+            slots,
+            holes,
+        })
     }
 }
 
 // The links of the records, none of which stands in a chain so far.
 fn unowned(alloc: Global, arcs: &[ArcPart]) -> Result<Vec<Chained>, AllocError>
-    ensures { IfOk result (λ rows. rows.items ≡ map unowned arcs.now) }
+    ensures ok { IfOk result (λ rows. rows.items ≡ map unowned arcs.now) }
+    ensures room { IsErr result → 0 < length arcs.now }
 {
     let mut rows = Vec::with_capacity(alloc, arcs.len())?;
     for part in arcs {
-        rows.push(Chained {
+        rows.push_reserved(Chained {
             owner: OwnerCode::none(),
             next: kept_link(part.next),
-        })?;
+        });
     }
     Ok(rows)
 }
 
 // A link in four bytes. One beyond all records stays beyond them.
-#[inline]
 fn kept_link(next: Option<ArcNo>) -> Link
     ensures { result ≡ kept_link 1000000 next }
 {
@@ -124,7 +118,6 @@ fn own_chain(
 
 // Gives a record to the vertex, and answers which one follows. Refused where there is none of this number, or where it stands
 // in a chain before.
-#[inline]
 fn own(vertex: VertexNo, rows: &mut [Chained], number: ArcNo) -> Result<Option<ArcNo>, Refusal>
     requires { vertex.0 < 65535 }
     ensures low { OnOk result (number.0 < length rows.old) }

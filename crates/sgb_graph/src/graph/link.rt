@@ -5,7 +5,7 @@ ghost use Rattle.std.specs.Option.{ForSome};
 ghost use Rattle.sgb_graph.specs.Private.Arena.{IsLinked, numbers};
 ghost use Rattle.sgb_graph.specs.Private.Link.{number_before, link_after, vertices_relinked, slots_relinked, slots_gaining, slots_losing, slots_gaining_both, slots_losing_both, value_at, IsCounted, PutsBack, CanBePutBack, TakesOut, CanBeTakenOut};
 
-use super::arena::{Arena, Slot};
+use super::arena::Arena;
 use super::codes::{Link, TipCode};
 use super::{Vertices, Walk};
 use crate::{ArcNo, CutArc, Util, VertexNo};
@@ -110,20 +110,12 @@ pub(super) fn take_out(vertices: &mut Vertices, slots: &mut Arena, number: ArcNo
     let slot = slots.remove(number);
     replace_link(vertices, slots, owner, before, slot.next);
     lose_names(slots, &slot.fields);
-    let Slot {
-        owner,
-        tip,
-        next: _,
-        names: _,
-        len,
-        fields,
-    } = slot;
     CutArc {
         number,
-        owner,
+        owner: slot.owner,
         place,
-        tip: tip.get(),
-        len,
-        fields,
+        tip: slot.tip.get(),
+        len: slot.len,
+        fields: slot.fields,
     }
 }

@@ -22,7 +22,6 @@ impl Graph {
     ghost use Rattle.sgb_graph.specs.Read.{arc_view, leads_on, ShowsEntry, IsNextOf};
 
     /// How many vertices there are.
-    #[inline]
     pub fn n(&self) -> u32
         ensures value { result ≡ n_of self.now }
         ensures limit { result ≤ 65535 }
@@ -32,7 +31,6 @@ impl Graph {
     }
 
     /// How many arcs live.
-    #[inline]
     pub fn m(&self) -> u32
         ensures value { result ≡ m_of self.now }
         ensures limit { result ≤ made_of self.now }
@@ -42,7 +40,6 @@ impl Graph {
     }
 
     /// How many arc numbers were given out, those of holes included.
-    #[inline]
     pub fn made(&self) -> u32
         ensures value { result ≡ made_of self.now }
         ensures limit { result ≤ 1000000 }
@@ -52,7 +49,6 @@ impl Graph {
     }
 
     /// The bytes of the id.
-    #[inline]
     pub fn id(&self) -> &[u8]
         ensures value { result.now ≡ self.now.id }
         ensures id { IsId self.now.id }
@@ -61,7 +57,6 @@ impl Graph {
     }
 
     /// The letters of the utility fields.
-    #[inline]
     pub fn types(&self) -> Types
         ensures value { result ≡ self.now.types }
         ensures types { IsTypes self.now.types }
@@ -70,7 +65,6 @@ impl Graph {
     }
 
     /// The bytes of a vertex's label.
-    #[inline]
     pub fn label(&self, vertex: VertexNo) -> &[u8]
         requires { vertex.0 < n_of self.now }
         ensures value { result.now ≡ label_of self.now vertex.0 }
@@ -80,7 +74,6 @@ impl Graph {
     }
 
     /// The numbers of a vertex's arcs, the newest first. Each is live.
-    #[inline]
     pub fn arcs(&self, vertex: VertexNo) -> Walk<'_>
         requires { vertex.0 < n_of self.now }
         ensures value { result ≡ arcs_of self.now vertex.0 }
@@ -95,7 +88,6 @@ impl Graph {
 
     /// The numbers of a vertex's arcs, the newest first, as many as there were insertions: where `directed` is false
     /// the second halves of loops are left out. Each is live. Takes no memory.
-    #[inline]
     pub fn walk(&self, vertex: VertexNo, directed: bool) -> Walk<'_>
         requires { vertex.0 < n_of self.now }
         ensures value { result ≡ walk directed self.now vertex.0 }
@@ -109,7 +101,6 @@ impl Graph {
     }
 
     /// The arc of this number, or `None` at a hole.
-    #[inline]
     pub fn arc(&self, number: ArcNo) -> Option<ArcView>
         requires { number.0 < made_of self.now }
         ensures value { result ≡ arc_view self.now number.0 }
@@ -128,7 +119,6 @@ impl Graph {
     }
 
     /// The tip of a live arc.
-    #[inline]
     pub fn arc_tip(&self, number: ArcNo) -> Tip
         requires { IsSome (arc_at self.now number.0) }
         ensures { result ≡ (entry_at self.now number.0).tip }
@@ -137,7 +127,6 @@ impl Graph {
     }
 
     /// The length of a live arc.
-    #[inline]
     pub fn arc_len(&self, number: ArcNo) -> i64
         requires { IsSome (arc_at self.now number.0) }
         ensures { result ≡ (entry_at self.now number.0).len }
@@ -146,7 +135,6 @@ impl Graph {
     }
 
     /// The arc that follows a live one in its owner's list.
-    #[inline]
     pub fn next_of(&self, number: ArcNo) -> Option<ArcNo>
         requires { IsSome (arc_at self.now number.0) }
         ensures { IsNextOf self.now number.0 result }
@@ -155,25 +143,22 @@ impl Graph {
     }
 
     /// The utility fields of a vertex, in the order of `VertexField`.
-    #[inline]
     pub fn vertex_fields(&self, vertex: VertexNo) -> &[Util; 6]
         requires { vertex.0 < n_of self.now }
         ensures { result.now ≡ (vertex_at self.now vertex.0).fields }
     {
-        self.vertices.fields(vertex)
+        self.vertices.fields(vertex.0 as usize)
     }
 
     /// The utility fields of a live arc, in the order of `ArcField`.
-    #[inline]
     pub fn arc_fields(&self, number: ArcNo) -> &[Util; 2]
         requires { IsSome (arc_at self.now number.0) }
         ensures { result.now ≡ (entry_at self.now number.0).fields }
     {
-        self.slots.fields(number)
+        self.slots.fields(number.0 as usize)
     }
 
     /// The utility fields of the graph itself, in the order of `GraphField`.
-    #[inline]
     pub fn graph_fields(&self) -> &[Util; 6]
         ensures { result.now ≡ self.now.fields }
     {

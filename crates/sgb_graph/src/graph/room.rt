@@ -8,7 +8,6 @@ use crate::{Refusal, Util};
 use std::alloc::AllocError;
 
 // Takes room for so many arcs more, and for the fields of all.
-#[inline]
 pub(super) fn make_room(
     cells: &mut Vec<Cell>,
     fields: &mut Vec<[Util; 2]>,

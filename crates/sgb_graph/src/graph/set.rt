@@ -10,7 +10,6 @@ ghost use Rattle.sgb_graph.specs.Set.{IsStorable};
 ghost use Rattle.sgb_graph.specs.Private.Arena.{len_in, with_len_in};
 
 use super::Graph;
-use super::exchange::exchange;
 use crate::{ArcNo, GraphDelta, Label, Place, Refusal, Text, Types, Util, VertexNo};
 use std::mem;
 
@@ -59,14 +58,7 @@ impl Graph {
         if !self.has_place(place) || !self.can_name(&value) {
             return Err(Refusal::BadOperand);
         }
-        let value = stored(value);
-        let old = exchange(
-            &mut self.fields,
-            &mut self.vertices,
-            &mut self.slots,
-            place,
-            value,
-        );
+        let old = self.swap_util(place, stored(value));
         Ok(GraphDelta::SetUtil(place, old))
     }
 
@@ -143,7 +135,6 @@ impl Graph {
     }
 
     /// The value of a utility field.
-    #[inline]
     pub fn util(&self, place: Place) -> &Util
         requires { IsTrue (has_place self.now place) }
         ensures { result.now ≡ util_at self.now place }

@@ -1,5 +1,5 @@
 //! The vertices of a graph by number.
-ghost use Rattle.std.specs.Prelude.{◌≡◌, ◌<◌, ◌≤◌, ◌+◌, ◌∷◌, ◌++◌, [], true, max, length, replicate, vec_len, vec_capacity, OnOk, OnErr, IfOk, slice_index_or, slice_set};
+ghost use Rattle.std.specs.Prelude.{◌≡◌, ◌<◌, ◌≤◌, ◌+◌, ◌∷◌, ◌++◌, [], true, max, length, replicate, vec_len, vec_capacity, OnOk, OnErr, IfOk, IsErr, slice_index_or, slice_set};
 ghost use Rattle.std.specs.List.{list_all};
 ghost use Rattle.sgb_graph.specs.declared.field.Util.TheVariants as utils;
 ghost use Rattle.sgb_graph.specs.Honest.{are_allowed};
@@ -61,7 +61,8 @@ impl Vertices {
 
     /// So many blank vertices.
     pub fn blank(alloc: Global, n: u32) -> Result<Vertices, AllocError>
-        ensures { IfOk result (λ v. v ≡ replicate n blank) }
+        ensures ok { IfOk result (λ v. v ≡ replicate n blank) }
+        ensures room { IsErr result → 0 < n }
     {
         let mut labels = Vec::with_capacity(alloc, n as usize)?;
         let mut firsts = Vec::with_capacity(alloc, n as usize)?;
@@ -78,7 +79,6 @@ impl Vertices {
         })
     }
 
-    #[inline]
     pub fn len(&self) -> usize
         ensures { result ≡ length self.now }
     {
@@ -86,7 +86,6 @@ impl Vertices {
     }
 
     /// Takes room for so many vertices more.
-    #[inline]
     pub fn reserve(&mut self, count: usize) -> Result<(), AllocError>
         ensures { self.new ≡ self.old }
     {
@@ -94,7 +93,6 @@ impl Vertices {
     }
 
     /// Adds a vertex without arcs, last.
-    #[inline]
     pub fn push(&mut self, label: Label, fields: [Util; 6]) -> Result<(), AllocError>
         ensures ok { OnOk result (self.new ≡ self.old ++ unlinked label fields ∷ []) }
         ensures unchanged { OnErr result (self.new ≡ self.old) }
@@ -106,7 +104,6 @@ impl Vertices {
         Ok(())
     }
 
-    #[inline]
     pub fn label(&self, vertex: VertexNo) -> &Label
         requires { vertex.0 < length self.now }
         ensures { result.now ≡ (vertex_in self.now vertex.0).label }
@@ -124,7 +121,6 @@ impl Vertices {
     }
 
     /// The link that leads to the first arc of a vertex.
-    #[inline]
     pub fn first(&self, vertex: VertexNo) -> Link
         requires { vertex.0 < length self.now }
         ensures { result ≡ (vertex_in self.now vertex.0).first }
@@ -133,7 +129,6 @@ impl Vertices {
     }
 
     /// Replaces the first link of a vertex, and gives the one that was there.
-    #[inline]
     pub fn replace_first(&mut self, vertex: VertexNo, link: Link) -> Link
         requires { vertex.0 < length self.old }
         ensures old { result ≡ (vertex_in self.old vertex.0).first }
@@ -142,16 +137,8 @@ impl Vertices {
         mem::replace(&mut self.firsts[vertex.0 as usize], link)
     }
 
-    #[inline]
-    pub fn fields(&self, vertex: VertexNo) -> &[Util; 6]
-        requires { vertex.0 < length self.now }
-        ensures { result.now ≡ (vertex_in self.now vertex.0).fields }
-    {
-        self.fields_at(vertex.0 as usize)
-    }
-
-    #[inline]
-    fn fields_at(&self, index: usize) -> &[Util; 6]
+    /// The fields of a vertex.
+    pub fn fields(&self, index: usize) -> &[Util; 6]
         requires { index < length self.now }
         ensures { result.now ≡ (vertex_in self.now index).fields }
     {
@@ -159,14 +146,13 @@ impl Vertices {
     }
 
     /// A field of a vertex.
-    #[inline]
     pub fn field(&self, vertex: VertexNo, place: usize) -> &Util
         requires vertex { vertex.0 < length self.now }
         requires fields { length (vertex_in self.now vertex.0).fields ≡ 6 }
         requires place { place < 6 }
         ensures { result.now ≡ slice_index_or (vertex_in self.now vertex.0).fields place utils.Zero }
     {
-        &self.fields(vertex)[place]
+        &self.fields(vertex.0 as usize)[place]
     }
 
     /// Puts a value into a field of a vertex, and gives the one that was there. Takes no memory, but the first value
@@ -211,8 +197,8 @@ impl Vertices {
         is_row_same(
             &self.labels[index],
             &other.labels[index],
-            self.fields_at(index),
-            other.fields_at(index),
+            self.fields(index),
+            other.fields(index),
             self.firsts[index],
             other.firsts[index],
         )
@@ -220,7 +206,6 @@ impl Vertices {
 }
 
 // Takes room for so many vertices more, for the first link of each, and for the fields of all.
-#[inline]
 fn make_room(
     labels: &mut Vec<Label>,
     firsts: &mut Vec<Link>,
@@ -257,7 +242,6 @@ fn is_row_same(
 }
 
 // The fields of the vertex of this number, where those beyond the end are the zeros.
-#[inline]
 fn values_at<'a>(fields: &'a [[Util; 6]], zeros: &'a [Util; 6], index: usize) -> &'a [Util; 6]
     requires { zeros.now ≡ six_zeros }
     ensures { result.now ≡ values_at fields.now index }
@@ -282,7 +266,6 @@ fn fill_to(fields: &mut Vec<[Util; 6]>, count: usize)
 }
 
 // Gives the vertex of this number, which is the last, these fields. Most are Zero, and then nothing is touched.
-#[inline]
 fn put_last(fields: &mut Vec<[Util; 6]>, index: usize, values: [Util; 6])
     requires last { vec_len fields.old ≤ index }
     requires room { index < vec_capacity fields.old }
@@ -296,7 +279,6 @@ fn put_last(fields: &mut Vec<[Util; 6]>, index: usize, values: [Util; 6])
     }
 }
 
-#[inline]
 fn are_zero(values: &[Util; 6]) -> bool
     ensures { result ≡ true → values.now ≡ six_zeros }
 {

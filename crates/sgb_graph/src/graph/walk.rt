@@ -32,7 +32,6 @@ impl<'a> Model for Walk<'a> {
 }
 
 impl<'a> Walk<'a> {
-    #[inline]
     pub(super) fn new(slots: &'a Arena, first: Link, directed: bool) -> Walk<'a>
         requires { IsLinked slots.now first }
         ensures { result ≡ walked directed slots.now (numbers slots.now first) }
@@ -54,7 +53,6 @@ impl<'a> Iterator for Walk<'a> {
 
     ghost remaining = { item_count (λ ks. ks) };
 
-    #[inline]
     fn next(&mut self) -> Option<ArcNo> {
         match self.next.get() {
             Some(number) => {
@@ -68,7 +66,6 @@ impl<'a> Iterator for Walk<'a> {
 }
 
 // The link by which a walk goes on after this arc: past its second half.
-#[inline]
 fn past(slots: &Arena, directed: bool, number: ArcNo, next: Link) -> Link
     requires number { number.0 < length slots.now }
     requires linked { IsLinked slots.now next }
@@ -87,7 +84,6 @@ fn past(slots: &Arena, directed: bool, number: ArcNo, next: Link) -> Link
 }
 
 // Both are loops, and the second is numbered next, which is asked first, since it is seldom so.
-#[inline]
 fn is_pair(slots: &Arena, first: ArcNo, second: ArcNo) -> bool
     requires first { first.0 < length slots.now }
     requires second { second.0 < length slots.now }

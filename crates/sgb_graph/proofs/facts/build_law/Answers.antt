@@ -1,4 +1,4 @@
-use Rattle.sgb_graph.proofs.Owning.{builds_one}
+use Rattle.sgb_graph.proofs.ArcOwners.{builds_one}
 use Rattle.sgb_graph.proofs.facts.build_law.Goals as goal
 
 pub returns : goal.returns

@@ -1,4 +1,4 @@
-use Rattle.sgb_graph.proofs.Linking.{built_some, some_built}
+use Rattle.sgb_graph.proofs.LinkedParts.{built_some, some_built}
 use Rattle.sgb_graph.proofs.facts.parts_law.Goals as goal
 
 pub returns : goal.returns

@@ -1,4 +1,4 @@
-use Rattle.sgb_graph.proofs.Reverting.{reverted_is}
+use Rattle.sgb_graph.proofs.Reverts.{reverted_is}
 use Rattle.sgb_graph.proofs.facts.revert_law.Goals as goal
 
 pub returns : goal.returns

@@ -5,7 +5,7 @@ use Rattle.sgb_graph.specs.Edit.{with_arc, with_edge}
 use Rattle.std.proofs.lemmas.Result.{err_from_is_err_and}
 use Rattle.sgb_graph.specs.Graph.{GraphOf, made_of}
 use Rattle.sgb_graph.specs.Builder.{insertion}
-use Rattle.sgb_graph.proofs.Growing.{grown_arc, grown_edge, refused_all, all_room, few_at}
+use Rattle.sgb_graph.proofs.Insertions.{grown_arc, grown_edge, refused_all, all_room, few_at}
 use Rattle.sgb_graph.proofs.builder.Builder.insert.Goals as goal
 
 pub returns-in_err-add_arc-clause-value : goal.returns-in_err-add_arc-clause-value

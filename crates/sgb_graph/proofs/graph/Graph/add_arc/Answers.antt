@@ -5,7 +5,7 @@ use Rattle.sgb_graph.specs.declared.graph.Graph.TheInside.{Inside}
 use Rattle.sgb_graph.specs.Field.{arc_no}
 use Rattle.sgb_graph.proofs.Holes.{arc_accepted}
 use Rattle.sgb_graph.proofs.Shows.{opened}
-use Rattle.sgb_graph.proofs.Joining.{arc_joined}
+use Rattle.sgb_graph.proofs.NewArcs.{arc_joined}
 use Rattle.sgb_graph.proofs.graph.Graph.add_arc.Goals as goal
 
 pub invariant_of-self-2 : goal.invariant_of-self-2

@@ -2,7 +2,7 @@ use Rattle.std.proofs.Common.{refl}
 use Rattle.std.specs.Int.{w64}
 use Rattle.std.proofs.lemmas.Int.{to_z-of_z}
 use Rattle.sgb_graph.specs.declared.graph.Graph.TheInside.{Inside}
-use Rattle.sgb_graph.proofs.Aiming.{aim_done}
+use Rattle.sgb_graph.proofs.ArcChanges.{aim_done}
 use Rattle.sgb_graph.proofs.graph.Graph.aim.Goals as goal
 
 pub invariant_of-self : goal.invariant_of-self

@@ -3,7 +3,7 @@ use Rattle.sgb_graph.specs.declared.graph.read.ArcView.{ArcView}
 use Rattle.sgb_graph.specs.Graph.{IsGraph, IsTip, n_of, arc_at}
 use Rattle.sgb_graph.specs.Edit.{owner_of, entry_at}
 use Rattle.sgb_graph.specs.Read.{ShowsEntry}
-use Rattle.sgb_graph.proofs.Reading.{view_tip, entry_of_view}
+use Rattle.sgb_graph.proofs.Readers.{view_tip, entry_of_view}
 use Rattle.sgb_graph.proofs.Shows.{view_is}
 use Rattle.sgb_graph.proofs.graph.Graph.arc.Goals as goal
 

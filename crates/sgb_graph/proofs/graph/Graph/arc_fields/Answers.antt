@@ -1,5 +1,5 @@
 use Rattle.std.proofs.Common.{refl, ◌∙◌}
-use Rattle.sgb_graph.proofs.Reading.{fields_are}
+use Rattle.sgb_graph.proofs.Readers.{fields_are}
 use Rattle.sgb_graph.proofs.graph.Graph.arc_fields.Goals as goal
 
 pub returns : goal.returns

@@ -2,7 +2,7 @@ use Rattle.std.proofs.Common.{refl, ◌≡◌, ◌≤◌, length, All, sym, subs
 use Rattle.sgb_graph.specs.Graph.{IsGraph, made_of}
 use Rattle.sgb_graph.specs.Edit.{owner_of}
 use Rattle.sgb_graph.proofs.Graphs.{few_arcs_of}
-use Rattle.sgb_graph.proofs.Reading.{arcs_are, arcs_owned}
+use Rattle.sgb_graph.proofs.Readers.{arcs_are, arcs_owned}
 use Rattle.sgb_graph.proofs.Shows.{linked_at, within_made}
 use Rattle.sgb_graph.proofs.graph.Graph.arcs.Goals as goal
 

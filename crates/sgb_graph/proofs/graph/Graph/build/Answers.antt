@@ -1,8 +1,8 @@
-use Rattle.std.proofs.Common.{refl, ap, subst, ◌∙◌, inr}
+use Rattle.std.proofs.Common.{ap, refl, subst, ◌∙◌, inr}
 use Rattle.sgb_graph.specs.Private.Fill.{can_name_vertices, FillsVertices, FillsArcs}
 use Rattle.std.proofs.lemmas.Result.{err_from_is_err_and}
-use Rattle.sgb_graph.proofs.Filling.{names_then, each-same}
-use Rattle.sgb_graph.proofs.Owning.{lays_moved, unnamed_refused, named_parts, arc_refused, filled_names, arcs_filled_names, builds, not_laid, long_id}
+use Rattle.sgb_graph.proofs.FieldValues.{names_then, each-same}
+use Rattle.sgb_graph.proofs.ArcOwners.{lays_moved, unnamed_refused, named_parts, arc_refused, filled_names, arcs_filled_names, builds, not_laid}
 use Rattle.sgb_graph.proofs.graph.Graph.build.Goals as goal
 
 pub returns-in_err-graph-clause-err : goal.returns-in_err-graph-clause-err
@@ -31,15 +31,10 @@ fill_own-requires c =
     each-same c.in_ok-graph.graph c.fill_arcs.new.self c.args.parts.fields (names_then _ _ _ (filled_names _ _ _ c.fill_vertices.ensures) (arcs_filled_names _ _ _ c.in_ok-fill_arcs.ensures.ok))
     ∙ (named_parts c.args.parts c.in_ok-graph.graph _ c.can_name_all.result (c.deref-3.ensures.value ∙ c.into_vec-vertices.ensures) c.can_name_all.ensures c.if-not-can_name_all.false).own
 
-pub returns-in_err-set_id-clause-err : goal.returns-in_err-set_id-clause-err
-returns-in_err-set_id-clause-err c =
-    let p = err_from_is_err_and c.from_residual-in_err-set_id.result c.from_residual-in_err-set_id.ensures.1 in
-    rw (p.1, p.2) (long_id c.args.parts c.in_err-set_id.field-0.0 c.in_err-set_id.ensures.err)
-
 pub returns-clause-ok : goal.returns-clause-ok
 returns-clause-ok c =
     let x = lays_moved _ _ _ _ c.in_ok-graph.graph (c.deref.ensures.value ∙ c.into_vec-vertices.ensures) (c.deref-2.ensures.value ∙ c.into_vec-arcs.ensures) c.in_ok-graph.ensures.ok in
-    builds c.args.parts c.in_ok-graph.graph c.fill_vertices.new.self c.fill_arcs.new.self c.fill_own.new.self c.set_types.new.self c.set_id.new.self x
+    builds c.args.parts c.in_ok-graph.graph c.fill_vertices.new.self c.fill_arcs.new.self c.fill_own.new.self x c.in_ok-graph.ensures.own
     (subst (λ vs. FillsVertices vs c.in_ok-graph.graph c.fill_vertices.new.self) c.into_vec-vertices.ensures c.fill_vertices.ensures)
     (subst (λ rs. FillsArcs rs c.fill_vertices.new.self c.fill_arcs.new.self) c.into_vec-arcs.ensures c.in_ok-fill_arcs.ensures.ok)
-    c.fill_own.ensures c.set_types.ensures.graph c.in_ok-set_id.ensures.graph c.in_ok-set_id.ensures.sound
+    c.fill_own.ensures.value c.fill_own.ensures.sound

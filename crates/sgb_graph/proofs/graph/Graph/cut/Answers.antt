@@ -2,7 +2,7 @@ use Rattle.std.proofs.Common.{◌∙◌, sym, refl, ◌+◌, ap}
 use Rattle.sgb_graph.specs.declared.delta.GraphDelta.TheVariants.{Cut}
 use Rattle.sgb_graph.specs.declared.graph.Graph.TheInside.{Inside}
 use Rattle.sgb_graph.proofs.Shows.{opened}
-use Rattle.sgb_graph.proofs.Joining.{SameOwn}
+use Rattle.sgb_graph.proofs.NewArcs.{SameOwn}
 use Rattle.sgb_graph.proofs.CutLemmas.{CutCan, can_cut_is, cut_accepted, cut_left}
 use Rattle.sgb_graph.proofs.graph.Graph.cut.Goals as goal
 

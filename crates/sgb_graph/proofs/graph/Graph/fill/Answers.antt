@@ -1,7 +1,7 @@
 use Rattle.std.proofs.Common.{◌∙◌, sym, subst}
 use Rattle.sgb_graph.specs.Edit.{stored}
 use Rattle.sgb_graph.specs.Private.Fill.{SameNames}
-use Rattle.sgb_graph.proofs.Filling.{filled_by_zero, names-with_util, accepted_place, on_ok}
+use Rattle.sgb_graph.proofs.FieldValues.{filled_by_zero, names-with_util, accepted_place, on_ok}
 use Rattle.sgb_graph.proofs.graph.Graph.fill.Goals as goal
 
 pub stays_zero-requires : goal.stays_zero-requires

@@ -4,7 +4,7 @@ use Rattle.std.proofs.lemmas.Int.{to_z-of_z}
 use Rattle.sgb_graph.specs.Private.Fill.{with_aim}
 use Rattle.sgb_graph.specs.declared.field.ArcField.TheVariants as arcs
 use Rattle.sgb_graph.specs.declared.field.Place.TheVariants as places
-use Rattle.sgb_graph.proofs.Filling.{names_then, accepted, arc_filled, two_named, arc_two, part_leads, part_values}
+use Rattle.sgb_graph.proofs.FieldValues.{names_then, accepted, arc_filled, two_named, arc_two, part_leads, part_values}
 use Rattle.sgb_graph.proofs.graph.Graph.fill_arc.Goals as goal
 
 pub aim-requires-clause-tip : goal.aim-requires-clause-tip

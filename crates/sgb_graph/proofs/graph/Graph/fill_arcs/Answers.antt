@@ -1,5 +1,5 @@
 use Rattle.std.proofs.Common.{◌≡◌, refl, sym, ap, ◌∙◌, arith, length}
-use Rattle.sgb_graph.proofs.Filling.{arcs_filling_begins, arc_filled_more, arc_passed, arcs_filling_ends, arc_unnamed, empty_of}
+use Rattle.sgb_graph.proofs.FieldValues.{arcs_filling_begins, arc_filled_more, arc_passed, arcs_filling_ends, arc_unnamed, empty_of}
 use Rattle.std.proofs.lemmas.List.{length_push}
 use Rattle.sgb_graph.specs.Graph.{has_arc}
 use Rattle.sgb_graph.specs.Private.Fill.{with_filled_arc}

@@ -1,5 +1,5 @@
 use Rattle.std.proofs.Common.{length}
-use Rattle.sgb_graph.proofs.Filling.{ArcsFilledFrom}
+use Rattle.sgb_graph.proofs.FieldValues.{ArcsFilledFrom}
 use Rattle.sgb_graph.proofs.graph.Graph.fill_arcs.Given as goal
 
 abbrev pub invariant-loop-part : goal.invariant-loop-part

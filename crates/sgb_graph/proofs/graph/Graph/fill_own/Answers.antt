@@ -1,7 +1,7 @@
 use Rattle.std.proofs.Common.{refl}
 use Rattle.sgb_graph.specs.declared.field.GraphField.TheVariants as own
 use Rattle.sgb_graph.specs.declared.field.Place.TheVariants as places
-use Rattle.sgb_graph.proofs.Filling.{six_of, six_named, names_refl, names_then, accepted, own_filled}
+use Rattle.sgb_graph.proofs.FieldValues.{six_of, six_named, names_refl, names_then, accepted, own_filled}
 use Rattle.sgb_graph.proofs.graph.Graph.fill_own.Goals as goal
 
 pub fill-requires : goal.fill-requires
@@ -34,7 +34,7 @@ fill-requires-6 c =
     let x = six_named c.args.self.now c.args.fields _ _ _ _ _ _ (six_of c.args.fields _ _ _ _ _ _ c.six-uu.ensures.len c.six-uu.ensures.first c.six-uu.ensures.second c.six-uu.ensures.third c.six-uu.ensures.fourth c.six-uu.ensures.fifth c.six-uu.ensures.sixth) c.requires in
     accepted c.args.self.now _ (places.Graph own.Zz) _ (names_then _ _ _ (names_then _ _ _ (names_then _ _ _ (names_then _ _ _ (c.fill.ensures.names) c.fill-2.ensures.names) c.fill-3.ensures.names) c.fill-4.ensures.names) c.fill-5.ensures.names) refl x.sixth
 
-pub returns : goal.returns
-returns c =
+pub returns-clause-value : goal.returns-clause-value
+returns-clause-value c =
     own_filled c.args.self.now _ _ _ _ _ _ c.args.fields _ _ _ _ _ _ c.fill.ensures.before.six (six_of c.args.fields _ _ _ _ _ _ c.six-uu.ensures.len c.six-uu.ensures.first c.six-uu.ensures.second c.six-uu.ensures.third c.six-uu.ensures.fourth c.six-uu.ensures.fifth c.six-uu.ensures.sixth)
     c.fill.ensures.value c.fill-2.ensures.value c.fill-3.ensures.value c.fill-4.ensures.value c.fill-5.ensures.value c.fill-6.ensures.value

@@ -1,6 +1,6 @@
 use Rattle.sgb_graph.specs.Graph.{no_vertex}
 use Rattle.sgb_graph.specs.declared.field.VertexField.TheVariants as fields
-use Rattle.sgb_graph.proofs.Filling.{six_of, six_named, names_refl, names_then, named_vertex, vertex_filled}
+use Rattle.sgb_graph.proofs.FieldValues.{six_of, six_named, names_refl, names_then, named_vertex, vertex_filled}
 use Rattle.sgb_graph.proofs.graph.Graph.fill_vertex.Goals as goal
 
 pub fill-requires : goal.fill-requires

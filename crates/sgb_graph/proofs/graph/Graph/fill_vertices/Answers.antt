@@ -1,5 +1,5 @@
 use Rattle.std.proofs.Common.{◌≡◌, ap, ◌∙◌, arith, length}
-use Rattle.sgb_graph.proofs.Filling.{filling_begins, filled_more, filling_ends, turn_names, turn_low, empty_of, names_refl, names_labelled}
+use Rattle.sgb_graph.proofs.FieldValues.{filling_begins, filled_more, filling_ends, turn_names, turn_low, empty_of, names_refl, names_labelled}
 use Rattle.sgb_graph.specs.Edit.{with_label}
 use Rattle.sgb_graph.specs.Private.Fill.{with_filled_vertex}
 use Rattle.sgb_graph.proofs.graph.Graph.fill_vertices.Goals as goal

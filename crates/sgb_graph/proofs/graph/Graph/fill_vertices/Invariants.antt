@@ -1,4 +1,4 @@
-use Rattle.sgb_graph.proofs.Filling.{FilledFrom}
+use Rattle.sgb_graph.proofs.FieldValues.{FilledFrom}
 use Rattle.sgb_graph.proofs.graph.Graph.fill_vertices.Given as goal
 
 abbrev pub invariant-loop-part : goal.invariant-loop-part

@@ -1,5 +1,5 @@
 use Rattle.std.proofs.Common.{refl, ◌∙◌}
-use Rattle.sgb_graph.proofs.Reading.{live_slot, next_is}
+use Rattle.sgb_graph.proofs.Readers.{live_slot, next_is}
 use Rattle.sgb_graph.proofs.graph.Graph.next_of.Goals as goal
 
 pub next_after-requires : goal.next_after-requires

@@ -1,43 +1,34 @@
 use Rattle.std.proofs.Common.{refl}
 use Rattle.sgb_graph.specs.declared.graph.Graph.TheInside.{Inside}
-use Rattle.sgb_graph.proofs.Shows.{Opened, opened, closed, closed_arena}
-use Rattle.sgb_graph.proofs.Joining.{SameOwn}
 use Rattle.sgb_graph.specs.Graph.{GraphOf}
 use Rattle.sgb_graph.specs.Delta.{LeftByEdge}
-use Rattle.sgb_graph.proofs.CutLemmas.{RevertCan, revert_edge_requires, revert_edge_after}
+use Rattle.sgb_graph.proofs.Shows.{Opened, opened, closed, closed_arena}
+use Rattle.sgb_graph.proofs.CutLemmas.{revert_edge_can, revert_edge_next, revert_edge_after}
 use Rattle.sgb_graph.proofs.graph.Graph.revert_edge.Goals as goal
 
-pub take_out_both-requires : goal.take_out_both-requires
-take_out_both-requires c =
+pub take_out-requires : goal.take_out-requires
+take_out-requires c =
     let h = c.args.self.now in
-    let a = c.self.inside in
-    let x : RevertCan a h c.self.inside.vertices c.self.inside.slots = record { opened = opened a h c.self.view_is c.self.invariant; vertices = refl; slots = refl } in
-    revert_edge_requires a h c.args.number _ _ c.requires.0 x c.requires.1
+    let o = opened c.self.inside h c.self.view_is c.self.invariant in
+    record { graph = h; sound = o.graph; shows = o.shows; can = (revert_edge_can c.requires.0 h c.args.number c.requires.1).can }
+
+pub take_out-requires-2 : goal.take_out-requires-2
+take_out-requires-2 c =
+    revert_edge_next c.self.inside c.args.self.now c.args.number c.take_out.result _ _ c.requires.0 (opened c.self.inside c.args.self.now c.self.view_is c.self.invariant) c.requires.1 c.take_out.ensures
 
 pub invariant_of-self : goal.invariant_of-self
 invariant_of-self c =
     let h = c.args.self.now in
     let a = c.self.inside in
-    let x : RevertCan a h c.self.inside.vertices c.self.inside.slots = record { opened = opened a h c.self.view_is c.self.invariant; vertices = refl; slots = refl } in
-    let b : Inside = record { id = a.id; types = a.types; fields = a.fields; vertices = c.take_out_both.new.vertices; slots = c.truncate.new.self; holes = a.holes } in
-    let own : SameOwn a b = record { id = refl; types = refl; fields = refl } in
-    let after : (g : GraphOf) → LeftByEdge g c.args.number h → Opened b g = λ g l.
-    revert_edge_after a b h c.args.number _ _ _ _ g x l c.take_out_both.ensures
-    refl
-    c.truncate.ensures
-    refl own in
-    closed_arena b c.requires.0 (after c.requires.0 c.requires.1)
+    let b : Inside = record { id = a.id; types = a.types; fields = a.fields; vertices = c.take_out-2.new.vertices; slots = c.truncate.new.self; holes = a.holes } in
+    closed_arena b c.requires.0
+    (revert_edge_after a b h c.args.number c.take_out.result c.take_out-2.result _ _ _ c.requires.0 (opened a h c.self.view_is c.self.invariant) c.requires.1 c.take_out.ensures c.take_out-2.ensures c.truncate.ensures refl (record { id = refl; types = refl; fields = refl }))
 
 pub returns : goal.returns
 returns c =
     let h = c.args.self.now in
     let a = c.self.inside in
-    let x : RevertCan a h c.self.inside.vertices c.self.inside.slots = record { opened = opened a h c.self.view_is c.self.invariant; vertices = refl; slots = refl } in
-    let b : Inside = record { id = a.id; types = a.types; fields = a.fields; vertices = c.take_out_both.new.vertices; slots = c.truncate.new.self; holes = a.holes } in
-    let own : SameOwn a b = record { id = refl; types = refl; fields = refl } in
+    let b : Inside = record { id = a.id; types = a.types; fields = a.fields; vertices = c.take_out-2.new.vertices; slots = c.truncate.new.self; holes = a.holes } in
     let after : (g : GraphOf) → LeftByEdge g c.args.number h → Opened b g = λ g l.
-    revert_edge_after a b h c.args.number _ _ _ _ g x l c.take_out_both.ensures
-    refl
-    c.truncate.ensures
-    refl own in
+    revert_edge_after a b h c.args.number c.take_out.result c.take_out-2.result _ _ _ g (opened a h c.self.view_is c.self.invariant) l c.take_out.ensures c.take_out-2.ensures c.truncate.ensures refl (record { id = refl; types = refl; fields = refl }) in
     record { back = λ g l. closed b g (after g l); sound = (closed_arena b c.requires.0 (after c.requires.0 c.requires.1)).graph }

@@ -3,8 +3,8 @@ use Rattle.sgb_graph.specs.Graph.{IsGraph, made_of, arc_at}
 use Rattle.sgb_graph.specs.Edit.{owner_of}
 use Rattle.sgb_graph.proofs.Graphs.{arcs_live, few_arcs_of}
 use Rattle.sgb_graph.proofs.Shows.{linked_at}
-use Rattle.sgb_graph.proofs.Reading.{arcs_owned}
-use Rattle.sgb_graph.proofs.Walking.{walk_is, All-walked, length-walked}
+use Rattle.sgb_graph.proofs.Readers.{arcs_owned}
+use Rattle.sgb_graph.proofs.LoopWalks.{walk_is, All-walked, length-walked}
 use Rattle.sgb_graph.proofs.graph.Graph.walk.Goals as goal
 
 pub new-requires : goal.new-requires

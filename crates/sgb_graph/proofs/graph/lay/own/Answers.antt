@@ -1,8 +1,8 @@
 use Rattle.std.proofs.Common.{ap, arith}
 use Rattle.sgb_graph.specs.declared.graph.lay.Chained.{Chained}
 use Rattle.sgb_graph.specs.Private.Lay.{any_row}
-use Rattle.sgb_graph.proofs.Chaining.{part_at}
-use Rattle.sgb_graph.proofs.Owning.{nexts_set}
+use Rattle.sgb_graph.proofs.RecordChains.{part_at}
+use Rattle.sgb_graph.proofs.ArcOwners.{nexts_set}
 use Rattle.sgb_graph.proofs.graph.lay.own.Goals as goal
 
 pub returns-clause-links : goal.returns-clause-links

@@ -4,7 +4,7 @@ use Rattle.std.proofs.lemmas.Result.{err_from_is_err_and}
 use Rattle.sgb_graph.specs.declared.parts.VertexPart.{VertexPart}
 use Rattle.sgb_graph.specs.Parts.{any_vertex_part}
 use Rattle.sgb_graph.specs.Private.Lay.{RefusesToLay}
-use Rattle.sgb_graph.proofs.Owning.{owning_begins, owns_more, owns_refused, hole_left}
+use Rattle.sgb_graph.proofs.ArcOwners.{owning_begins, owns_more, owns_refused, hole_left}
 use Rattle.sgb_graph.proofs.graph.lay.own_chain.Goals as goal
 
 pub loop-link-init : goal.loop-link-init

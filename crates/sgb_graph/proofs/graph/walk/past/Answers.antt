@@ -1,5 +1,5 @@
 use Rattle.std.proofs.Common.{sym, ◌∙◌}
-use Rattle.sgb_graph.proofs.Walking.{live_linked, within_linked}
+use Rattle.sgb_graph.proofs.LoopWalks.{live_linked, within_linked}
 use Rattle.sgb_graph.proofs.graph.walk.past.Goals as goal
 
 pub is_pair-requires-clause-second : goal.is_pair-requires-clause-second

@@ -16,7 +16,7 @@ returns-clause-fields c =
 pub returns-clause-slots : goal.returns-clause-slots
 returns-clause-slots c =
     let a = c.self.inside in
-    slot_put a.cells.items a.fields.items _ c.args.self.now c.args.index two_zeros c.hole.result None c.self.view_is c.take_fields.ensures.puts (owned_none two_zeros c.hole.result c.hole.ensures)
+    slot_put a.cells.items a.fields.items _ c.args.self.now c.args.index two_zeros _ None c.self.view_is c.take_fields.ensures.puts (owned_none two_zeros _ c.none.ensures)
 
 pub invariant_of-self : goal.invariant_of-self
 invariant_of-self c =

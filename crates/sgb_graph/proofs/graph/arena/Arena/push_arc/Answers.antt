@@ -7,7 +7,7 @@ use Rattle.sgb_graph.specs.Private.Cells.{new_cell}
 use Rattle.sgb_graph.specs.Private.Insert.{IsRefusedAt}
 use Rattle.sgb_graph.specs.Private.Link.{vertices_relinked}
 use Rattle.sgb_graph.proofs.Cells.{many_slots}
-use Rattle.sgb_graph.proofs.Joining.{arc_joins}
+use Rattle.sgb_graph.proofs.NewArcs.{arc_joins}
 use Rattle.sgb_graph.proofs.graph.arena.Arena.push_arc.Goals as goal
 
 pub returns-in_err-make_room-clause-err : goal.returns-in_err-make_room-clause-err

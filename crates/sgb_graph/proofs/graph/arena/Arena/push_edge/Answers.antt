@@ -10,7 +10,7 @@ use Rattle.sgb_graph.specs.Private.Cells.{new_cell}
 use Rattle.sgb_graph.specs.Private.Insert.{IsRefusedAt, vertex_no}
 use Rattle.sgb_graph.specs.Private.Link.{vertex_in, vertices_relinked}
 use Rattle.sgb_graph.proofs.Cells.{many_slots}
-use Rattle.sgb_graph.proofs.Joining.{edge_joins}
+use Rattle.sgb_graph.proofs.NewArcs.{edge_joins}
 use Rattle.sgb_graph.proofs.graph.arena.Arena.push_edge.Goals as goal
 
 pub returns-in_err-make_room-clause-err : goal.returns-in_err-make_room-clause-err

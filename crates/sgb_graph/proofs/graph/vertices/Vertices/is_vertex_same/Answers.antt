@@ -30,13 +30,13 @@ returns c =
     let a = c.self.inside in
     let b = c.other.inside in
     let i = c.args.index in
-    let here = row_read _ c.index.result.now c.index-3.result.now c.fields_at.result.now
+    let here = row_read _ c.index.result.now c.index-3.result.now c.fields.result.now
     (name_read a.labels.items (first_at a.firsts.items) (values_at a.fields.items) c.args.self.now i _ c.self.view_is c.requires.here c.index.ensures)
     (first_read a.labels.items a.firsts.items (values_at a.fields.items) c.args.self.now i _ c.self.view_is c.requires.here (omega (arith, a.labels.ok.0, a.firsts.ok.0, c.self.invariant.0)) c.index-3.ensures)
-    c.fields_at.ensures in
-    let there = row_read _ c.index-2.result.now c.index-4.result.now c.fields_at-2.result.now
+    c.fields.ensures in
+    let there = row_read _ c.index-2.result.now c.index-4.result.now c.fields-2.result.now
     (name_read b.labels.items (first_at b.firsts.items) (values_at b.fields.items) c.args.other.now i _ c.other.view_is c.requires.there c.index-2.ensures)
     (first_read b.labels.items b.firsts.items (values_at b.fields.items) c.args.other.now i _ c.other.view_is c.requires.there (omega (arith, b.labels.ok.0, b.firsts.ok.0, c.other.invariant.0)) c.index-4.ensures)
-    c.fields_at-2.ensures in
+    c.fields-2.ensures in
     c.is_row_same.ensures
-    ∙ (ap (λ v. row_eq v (row c.index-2.result.now c.index-4.result.now c.fields_at-2.result.now)) here ∙ ap (row_eq (vertex_in c.args.self.now i)) there)
+    ∙ (ap (λ v. row_eq v (row c.index-2.result.now c.index-4.result.now c.fields-2.result.now)) here ∙ ap (row_eq (vertex_in c.args.self.now i)) there)

@@ -1,5 +1,5 @@
 use Rattle.std.proofs.Common.{rules, refl, sym, ◌∙◌}
-use Rattle.sgb_graph.proofs.Walking.{WalksTo, walks_next, walks_none, live_linked, within_linked}
+use Rattle.sgb_graph.proofs.LoopWalks.{WalksTo, walks_next, walks_none, live_linked, within_linked}
 use Rattle.sgb_graph.proofs.graph.walk.WalkIterator.next.Goals as goal
 
 pub next_after-next-requires : goal.next_after-next-requires

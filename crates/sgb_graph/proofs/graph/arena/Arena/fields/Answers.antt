@@ -1,7 +1,7 @@
 use Rattle.std.proofs.Common.{◌∙◌, ap}
 use Rattle.sgb_graph.specs.Private.Cells.{kept_at}
 use Rattle.sgb_graph.proofs.Cells.{fields_are}
-use Rattle.sgb_graph.proofs.graph.arena.Arena.fields_at.Goals as goal
+use Rattle.sgb_graph.proofs.graph.arena.Arena.fields.Goals as goal
 
 pub returns : goal.returns
 returns c =

@@ -183,8 +183,7 @@ laying_kept most vs rs g x =
     }
 
 pub refuses_kept : (vs : List VertexPart) (rs : List ArcPart) (e : Refusal) → RefusesToLay vs (kept_links 1000000 rs) e → RefusesToLay vs (links_of rs) e
-refuses_kept vs rs e (inl room) = inl room
-refuses_kept vs rs e (inr bad) = inr (bad.0, λ h lays. bad.1 h (lays_kept 1000000 vs rs h lays.graph.few_arcs lays))
+refuses_kept vs rs e bad = (bad.0, λ h lays. bad.1 h (lays_kept 1000000 vs rs h lays.graph.few_arcs lays))
 
 -- the laying of one vertex begins and ends
 pub laying_begins : (vs : List VertexPart) (ls : List (Option ArcNo)) (v : ℕ) (g : GraphOf) (link : Option ArcNo) → Laying vs ls v g → link ≡ (vertex_part vs v).first → LayingAt vs ls v None link g
@@ -308,4 +307,4 @@ part_at xs i d e x low is = is ∙ get_or_default xs i d e low
 -- a number that is none of a hole is laid by no graph
 pub record_refused : (vs : List VertexPart) (ls : List (Option ArcNo)) (v : ℕ) (end link : Option ArcNo) (k : ArcNo) (g : GraphOf) (e : Refusal) → LayingAt vs ls v end link g → link ≡ Some k → v < length vs
     → (e ≡ BadOperand) × (k.0 < made_of g → has_arc g k.0 ≡ true) → RefusesToLay vs ls e
-record_refused vs ls v end link k g e x is low bad = inr (bad.0, λ h lays. lay_refused vs ls v end link k g h x is low bad.1 lays)
+record_refused vs ls v end link k g e x is low bad = (bad.0, λ h lays. lay_refused vs ls v end link k g h x is low bad.1 lays)

@@ -12,7 +12,7 @@ use Rattle.sgb_graph.specs.declared.refusal.Refusal.{Refusal}
 use Rattle.sgb_graph.specs.declared.refusal.Refusal.TheVariants.{NoRoom, TooLarge}
 use Rattle.sgb_graph.specs.Graph.{n_of, made_of}
 use Rattle.sgb_graph.specs.Builder.{Insertion, grown, IsTooMany}
-use Rattle.sgb_graph.proofs.Growing.{grown-nil, grown-append, n-grown, too_many-append}
+use Rattle.sgb_graph.proofs.Insertions.{grown-nil, grown-append, n-grown, too_many-append}
 
 -- what `Inserts` says of an `Err`
 abbrev pub RefusesInsertions : Builder → List Insertion → Refusal → Type 0

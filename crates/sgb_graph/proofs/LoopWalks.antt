@@ -18,7 +18,7 @@ use Rattle.sgb_graph.proofs.Graphs.{owner_is}
 use Rattle.sgb_graph.proofs.Cells.{live_low}
 use Rattle.sgb_graph.proofs.Chains.{chain-none, linked_step}
 use Rattle.sgb_graph.proofs.Shows.{opened, shows_arc}
-use Rattle.sgb_graph.proofs.Reading.{arcs_are}
+use Rattle.sgb_graph.proofs.Readers.{arcs_are}
 
 -- the loops of a list, told from the slots
 loop_at : (vs : List Vertex) (ss : Slots) (g : GraphOf) (v k : ℕ) (o : Option Slot) → Shows vs ss g → IsGraph g → slot_at ss k ≡ o → 0 < occurrences k (arcs_of g v) → is_loop g v k ≡ is_loop_in o

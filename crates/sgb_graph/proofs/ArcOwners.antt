@@ -1,7 +1,7 @@
 -- Lemmas on rows that tell the arcs of a graph while chains are followed.
-use Rattle.std.proofs.Common.{◌≡◌, ◌<◌, ◌+◌, ℕ, zero, suc, List, [], ◌∷◌, length, get_or, map, replicate, Option, Some, None, is_some, IfSome, All, Bool, true, false, ◌&&◌, refl, sym, ap, subst, ◌∙◌, arith, cond, ◌⊎◌, inl, inr, nat_le, ◌≢◌, ◌≤◌, ◌-◌, set, IsSome}
+use Rattle.std.proofs.Common.{◌≡◌, ◌<◌, ◌+◌, ℕ, zero, suc, List, [], ◌∷◌, length, get_or, map, replicate, Option, Some, None, is_some, IfSome, All, Bool, true, false, ◌&&◌, refl, sym, ap, subst, ◌∙◌, arith, cond, ◌⊎◌, inl, inr, ◌≢◌, ◌≤◌, ◌-◌, set, IsSome}
 use Rattle.std.specs.List.{list_all, range_with_len}
-use Rattle.std.proofs.lemmas.Bool.{cases_Bool, cases_lt, lt-ltb, and_from, and_parts, leb-false, cases_eq}
+use Rattle.std.proofs.lemmas.Bool.{cases_Bool, cases_lt, lt-ltb, and_from, and_parts, cases_eq}
 use Rattle.std.proofs.lemmas.List.{length-replicate, get_or-replicate, get_or_past, replicate_more, same_lists, get_or_default, get_or-set_same, get_or-set_other, length-map}
 use Rattle.sgb_graph.specs.declared.field.Util.{Util}
 use Rattle.sgb_graph.specs.declared.field.Util.TheVariants as utils
@@ -10,8 +10,9 @@ use Rattle.sgb_graph.specs.declared.parts.VertexPart.{VertexPart}
 use Rattle.sgb_graph.specs.declared.parts.Parts.{Parts}
 use Rattle.sgb_graph.specs.declared.refusal.Refusal.{Refusal}
 use Rattle.sgb_graph.specs.declared.refusal.Refusal.TheVariants.{NoRoom, BadOperand}
-use Rattle.sgb_graph.specs.Graph.{GraphOf, VertexOf, ArcOf, IsGraph, IsArc, IsTip, IsValue, n_of, made_of, vertex_at, no_vertex, arcs_of, arc_at, has_arc, m_of, label_of, occurrences, names_in, names_in_entry, names_of}
-use Rattle.sgb_graph.specs.Edit.{stored, can_name, arc_or, no_arc, refusal_unless, refusal_of_id, with_listed, with_cut_arc}
+use Rattle.sgb_graph.specs.Graph.{GraphOf, VertexOf, ArcOf, IsGraph, IsArc, IsTip, IsValue, IsId, n_of, made_of, vertex_at, no_vertex, arcs_of, arc_at, has_arc, m_of, label_of, occurrences, names_in, names_in_entry, names_of}
+use Rattle.sgb_graph.specs.Edit.{stored, can_name, arc_or, no_arc, with_listed, with_cut_arc}
+use Rattle.sgb_graph.specs.Types.{IsTypes}
 use Rattle.sgb_graph.specs.New.{new_graph, blank_vertex, six_zeros, new_id}
 use Rattle.sgb_graph.specs.Private.Holes.{with_hole, blank_graph}
 use Rattle.sgb_graph.specs.Parts.{vertex_part, arc_part, IsVertexOf, IsArcOf, Builds}
@@ -19,9 +20,10 @@ use Rattle.sgb_graph.specs.Private.Lay.{links_of, Lays, Laying, RefusesToLay, la
 use Rattle.sgb_graph.specs.Private.Fill.{SameNames, can_name_each, can_name_part, can_name_at, can_name_vertices, can_name_arcs, can_name_all, filled_vertex, filled_entry, FillsVertices, FillsArcs, can_lead}
 use Rattle.sgb_graph.proofs.Graphs.{made_of_live, listed_live}
 use Rattle.sgb_graph.proofs.TakeOut.{some_entry}
-use Rattle.sgb_graph.proofs.Chaining.{links_count, over_links, over_parts, lays_same, lists_same, laying_begins, laying_kept, laid_can, laid_more, record_refused, first_kept, listed_low, lays_as_kept, refuses_kept}
-use Rattle.sgb_graph.proofs.Filling.{each-same, part-same, filled_lives}
-use Rattle.sgb_graph.proofs.Aiming.{leads_so}
+use Rattle.sgb_graph.proofs.RecordChains.{links_count, over_links, over_parts, lays_same, lists_same, laying_begins, laying_kept, laid_can, laid_more, record_refused, first_kept, listed_low, lays_as_kept, refuses_kept}
+use Rattle.sgb_graph.proofs.FieldValues.{each-same, part-same, filled_lives}
+use Rattle.sgb_graph.proofs.PairedLemmas.{range_all}
+use Rattle.sgb_graph.proofs.ArcChanges.{leads_so}
 use Rattle.sgb_graph.specs.Private.SameLaws.{same_vertex, same_graph}
 use Rattle.std.proofs.lemmas.List.Sums.{count_by-le-length}
 use Rattle.sgb_graph.specs.declared.field.ArcNo.{ArcNo}
@@ -39,7 +41,7 @@ use Rattle.sgb_graph.proofs.Counts.{sum_zero}
 use Rattle.sgb_graph.proofs.Holes.{hole_sound}
 use Rattle.sgb_graph.proofs.NewLemmas.{new_is, new_id_is, blank_is_bare, bare_opened}
 use Rattle.sgb_graph.proofs.ShowsPut.{put_n, put_made, put_m, put_vertex_same, put_vertex_other, put_entry_same, put_entry_other, put_names, put_sound, put_occurs_new, put_owned}
-use Rattle.sgb_graph.proofs.Shows.{Opened, opened}
+use Rattle.sgb_graph.proofs.Shows.{Opened, closed, closed_arena}
 
 -- blank graphs
 pub blank_begins : (n : ℕ) → new_graph n ≡ blank_graph n 0
@@ -107,10 +109,6 @@ all_parts : (g : GraphOf) (vs : List VertexPart) → ((v : ℕ) → v < length v
 all_parts g [] each = refl
 all_parts g (p ∷ vs) each = and_from (can_name_each g p.fields) (can_name_vertices g vs) (each 0 (omega arith)) (all_parts g vs (λ v low. each (suc v) (omega arith)))
 
-range_all : (q : ℕ → Bool) (a n : ℕ) → ((k : ℕ) → q k ≡ true) → list_all q (range_with_len a n) ≡ true
-range_all q a zero each = refl
-range_all q a (suc n) each = and_from (q a) (list_all q (range_with_len (a + 1) n)) (each a) (range_all q (a + 1) n each)
-
 record_named : (p : Parts) (g h : GraphOf) (k : ℕ) → SameNames g h → Builds p h → can_name_at g p.arcs k ≡ true
 record_named p g h k same b =
     elim (cases_Bool (has_arc g k)) [
@@ -149,47 +147,34 @@ part_filled : (part : ArcPart) (o : Option ArcOf) → IfSome (filled_entry part 
 part_filled part None = tt
 part_filled part (Some e) = record { tip = refl; len = refl; fields = refl }
 
-abbrev whole : Parts → GraphOf → GraphOf
-whole p g = record g { id = p.id; types = p.types; fields = map stored p.fields }
-
-pub builds : (p : Parts) (g1 g2 g3 g4 g5 g6 : GraphOf) → Lays p.vertices (links_of p.arcs) g1 → FillsVertices p.vertices g1 g2 → FillsArcs p.arcs g2 g3
-    → g4 ≡ record g3 { fields = map stored p.fields } → g5 ≡ record g4 { types = p.types } → g6 ≡ record g5 { id = p.id } → IsGraph g6 → Builds p g6
-builds p g1 g2 g3 g4 g5 g6 x y z e4 e5 e6 sound =
+pub builds : (p : Parts) (g1 g2 g3 g4 : GraphOf) → Lays p.vertices (links_of p.arcs) g1 → (g1.id ≡ p.id) × (g1.types ≡ p.types) → FillsVertices p.vertices g1 g2 → FillsArcs p.arcs g2 g3
+    → g4 ≡ record g3 { fields = map stored p.fields } → IsGraph g4 → Builds p g4
+builds p g1 g2 g3 g4 x own y z all sound =
     let vs = p.vertices in
     let rs = p.arcs in
-    let all : g6 ≡ whole p g3 =
-    e6 ∙ (ap (λ (g : GraphOf). record g { id = p.id }) (e5 ∙ ap (λ (g : GraphOf). record g { types = p.types }) e4)) in
-    let n : n_of (whole p g3) ≡ n_of g1 = ap length z.vertices ∙ y.n in
+    let g : GraphOf = record g3 { fields = map stored p.fields } in
+    let n : n_of g ≡ n_of g1 = ap n_of z.rest ∙ y.n in
     subst (Builds p) (sym all)
     (record {
-      id = refl;
-      types = refl;
+      id = ap (λ h. h.id) z.rest ∙ (ap (λ h. h.id) y.rest ∙ own.0);
+      types = ap (λ h. h.types) z.rest ∙ (ap (λ h. h.types) y.rest ∙ own.1);
       fields = refl;
       n = n ∙ x.n;
       vertices = λ v low.
           let there : v < n_of g1 = omega (arith, n) in
-          let at : vertex_at (whole p g3) v ≡ filled_vertex (vertex_part vs v) (vertex_at g1 v) = ap (λ ws. get_or ws v no_vertex) z.vertices ∙ y.vertices v there in
+          let at : vertex_at g v ≡ filled_vertex (vertex_part vs v) (vertex_at g1 v) = ap (λ h. vertex_at h v) z.rest ∙ y.vertices v there in
           subst (IsVertexOf rs (vertex_part vs v)) (sym at) (record { label = refl; fields = refl; arcs = over_parts rs (vertex_part vs v).first (arcs_of g1 v) (x.lists v there) });
-      made = z.made ∙ (ap length y.entries ∙ (x.made ∙ links_count rs));
+      made = z.made ∙ (ap made_of y.rest ∙ (x.made ∙ links_count rs));
       arcs = λ k.
-          let at : arc_at g3 k ≡ filled_entry (arc_part rs k) (arc_at g1 k) = z.entries k ∙ ap (λ es. filled_entry (arc_part rs k) (get_or es k None)) y.entries in
+          let at : arc_at g3 k ≡ filled_entry (arc_part rs k) (arc_at g1 k) = z.entries k ∙ ap (λ h. filled_entry (arc_part rs k) (arc_at h k)) y.rest in
           subst (λ o. IfSome o (IsArcOf (arc_part rs k))) (sym at) (part_filled (arc_part rs k) (arc_at g1 k));
       graph = subst IsGraph all sound;
     })
 
--- chains that no graph has, or too long an id
-pub not_laid : (p : Parts) (e : Refusal) → RefusesToLay p.vertices (links_of p.arcs) e → (e ≡ NoRoom) ⊎ ((e ≡ BadOperand) × ((g : GraphOf) → Builds p g → ⊥))
-not_laid p e (inl room) = inl room
+-- chains that no graph has
+pub not_laid : (p : Parts) (e : Refusal) → ((e ≡ NoRoom) × (0 < length p.vertices + length p.arcs)) ⊎ RefusesToLay p.vertices (links_of p.arcs) e → (e ≡ NoRoom) ⊎ ((e ≡ BadOperand) × ((g : GraphOf) → Builds p g → ⊥))
+not_laid p e (inl room) = inl room.0
 not_laid p e (inr bad) = inr (bad.0, λ g b. bad.1 g (lays_of p g b))
-
-pub long_id : (p : Parts) (e : Refusal) → refusal_of_id p.id ≡ Some e → (e ≡ NoRoom) ⊎ ((e ≡ BadOperand) × ((g : GraphOf) → Builds p g → ⊥))
-long_id p e refused =
-    elim (cases_Bool (nat_le (length p.id) 160)) [
-      | inl short ↦ absurd (let none = sym (ap (λ b. refusal_unless b BadOperand None) short) ∙ refused in cc)
-      | inr long ↦
-          let is : Some BadOperand ≡ Some e = sym (ap (λ b. refusal_unless b BadOperand None) long) ∙ refused in
-          inr (cc, λ g b. omega (arith, leb-false (length p.id) 160 long, ap length b.id, b.graph.id.short))
-    ]
 
 -- the same parts under other names
 pub lays_moved : (vs ws : List VertexPart) (rs ts : List ArcPart) (g : GraphOf) → vs ≡ ws → rs ≡ ts → Lays vs (links_of rs) g → Lays ws (links_of ts) g
@@ -239,11 +224,11 @@ arc_refused p g h rs e x same arcs bad =
     )
 
 pub filled_names : (vs : List VertexPart) (g h : GraphOf) → FillsVertices vs g h → SameNames g h
-filled_names vs g h x = record { n = x.n; live = λ k. ap (λ es. is_some (get_or es k None)) x.entries }
+filled_names vs g h x = record { n = x.n; live = λ k. ap (λ y. has_arc y k) x.rest }
 
 pub arcs_filled_names : (rs : List ArcPart) (g h : GraphOf) → FillsArcs rs g h → SameNames g h
 arcs_filled_names rs g h x =
-    record { n = ap length x.vertices; live = λ k. ap is_some (x.entries k) ∙ filled_lives (arc_part rs k) (arc_at g k) }
+    record { n = ap n_of x.rest; live = λ k. ap is_some (x.entries k) ∙ filled_lives (arc_part rs k) (arc_at g k) }
 
 -- the parts have one graph
 same_arc : (part : ArcPart) (o q : Option ArcOf) → is_some o ≡ is_some q → IfSome o (IsArcOf part) → IfSome q (IsArcOf part) → o ≡ q
@@ -348,7 +333,7 @@ module _ (rows : List Chained) (holes n : ℕ) (g : GraphOf) (k : ArcNo) (v : Ve
 
   like_then : LikeBut g after
   unfolding with_cut_arc with_listed
-  like_then = record { id = refl; types = refl; fields = refl; n = put_n g (laid_arc g k v); labels = labels_then; values = values_then }
+  like_then = record { fields = refl; n = put_n g (laid_arc g k v); labels = labels_then; values = values_then }
 
   pub told_then : Tells then (holes - 1) n after
   told_then =
@@ -360,8 +345,6 @@ module _ (rows : List Chained) (holes n : ℕ) (g : GraphOf) (k : ArcNo) (v : Ve
         names = λ j. put_names g (laid_arc g k v) j can ∙ omega (arith, t.names j);
         left = left_then;
         new = record {
-          id = a.id ∙ b.id;
-          types = a.types ∙ b.types;
           fields = a.fields ∙ b.fields;
           n = a.n ∙ b.n;
           labels = λ w. a.labels w ∙ b.labels w;
@@ -418,15 +401,17 @@ owning_begins vs v rows holes link x is =
     record { graph = x.graph; end = None; laying = laying_begins vs (nexts rows) v x.graph link x.laying is; tells = x.tells }
 
 -- before that no record is owned
-new_sound : (n : ℕ) → n ≤ 65535 → IsGraph (new_graph n)
-new_sound n few =
-    let a : Inside = record { id = new_id n; types = replicate 14 90; fields = six_zeros; vertices = replicate n blank; slots = []; holes = 0 } in
+abbrev new_inside : ℕ → Inside
+new_inside n = record { id = new_id n; types = replicate 14 90; fields = six_zeros; vertices = replicate n blank; slots = []; holes = 0 }
+
+new_opened : (n : ℕ) → n ≤ 65535 → Opened (new_inside n) (new_graph n)
+new_opened n few =
     let long : length (replicate n blank) ≡ n = length-replicate n blank in
-    subst IsGraph (new_is n)
-    (bare_opened a (omega (arith, long, few)) (new_id_is n few) (record { fourteen = refl; letters = refl }) (subst (λ m. All (IsBare m) (replicate n blank)) (sym long) (blank_is_bare n n)) refl refl refl).graph
+    subst (Opened (new_inside n)) (new_is n)
+    (bare_opened (new_inside n) (omega (arith, long, few)) (new_id_is n few) (record { fourteen = refl; letters = refl }) (subst (λ m. All (IsBare m) (replicate n blank)) (sym long) (blank_is_bare n n)) refl refl refl)
 
 blank_sound : (n m : ℕ) → n ≤ 65535 → m ≤ 1000000 → IsGraph (blank_graph n m)
-blank_sound n zero few low = subst IsGraph (blank_begins n) (new_sound n few)
+blank_sound n zero few low = subst IsGraph (blank_begins n) (new_opened n few).graph
 blank_sound n (suc m) few low =
     let more : with_hole (blank_graph n m) ≡ blank_graph n (suc m) = blank_more n m ∙ ap (blank_graph n) (let e : m + 1 ≡ suc m = omega arith in e) in
     subst IsGraph more (hole_sound (blank_graph n m) (blank_sound n m few (omega (arith, low))) (omega (arith, low, blank_made n m)))
@@ -460,7 +445,7 @@ blank_m n (suc m) = blank_m n m
 
 blank_like : (n m : ℕ) → LikeBut (new_graph n) (blank_graph n m)
 unfolding blank_graph
-blank_like n m = record { id = refl; types = refl; fields = refl; n = refl; labels = λ w. refl; values = λ w. refl }
+blank_like n m = record { fields = refl; n = refl; labels = λ w. refl; values = λ w. refl }
 
 pub owns_none : (vs : List VertexPart) (rs : List ArcPart) (rows : List Chained) → rows ≡ map unowned rs → length vs ≤ 65535 → length rs ≤ 1000000 → OwnsBelow vs 0 rows (length rows)
 owns_none vs rs rows is few_vertices few_arcs =
@@ -504,8 +489,11 @@ names_laid : (r : Chained) (o : Option VertexNo) → IfSome (names_counted (slot
 names_laid r None = tt
 names_laid r (Some v) = refl
 
--- with the vertices linked to the fronts of their chains they show the graph that the rows tell
-module _ (us ws : List Vertex) (ss : Slots) (vs : List VertexPart) (rows : List Chained) (holes : ℕ) (x : Owns vs rows holes) (old : Shows us ss (new_graph (length vs))) (firsts : FirstsOf us vs ws) where
+-- with the vertices linked to the fronts of their chains they show the graph that the rows tell, with its own id and letters
+module _ (ws : List Vertex) (vs : List VertexPart) (rows : List Chained) (holes : ℕ) (id types : List ℕ) (x : Owns vs rows holes) (us : List Vertex) (old : Shows us [] (new_graph (length vs))) (firsts : FirstsOf us vs ws) where
+  abbrev told : GraphOf
+  told = record x.graph { id = id; types = types }
+
   abbrev made : Slots
   made = map laid_slot rows
 
@@ -534,7 +522,7 @@ module _ (us ws : List Vertex) (ss : Slots) (vs : List VertexPart) (rows : List 
             (Leads-agree (link_at (nexts rows)) (next_at made) link (arcs_of g w) None (follows w) leads);
       })
 
-  laid_shows : Shows ws made x.graph
+  laid_shows : Shows ws made told
   laid_shows =
       let g = x.graph in
       let t = x.tells in
@@ -548,19 +536,28 @@ module _ (us ws : List Vertex) (ss : Slots) (vs : List VertexPart) (rows : List 
             (subst (λ z. IfSome (names_counted (laid_slot (row_at rows k))) (λ m. m ≡ z)) (sym (t.names k)) (names_laid (row_at rows k) (row_at rows k).owner));
       }
 
-pub laid_opened : (a b : Inside) (vs : List VertexPart) (rows : List Chained) (holes : ℕ) (x : Owns vs rows holes) → graph_of a ≡ new_graph (length vs) → IsArena a → FirstsOf a.vertices vs b.vertices
-    → b.slots ≡ map laid_slot rows → b.holes ≡ holes → b.id ≡ a.id → b.types ≡ a.types → b.fields ≡ a.fields → Opened b x.graph
-laid_opened a b vs rows holes x same arena firsts slots left id types fields =
-    let o = opened a (new_graph (length vs)) same arena in
-    let t = x.tells in
-    record {
-      graph = x.lays.graph;
-      shows = subst (λ ss. Shows b.vertices ss x.graph) (sym slots) (laid_shows a.vertices b.vertices a.slots vs rows holes x o.shows firsts);
-      holes = ap (λ h. h + m_of x.graph) left ∙ t.left;
-      id = id ∙ (o.id ∙ sym t.new.id);
-      types = types ∙ (o.types ∙ sym t.new.types);
-      fields = fields ∙ (o.fields ∙ sym t.new.fields);
-    }
+pub record LaidDone (b : Inside) (vs : List VertexPart) (rows : List Chained) : Type 0 where
+  pub arena : IsArena b
+  pub lays : Lays vs (nexts rows) (graph_of b)
+
+pub laid_done : (b : Inside) (vs : List VertexPart) (rows : List Chained) (us : List Vertex) → Owns vs rows b.holes → length vs ≤ 65535 → us ≡ replicate (length vs) blank → FirstsOf us vs b.vertices
+    → b.slots ≡ map laid_slot rows → IsId b.id → IsTypes b.types → b.fields ≡ six_zeros → LaidDone b vs rows
+unfolding new_graph
+laid_done b vs rows us x few blanks firsts slots id types fields =
+    let s = x.lays.graph in
+    let g : GraphOf = record x.graph { id = b.id; types = b.types } in
+    let sound : IsGraph g = record { listed = s.listed; id = id; types = types; six = s.six; values = s.values; vertices = s.vertices; arcs = s.arcs; few_vertices = s.few_vertices; few_arcs = s.few_arcs } in
+    let old : Shows us [] (new_graph (length vs)) = subst (λ ws. Shows ws [] (new_graph (length vs))) (sym blanks) (new_opened (length vs) few).shows in
+    let o : Opened b g = record {
+      graph = sound;
+      shows = subst (λ ss. Shows b.vertices ss g) (sym slots) (laid_shows b.vertices vs rows b.holes b.id b.types x us old firsts);
+      holes = x.tells.left;
+      id = refl;
+      types = refl;
+      fields = fields ∙ sym x.tells.new.fields;
+    } in
+    let lays : Lays vs (nexts rows) g = record { n = x.lays.n; made = x.lays.made; lists = x.lays.lists; graph = sound } in
+    record { arena = closed_arena b g o; lays = subst (Lays vs (nexts rows)) (sym (closed b g o)) lays }
 
 -- what is laid along the links that are kept
 pub laid_all : (vs : List VertexPart) (rs : List ArcPart) (rows now : List Chained) (g : GraphOf) → rows ≡ map unowned rs → nexts now ≡ nexts rows → Lays vs (nexts now) g → Lays vs (links_of rs) g

@@ -1,7 +1,7 @@
 use Rattle.std.proofs.Common.{◌∙◌, ap}
 use Rattle.sgb_graph.specs.Private.Vertices.{first_at, values_at}
 use Rattle.sgb_graph.proofs.Vertices.{values_are}
-use Rattle.sgb_graph.proofs.graph.vertices.Vertices.fields_at.Goals as goal
+use Rattle.sgb_graph.proofs.graph.vertices.Vertices.fields.Goals as goal
 
 pub returns : goal.returns
 returns c =

@@ -288,7 +288,7 @@ pub record FilledFrom (vs left : List VertexPart) (g h : GraphOf) : Type 0 where
   pub n : n_of h ≡ n_of g
   pub filled : (v : ℕ) → length left ≤ v → v < n_of g → vertex_at h v ≡ filled_vertex (vertex_part vs v) (vertex_at g v)
   pub others : (v : ℕ) → v < length left → vertex_at h v ≡ vertex_at g v
-  pub entries : h.entries ≡ g.entries
+  pub rest : record h { vertices = [] } ≡ record g { vertices = [] }
   pub graph : IsGraph h
 
 pub filling_begins : (vs : List VertexPart) (g : GraphOf) → n_of g ≡ length vs → IsGraph g → FilledFrom vs vs g g
@@ -299,12 +299,12 @@ filling_begins vs g n sound =
       n = refl;
       filled = λ v a b. absurd (omega arith);
       others = λ v a. refl;
-      entries = refl;
+      rest = refl;
       graph = sound;
     }
 
 pub filling_names : (vs left : List VertexPart) (g h : GraphOf) → FilledFrom vs left g h → SameNames g h
-filling_names vs left g h x = record { n = x.n; live = λ k. ap (λ es. is_some (get_or es k None)) x.entries }
+filling_names vs left g h x = record { n = x.n; live = λ k. ap (λ y. has_arc y k) x.rest }
 
 -- what is left of a list, with the last of it
 pub record LastOf {X : Type 0} (d : X) (xs left : List X) (x : X) : Type 0 where
@@ -347,7 +347,7 @@ filled_more vs left rest part g h i j x is n labelled filled sound =
     ap (λ k. k.vertices) filled
     ∙ (ap (λ w. set i.vertices v (record w { fields = map stored part.fields })) once
     ∙ (ap (λ k. set k.vertices v z) labelled ∙ set-set h.vertices v y z)) in
-    let entries : j.entries ≡ h.entries = ap (λ k. k.entries) filled ∙ ap (λ k. k.entries) labelled in
+    let own : GraphOf → GraphOf = λ k. record k { vertices = [] } in
     record {
       done = part ∷ x.done;
       all = x.all ∙ (ap (λ r. r ++ x.done) is ∙ append_assoc rest (part ∷ []) x.done);
@@ -366,19 +366,19 @@ filled_more vs left rest part g h i j x is n labelled filled sound =
       others = λ w under.
           let other : w ≢ v = λ e. omega arith in
           ap (λ r. get_or r w no_vertex) vertices ∙ (get_or-set_other h.vertices v w z no_vertex other ∙ x.others w (omega arith));
-      entries = entries ∙ x.entries;
+      rest = ap own filled ∙ (ap own labelled ∙ x.rest);
       graph = sound;
     }
 
 pub filling_ends : (vs left : List VertexPart) (g h : GraphOf) → FilledFrom vs left g h → left ≡ [] → FillsVertices vs g h
 filling_ends vs left g h x none =
-    record { n = x.n; vertices = λ v low. x.filled v (omega (arith, ap length none)) low; entries = x.entries; graph = x.graph }
+    record { n = x.n; vertices = λ v low. x.filled v (omega (arith, ap length none)) low; rest = x.rest; graph = x.graph }
 
 -- the same for arcs
 pub record ArcsFilledFrom (rs left : List ArcPart) (g h : GraphOf) : Type 0 where
   pub done : List ArcPart
   pub all : rs ≡ left ++ done
-  pub vertices : h.vertices ≡ g.vertices
+  pub rest : record h { entries = [] } ≡ record g { entries = [] }
   pub made : made_of h ≡ made_of g
   pub filled : (k : ℕ) → length left ≤ k → arc_at h k ≡ filled_entry (arc_part rs k) (arc_at g k)
   pub others : (k : ℕ) → k < length left → arc_at h k ≡ arc_at g k
@@ -394,7 +394,7 @@ arcs_filling_begins rs g made sound =
     record {
       done = [];
       all = sym (append-nil rs);
-      vertices = refl;
+      rest = refl;
       made = refl;
       filled = λ k past. nothing_filled (arc_part rs k) g k (omega arith);
       others = λ k a. refl;
@@ -408,7 +408,7 @@ filled_lives part (Some e) = refl
 pub arcs_filling_names : (rs left : List ArcPart) (g h : GraphOf) → ArcsFilledFrom rs left g h → SameNames g h
 arcs_filling_names rs left g h x =
     record {
-      n = ap length x.vertices;
+      n = ap n_of x.rest;
       live = λ k. elim (cases_lt k (length left)) [
         | inl low ↦ ap is_some (x.others k low)
         | inr high ↦ ap is_some (x.filled k high) ∙ filled_lives (arc_part rs k) (arc_at g k)
@@ -440,7 +440,7 @@ arc_filled_more rs left rest part g h i x is made filled sound =
     record {
       done = part ∷ x.done;
       all = x.all ∙ (ap (λ r. r ++ x.done) is ∙ append_assoc rest (part ∷ []) x.done);
-      vertices = ap (λ y. y.vertices) filled ∙ x.vertices;
+      rest = ap (λ (y : GraphOf). record y { entries = [] }) filled ∙ x.rest;
       made = ap length entries ∙ (length-set h.entries k o ∙ x.made);
       filled = λ j high. elim (cases_eq j k) [
         | inl same ↦
@@ -470,7 +470,7 @@ arc_passed rs left rest part g h x is hole =
     record {
       done = part ∷ x.done;
       all = x.all ∙ (ap (λ r. r ++ x.done) is ∙ append_assoc rest (part ∷ []) x.done);
-      vertices = x.vertices;
+      rest = x.rest;
       made = x.made;
       filled = λ j high. elim (cases_eq j k) [
         | inl same ↦
@@ -485,7 +485,7 @@ arc_passed rs left rest part g h x is hole =
 
 pub arcs_filling_ends : (rs left : List ArcPart) (g h : GraphOf) → ArcsFilledFrom rs left g h → left ≡ [] → FillsArcs rs g h
 arcs_filling_ends rs left g h x none =
-    record { vertices = x.vertices; made = x.made; entries = λ k. x.filled k (omega (arith, ap length none)); graph = x.graph }
+    record { rest = x.rest; made = x.made; entries = λ k. x.filled k (omega (arith, ap length none)); graph = x.graph }
 
 -- the vertex is there when its turn comes
 pub turn_low : (vs left rest : List VertexPart) (part : VertexPart) (g h i : GraphOf) → FilledFrom vs left g h → left ≡ rest ++ part ∷ [] → n_of g ≡ length vs → SameNames h i → length rest < n_of i
