@@ -1,10 +1,10 @@
-pub mod Counting
-pub mod Indexing
-pub mod Listings
-pub mod Making
-pub mod Rotating
+pub mod RowCounts
+pub mod NameIndexes
+pub mod RowStacks
+pub mod TreeGraphs
+pub mod RotatedTrees
 pub mod Rows
 pub mod Shapes
 pub mod Spans
-pub mod Turning
-pub mod Coding
+pub mod RotationSteps
+pub mod NameCodes

@@ -3,26 +3,12 @@ use Rattle.std.proofs.Common.{◌≡◌, ◌<◌, ◌≤◌, ◌+◌, ◌-◌, �
 use Rattle.std.specs.List.{filter}
 use Rattle.std.specs.Option.{option_map, option_and_then}
 use Rattle.std.proofs.lemmas.Bool.{cases_Bool, lt-ltb, le-leb, ltb-true, ltb-false, leb-true, leb-false}
-use Rattle.std.proofs.lemmas.List.Elements.{filter-append, filter_agree, All-nil, All-head, All-tail, All-append, All-map, All-cons}
+use Rattle.std.proofs.lemmas.List.Elements.{filter-append, filter_agree, All-nil, All-append, All-map, All-cons}
 use Rattle.std.proofs.lemmas.List.Sums.{sum_by-cons}
 use Rattle.std.proofs.lemmas.Nat.{pow_pos}
+use Rattle.sgb_plan.proofs.Lists.{filter_none, filter-map}
 use Rattle.sgb_binary.specs.Tree.{words, joined, heights, is_one_low, is_low_tree, trees}
 use Rattle.sgb_binary.specs.Private.Listing.{fits, rows, dotted_rows, leaf_rows, room, rooms, letters_left}
-
--- ---- filters
-pub filter-map : {X Y : Type 0} (p : Y → Bool) (f : X → Y) (xs : List X) → filter p (map f xs) ≡ map f (filter (λ x. p (f x)) xs)
-filter-map p f [] = refl
-filter-map p f (x ∷ xs) =
-    elim (cases_Bool (p (f x))) [
-      | inl passes ↦ rw passes (ap (λ ys. f x ∷ ys) (filter-map p f xs))
-      | inr fails ↦ rw fails (filter-map p f xs)
-    ]
-
-pub filter_none : {X : Type 0} (p : X → Bool) (xs : List X) → All (λ x. p x ≡ false) xs → filter p xs ≡ []
-filter_none p [] all = refl
-filter_none p (x ∷ xs) all =
-    let fails : p x ≡ false = All-head (λ y. p y ≡ false) x xs all in
-    rw fails (filter_none p xs (All-tail (λ y. p y ≡ false) x xs all))
 
 -- ---- heights and budgets
 -- as many heights as budgets, and none above its budget

@@ -8,7 +8,7 @@ use Rattle.std.proofs.lemmas.List.Elements.{filter_agree}
 use Rattle.sgb_binary.specs.Tree.{joined, heights, is_one, is_tree}
 use Rattle.sgb_binary.specs.Rotation.{tree_fronts}
 use Rattle.sgb_binary.specs.Private.Span.{span_from}
-use Rattle.sgb_binary.proofs.Rows.{filter-map, filter_none}
+use Rattle.sgb_plan.proofs.Lists.{filter_none, filter-map}
 
 -- the word is a row of so many trees, read from the left
 is_row : ℕ → List ℕ → Bool

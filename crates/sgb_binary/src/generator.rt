@@ -29,12 +29,8 @@ pub fn binary(alloc: Global, spec: &BinarySpec) -> Result<Graph, Refusal>
         return Err(Refusal::BadSpecs);
     }
     let n = spec.n as u32;
-    make_graph(
-        alloc,
-        n,
-        height_within(n, spec.max_height as u64),
-        spec.directed,
-    )
+    let most = height_within(n, spec.max_height as u64);
+    make_graph(alloc, n, most, spec.directed)
 }
 
 fn is_binary(spec: &BinarySpec) -> bool

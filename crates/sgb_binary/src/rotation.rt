@@ -27,25 +27,15 @@ pub(crate) fn insert_rotations(
     requires apart { Distinct (map bytes_of names.now) }
     ensures { Inserts builder.old builder.new (rotations (map bytes_of names.now)) result }
 {
-    builder.reserve(count_rotations(names))?;
+    // Room is taken once. A tree with n dots has n - 1 below others; in all trees together as many stand to the left as to
+    // the right, since the mirror image of each is among them, and only those to the left are turned.
+    let below = (width / 2).saturating_sub(1);
+    builder.reserve(names.len().saturating_mul(below) / 2)?;
     if width < 64 {
         return insert_by_code(builder, alloc, names);
     }
     let index = index_names(alloc, names)?;
     insert_by_name(builder, alloc, &index)
-}
-
-// How many insertions there are at most, so that room for them is taken once. A tree with n dots has n - 1 below others;
-// in all trees together as many stand to the left as to the right, since the mirror image of each is among them, and
-// only those to the left are turned.
-fn count_rotations(names: &[&[u8]]) -> usize {
-    match names.first() {
-        Some(name) => {
-            let dots = name.len() / 2;
-            names.len().saturating_mul(dots.saturating_sub(1)) / 2
-        }
-        None => 0,
-    }
 }
 
 // The same by the names themselves.

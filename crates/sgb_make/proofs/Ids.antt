@@ -31,9 +31,6 @@ id_is s =
     ap (λ ns. id_of (codes "board") (map signed_decimal (ns ++ piece_of s ∷ s.wrap ∷ []) ++ (if s.directed then codes "1" else codes "0") ∷ []))
     (sym (shown_four (sizes_asked s) (four_asked s)))
 
-abbrev pub IsBoardId : BoardSpec → Result (List ℕ) Refusal → Type 0
-IsBoardId s r = IfOk r (λ id. id ≡ board_id s)
-
 pub id_so : (s : BoardSpec) (a b c d piece : ℤ) (r : Result (List ℕ) Refusal) → a ≡ shown_at (sizes_asked s) 0 → b ≡ shown_at (sizes_asked s) 1 → c ≡ shown_at (sizes_asked s) 2 → d ≡ shown_at (sizes_asked s) 3 → piece ≡ piece_of s → IfOk r (λ id. id ≡ id_of (codes "board") (signed_decimal a ∷ signed_decimal b ∷ signed_decimal c ∷ signed_decimal d ∷ signed_decimal piece ∷ signed_decimal s.wrap ∷ (if s.directed then codes "1" else codes "0") ∷ [])) → IfOk r (λ id. id ≡ board_id s)
 id_so s a b c d piece (Ok id) first second third fourth moves is =
     let ns : List ℤ = sizes_asked s in

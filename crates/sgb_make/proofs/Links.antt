@@ -40,9 +40,6 @@ length-rows a z ts =
     length-pieces (λ x. row_of (moved a x z) ts) (length ts) (along a) (λ x. length-row (moved a x z) ts)
     ∙ ap (λ k. k * length ts) (length-range_with_len 0 a.size)
 
-same_tail : {m n : ℕ} → suc m ≡ suc n → m ≡ n
-same_tail same = cc
-
 pub length-links : (sides : List Side) (v : List ℤ) → length v ≡ length sides → length (links sides v) ≡ cells sides
 unfolding links cells
 length-links [] v same = refl

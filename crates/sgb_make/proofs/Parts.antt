@@ -1,5 +1,5 @@
 -- Lemmas on the absolute values of vectors, part by part.
-use Rattle.std.proofs.Common.{◌≡◌, ◌<◌, ◌≤◌, ◌+◌, ◌-◌, ◌*◌, ◌==◌, ℕ, zero, suc, List, [], ◌∷◌, ◌++◌, length, map, take, set, replicate, Bool, true, false, ◌⊎◌, inl, inr, refl, sym, ap, ap₂, subst, ◌∙◌, arith, append_assoc}
+use Rattle.std.proofs.Common.{◌≡◌, ◌<◌, ◌≤◌, ◌+◌, ◌-◌, ◌*◌, ◌==◌, ℕ, zero, suc, List, [], ◌∷◌, ◌++◌, length, get_or, map, take, set, replicate, Bool, true, false, ◌⊎◌, inl, inr, refl, sym, ap, subst, ◌∙◌, arith, append_assoc}
 use Rattle.std.specs.List.{flat_map, filter, range_with_len}
 use Rattle.std.proofs.Math.Nat.{le-mul_of_pos_right}
 use Rattle.std.proofs.lemmas.Bool.{cases_Bool, eq-eqb, ne_eqb, eqb-true}
@@ -9,33 +9,14 @@ use Rattle.std.proofs.lemmas.List.Sums.{sum_by-cons}
 use Rattle.std.proofs.lemmas.List.Folds.{flat_map-map}
 use Rattle.sgb_graph.specs.declared.builder.Builder.{Builder}
 use Rattle.sgb_graph.specs.Builder.{Insertion}
-use Rattle.sgb_graph.proofs.Inserting.{LeftFrom, from_start}
+use Rattle.sgb_graph.proofs.InsertionRuns.{LeftFrom, from_start}
+use Rattle.sgb_plan.proofs.Lists.{filter_none, filter-map, filter-flat_map, flat_map_agree, flat_map_none, flat_map-flat_map}
+use Rattle.sgb_simplex.proofs.Runs.{cut}
 use Rattle.sgb_make.specs.declared.side.Side.{Side}
 use Rattle.sgb_make.specs.Choice.{choices}
 use Rattle.sgb_make.specs.Ride.{rides_along}
 use Rattle.sgb_make.specs.Vector.{squares, absolutes, vectors_of, vectors}
 use Rattle.sgb_make.specs.Private.Signs.{parts_below, along_vectors, along_parts}
-use Rattle.sgb_make.proofs.Signs.{flat_map_agree, flat_map-flat_map, filter-flat_map, filter-map, filter_nothing}
-
--- ---- a joined list whose last pieces are empty
-cut_from : {A : Type 0} (f g : ℕ → List A) (s e k : ℕ) → ((x : ℕ) → s ≤ x → x < s + e → f x ≡ g x) → ((x : ℕ) → s + e ≤ x → f x ≡ []) → flat_map f (range_with_len s (e + k)) ≡ flat_map g (range_with_len s e)
-cut_from f g s zero zero same none = refl
-cut_from f g s zero (suc k) same none =
-    let here : zero + suc k ≡ suc (zero + k) = omega arith in
-    ap (λ n. flat_map f (range_with_len s n)) here
-    ∙ (ap (λ xs. xs ++ flat_map f (range_with_len (s + 1) (zero + k))) (none s (omega arith))
-    ∙ cut_from f g (s + 1) zero k (λ x low high. absurd (omega arith)) (λ x low. none x (omega arith)))
-cut_from f g s (suc e) k same none =
-    let here : suc e + k ≡ suc (e + k) = omega arith in
-    ap (λ n. flat_map f (range_with_len s n)) here
-    ∙ ap₂ (λ xs ys. xs ++ ys) (same s (omega arith) (omega arith))
-    (cut_from f g (s + 1) e k (λ x low high. same x (omega arith) (omega arith)) (λ x low. none x (omega arith)))
-
-cut : {A : Type 0} (f g : ℕ → List A) (n e : ℕ) → e ≤ n → ((x : ℕ) → x < e → f x ≡ g x) → ((x : ℕ) → e ≤ x → f x ≡ []) → flat_map f (range_with_len 0 n) ≡ flat_map g (range_with_len 0 e)
-cut f g n e low same none =
-    let whole : n ≡ e + (n - e) = omega arith in
-    ap (λ k. flat_map f (range_with_len 0 k)) whole
-    ∙ cut_from f g 0 e (n - e) (λ x a b. same x (omega arith)) (λ x a. none x (omega arith))
 
 -- ---- the parts behind a first one
 abbrev others : ℕ → ℕ → List (List ℕ)
@@ -68,7 +49,7 @@ led_low most d left a low =
 
 led_high : (most d left a : ℕ) → left < a * a → led_by most d left a ≡ []
 led_high most d left a high =
-    ap (map (λ t. a ∷ t)) (filter_nothing (λ t. squares (a ∷ t) == left) (others most d) (λ t. ne_eqb (squares (a ∷ t)) left (λ is. absurd (omega (arith, squares-cons a t)))))
+    ap (map (λ t. a ∷ t)) (filter_none (λ t. squares (a ∷ t) == left) (others most d) (λ k t below. ne_eqb (squares (a ∷ get_or (others most d) k t)) left (λ is. absurd (omega (arith, squares-cons a (get_or (others most d) k t))))))
 
 -- ---- the insertions, part by part
 abbrev pub behind_part : List Side → Bool → ℕ → List ℕ → ℕ → ℕ → ℕ → List Insertion
@@ -78,16 +59,12 @@ behind_part sides rides most begun d left a = along_parts sides rides most (begu
 abbrev pub IsIdle : List Side → Bool → List ℕ → ℕ → ℕ → Type 0
 IsIdle sides rides begun left a = (left < a * a) ⊎ ((t : List ℕ) → along_vectors sides rides (begun ++ a ∷ t) ≡ [])
 
-pub flat_none : {X A : Type 0} (f : X → List A) (xs : List X) → ((x : X) → f x ≡ []) → flat_map f xs ≡ []
-flat_none f [] none = refl
-flat_none f (x ∷ xs) none = ap₂ (λ a b. a ++ b) (none x) (flat_none f xs none)
-
 idle_part : (sides : List Side) (rides : Bool) (most : ℕ) (begun : List ℕ) (d left a : ℕ) → IsIdle sides rides begun left a → flat_map (λ parts. along_vectors sides rides (begun ++ parts)) (led_by most d left a) ≡ []
 idle_part sides rides most begun d left a (inl high) =
     ap (flat_map (λ parts. along_vectors sides rides (begun ++ parts))) (led_high most d left a high)
 idle_part sides rides most begun d left a (inr none) =
     flat_map-map (λ parts. along_vectors sides rides (begun ++ parts)) (λ t. a ∷ t) (filter (λ t. squares (a ∷ t) == left) (others most d))
-    ∙ flat_none (λ t. along_vectors sides rides (begun ++ a ∷ t)) (filter (λ t. squares (a ∷ t) == left) (others most d)) none
+    ∙ flat_map_none (λ t. along_vectors sides rides (begun ++ a ∷ t)) (filter (λ t. squares (a ∷ t) == left) (others most d)) none
 
 live_part : (sides : List Side) (rides : Bool) (most : ℕ) (begun : List ℕ) (d left a : ℕ) → a * a ≤ left → flat_map (λ parts. along_vectors sides rides (begun ++ parts)) (led_by most d left a) ≡ behind_part sides rides most begun d left a
 unfolding along_parts
@@ -113,7 +90,7 @@ part_by_part sides rides most begun n d left end is low few idle =
     ap (λ k. flat_map f (parts_below most k left)) is
     ∙ (ap (flat_map f) (parts_below-suc most d left)
     ∙ (flat_map-flat_map f (led_by most d left) (range_with_len 0 (most + 1))
-    ∙ cut (λ a. flat_map f (led_by most d left a)) (behind_part sides rides most begun d left) (most + 1) end (few_parts left most end low few)
+    ∙ cut (λ a. flat_map f (led_by most d left a)) (behind_part sides rides most begun d left) end (most + 1) (few_parts left most end low few)
     (λ a below. live_part sides rides most begun d left a (few a below))
     (λ a above. idle_part sides rides most begun d left a (idle a above))))
 

@@ -37,10 +37,6 @@ get_or-pieces f n size x r d each on low =
 abbrev behind : List Side → ℕ → List (List ℕ)
 behind sides x = map (λ p. x ∷ p) (positions sides)
 
-positions-cons : (a : Side) (sides : List Side) → positions (a ∷ sides) ≡ flat_map (behind sides) (range_with_len 0 a.size)
-unfolding choices
-positions-cons a sides = refl
-
 pub length-positions : (sides : List Side) → length (positions sides) ≡ cells sides
 unfolding choices cells
 length-positions [] = refl

@@ -65,11 +65,6 @@ stop-none (a ∷ sides) (z ∷ v) [] same on = absurd on
 stop-none (a ∷ sides) (z ∷ v) (x ∷ p) same on =
     ap₂ with_first (ap (moved a x) (no_times z) ∙ moved-none a x on.0) (stop-none sides v p (omega arith) on.1)
 
--- ---- the rides by the links
-number_of-link_of : (o : Option ℕ) → number_of (link_of o) ≡ o
-number_of-link_of None = refl
-number_of-link_of (Some k) = refl
-
 -- the insertions of a ride from its step l on, and those by the links from the position of number `at`
 abbrev ride_at : List Side → List ℤ → Bool → List ℕ → ℕ → ℕ → List Insertion
 ride_at sides v rides p l k = ride (place_of sides p) (stop_number sides v rides p) (range_with_len l k)

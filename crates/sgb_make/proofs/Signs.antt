@@ -1,11 +1,11 @@
 -- Lemmas on vectors by their absolute values and signs.
-use Rattle.std.proofs.Common.{◌≡◌, ℕ, zero, suc, ℤ, pos, negsuc, List, [], ◌∷◌, ◌++◌, map, Bool, true, false, inl, inr, refl, sym, ap, ap₂, ◌∙◌, append_assoc}
+use Rattle.std.proofs.Common.{◌≡◌, ℕ, zero, suc, ℤ, pos, negsuc, List, [], ◌∷◌, ◌++◌, map, Bool, true, false, refl, sym, ap, ap₂, ◌∙◌, append_assoc}
 use Rattle.std.specs.List.{flat_map, filter}
-use Rattle.std.proofs.lemmas.Bool.{cases_Bool}
 use Rattle.std.proofs.lemmas.List.{append-nil}
 use Rattle.std.proofs.lemmas.List.Elements.{filter-append}
 use Rattle.std.proofs.lemmas.List.Folds.{flat_map-map}
 use Rattle.std.proofs.lemmas.Grind.{flat_map-append}
+use Rattle.sgb_plan.proofs.Lists.{filter_all, filter_none, filter-map, flat_map_agree}
 use Rattle.sgb_make.specs.declared.side.Side.{Side}
 use Rattle.sgb_make.specs.Choice.{choices}
 use Rattle.sgb_make.specs.Ride.{rides_along}
@@ -13,36 +13,6 @@ use Rattle.sgb_make.specs.Vector.{signed, is_forward, vectors_of}
 use Rattle.sgb_make.specs.Private.Signs.{signings, along_signings, along_vectors}
 
 -- ---- joined lists
-pub flat_map_agree : {X A : Type 0} (f g : X → List A) (xs : List X) → ((x : X) → f x ≡ g x) → flat_map f xs ≡ flat_map g xs
-flat_map_agree f g [] same = refl
-flat_map_agree f g (x ∷ xs) same = ap₂ (λ a b. a ++ b) (same x) (flat_map_agree f g xs same)
-
-pub flat_map-flat_map : {X Y A : Type 0} (f : Y → List A) (g : X → List Y) (xs : List X) → flat_map f (flat_map g xs) ≡ flat_map (λ x. flat_map f (g x)) xs
-flat_map-flat_map f g [] = refl
-flat_map-flat_map f g (x ∷ xs) =
-    flat_map-append f (g x) (flat_map g xs) ∙ ap (λ t. flat_map f (g x) ++ t) (flat_map-flat_map f g xs)
-
-pub filter-flat_map : {X A : Type 0} (p : A → Bool) (f : X → List A) (xs : List X) → filter p (flat_map f xs) ≡ flat_map (λ x. filter p (f x)) xs
-filter-flat_map p f [] = refl
-filter-flat_map p f (x ∷ xs) =
-    filter-append p (f x) (flat_map f xs) ∙ ap (λ t. filter p (f x) ++ t) (filter-flat_map p f xs)
-
-pub filter-map : {X A : Type 0} (p : A → Bool) (f : X → A) (xs : List X) → filter p (map f xs) ≡ map f (filter (λ x. p (f x)) xs)
-filter-map p f [] = refl
-filter-map p f (x ∷ xs) =
-    elim (cases_Bool (p (f x))) [
-      | inl passes ↦ rw passes (ap (λ t. f x ∷ t) (filter-map p f xs))
-      | inr fails ↦ rw fails (filter-map p f xs)
-    ]
-
-filter_all : {X : Type 0} (p : X → Bool) (xs : List X) → ((x : X) → p x ≡ true) → filter p xs ≡ xs
-filter_all p [] all = refl
-filter_all p (x ∷ xs) all = rw (all x) (ap (λ t. x ∷ t) (filter_all p xs all))
-
-pub filter_nothing : {X : Type 0} (p : X → Bool) (xs : List X) → ((x : X) → p x ≡ false) → filter p xs ≡ []
-filter_nothing p [] none = refl
-filter_nothing p (x ∷ xs) none = rw (none x) (filter_nothing p xs none)
-
 -- ---- both signs, and those of forward vectors
 signings_both : (parts : List ℕ) → choices (map signed parts) ≡ signings parts true
 unfolding choices signings
@@ -64,8 +34,8 @@ signings_forward (suc a ∷ parts) =
     ap (filter is_forward) (ap (λ t. map (λ v. pos (suc a) ∷ v) vs ++ t) (append-nil (map (λ v. negsuc a ∷ v) vs)))
     ∙ (filter-append is_forward (map (λ v. pos (suc a) ∷ v) vs) (map (λ v. negsuc a ∷ v) vs)
     ∙ ap₂ (λ a b. a ++ b)
-    (filter-map is_forward (λ v. pos (suc a) ∷ v) vs ∙ ap (map (λ v. pos (suc a) ∷ v)) (filter_all (λ v. is_forward (pos (suc a) ∷ v)) vs (λ v. refl) ∙ signings_both parts))
-    (filter-map is_forward (λ v. negsuc a ∷ v) vs ∙ ap (map (λ v. negsuc a ∷ v)) (filter_nothing (λ v. is_forward (negsuc a ∷ v)) vs (λ v. refl))))
+    (filter-map is_forward (λ v. pos (suc a) ∷ v) vs ∙ ap (map (λ v. pos (suc a) ∷ v)) (filter_all (λ v. is_forward (pos (suc a) ∷ v)) vs (λ k d below. refl) ∙ signings_both parts))
+    (filter-map is_forward (λ v. negsuc a ∷ v) vs ∙ ap (map (λ v. negsuc a ∷ v)) (filter_none (λ v. is_forward (negsuc a ∷ v)) vs (λ k d below. refl))))
 
 pub along_from_nothing : (sides : List Side) (rides : Bool) (parts : List ℕ) → along_signings sides rides [] parts false ≡ along_vectors sides rides parts
 unfolding along_signings vectors_of

@@ -5,7 +5,7 @@ use Rattle.sgb_graph.specs.declared.builder.Builder.{Builder}
 use Rattle.sgb_graph.specs.declared.refusal.Refusal.{Refusal}
 use Rattle.sgb_graph.specs.Graph.{n_of}
 use Rattle.sgb_graph.specs.Builder.{Insertion, insertion, grown}
-use Rattle.sgb_graph.proofs.Inserting.{Left, RefusesInsertions, left_start, left_some, left_refused, left_end, left_as, left_n}
+use Rattle.sgb_graph.proofs.InsertionRuns.{Left, RefusesInsertions, left_start, left_some, left_refused, left_end, left_as, left_n}
 use Rattle.sgb_make.specs.Ride.{unless_back, ride_on}
 use Rattle.sgb_make.specs.Private.Link.{number_of, trip, trip_from}
 

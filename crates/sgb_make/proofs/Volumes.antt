@@ -1,6 +1,5 @@
 -- Lemmas on sizes, their product, and the sides of a board.
-use Rattle.std.proofs.Common.{◌≡◌, ◌<◌, ◌≤◌, ◌+◌, ◌*◌, ◌^◌, ℕ, zero, suc, ℤ, pos, negsuc, List, [], ◌∷◌, ◌++◌, length, map, get_or, drop, All, Bool, refl, sym, ap, ◌∙◌, arith, append_assoc}
-use Rattle.std.specs.Int.{int_div_euclid, int_shr}
+use Rattle.std.proofs.Common.{◌≡◌, ◌<◌, ◌≤◌, ◌+◌, ◌*◌, ℕ, zero, suc, ℤ, List, [], ◌∷◌, ◌++◌, length, map, get_or, drop, All, Bool, refl, sym, ap, ◌∙◌, arith, append_assoc}
 use Rattle.std.specs.List.{range_with_len, zip}
 use Rattle.std.proofs.Math.Nat.{mul_assoc, mul_comm, le-mul_of_pos_right}
 use Rattle.std.proofs.lemmas.List.{at_drop_more, drop_all, append-nil}
@@ -116,8 +115,3 @@ sides_more wrap sizes now new all k bit below so is pushed =
 pub sides_end : (wrap : ℤ) (sizes : List ℕ) (now all : List Side) (k : ℕ) → length sizes ≤ k → now ++ sides_from wrap k (drop k sizes) ≡ all → now ≡ all
 sides_end wrap sizes now all k end so =
     sym (append-nil now) ∙ (sym (ap (λ ns. now ++ sides_from wrap k ns) (drop_all k sizes end)) ∙ so)
-
--- a shift divides, and rounds down
-pub shifted_is : (z : ℤ) (k : ℕ) → int_shr z k ≡ int_div_euclid z (pos (2 ^ k))
-shifted_is (pos n) k = refl
-shifted_is (negsuc n) k = refl

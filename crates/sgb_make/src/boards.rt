@@ -8,16 +8,15 @@ ghost use Rattle.sgb_make.specs.Private.Rank.{IsSmall, cells};
 ghost use Rattle.sgb_make.specs.Private.Ridden.{along_all, ridden_plan};
 
 use crate::BoardSpec;
-use crate::course::Course;
 use crate::link::Links;
-use crate::position::{name_positions, zeros};
-use crate::side::Step;
+use crate::position::name_positions;
+use crate::side::{Course, Step};
 use crate::sizes::{count_of, sides_of};
-use crate::vector::insert_parts;
+use crate::vector::{count_insertions, insert_parts};
 use sgb_graph::{Builder, Graph, Refusal, Text};
 use sgb_plan::{Part, id_of, shown_at};
 use sgb_simplex::{list_within, point_types};
-use std::alloc::{AllocError, Global};
+use std::alloc::Global;
 
 // The four numbers that stand for the sizes.
 fn sizes_asked(spec: &BoardSpec) -> [i64; 4]
@@ -77,17 +76,6 @@ fn board_id(alloc: Global, spec: &BoardSpec, numbers: &[i64], piece: i64) -> Res
     id_of(alloc, "board", &parts)
 }
 
-// So many steps that lead nowhere.
-fn no_steps(alloc: Global, count: usize) -> Result<Vec<Step>, AllocError>
-    ensures { IfOk result (λ list. length list.items ≡ count) }
-{
-    let mut list = Vec::new(alloc);
-    for _ in 0..count {
-        list.push(Step { by: 0, back: false })?;
-    }
-    Ok(list)
-}
-
 // Inserts along all vectors of the piece.
 fn insert_vectors(builder: &mut Builder, alloc: Global, course: &Course) -> Result<(), Refusal>
     requires most { course.now.most ≤ 128 }
@@ -99,8 +87,10 @@ fn insert_vectors(builder: &mut Builder, alloc: Global, course: &Course) -> Resu
         table: Vec::new(alloc),
         spare: Vec::new(alloc),
     };
-    let mut parts = zeros(alloc, course.sides.len())?;
-    let mut steps = no_steps(alloc, course.sides.len())?;
+    let still = Step { by: 0, back: false };
+    let mut parts = vec![in alloc; 0u32; course.sides.len()]?;
+    let mut steps = vec![in alloc; still; course.sides.len()]?;
+    builder.reserve(count_insertions(course))?;
     insert_parts(
         builder,
         &mut tables,

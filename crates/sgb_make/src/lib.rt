@@ -2,7 +2,6 @@
 #![tactic(auto)]
 
 mod boards;
-mod course;
 mod law;
 mod link;
 mod position;

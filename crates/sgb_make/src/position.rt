@@ -8,7 +8,7 @@ ghost use Rattle.sgb_make.specs.Private.Rank.{IsOn, IsSmall, cells, rank};
 use crate::side::Side;
 use sgb_graph::{Builder, Refusal};
 use sgb_simplex::push_point;
-use std::alloc::{AllocError, Global};
+use std::alloc::Global;
 
 // Goes on to the next position: the last coordinate counts up, and one that is at its end begins anew and lets the one
 // before it count.
@@ -29,17 +29,6 @@ fn advance(sides: &[Side], position: &mut [u32])
     }
 }
 
-// So many times 0.
-pub(crate) fn zeros(alloc: Global, count: usize) -> Result<Vec<u32>, AllocError>
-    ensures { IfOk result (λ list. list.items ≡ replicate count 0) }
-{
-    let mut list = Vec::new(alloc);
-    for _ in 0..count {
-        list.push(0)?;
-    }
-    Ok(list)
-}
-
 // Makes a vertex of each position, in order.
 pub(crate) fn name_positions(
     builder: &mut Builder,
@@ -53,7 +42,7 @@ pub(crate) fn name_positions(
     ensures { Names builder.old builder.new (map point_vertex (positions sides.now)) result }
 {
     builder.reserve_vertices(count as usize)?;
-    let mut position = zeros(alloc, sides.len())?;
+    let mut position = vec![in alloc; 0u32; sides.len()]?;
     let mut name = Vec::new(alloc);
     for _ in 0..count {
         push_point(builder, alloc, &mut name, &position)?;

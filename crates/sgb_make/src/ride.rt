@@ -11,7 +11,7 @@ use crate::side::{Side, Step};
 use sgb_graph::{Builder, Refusal, VertexNo};
 
 // How many steps a ride has at most.
-fn most_steps(rides: bool, count: usize) -> usize
+pub(crate) fn most_steps(rides: bool, count: usize) -> usize
     ensures most { result ≡ (if rides then count else 1) }
     ensures few { 0 < count → result ≤ count }
 {

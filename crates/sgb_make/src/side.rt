@@ -1,4 +1,4 @@
-//! The sides of a board, and the steps of a piece along them.
+//! The sides of a board, and how a piece moves along them.
 
 /// A coordinate of a board: its size, and whether its ends are joined.
 #[derive(Clone, Copy, Debug)]
@@ -12,4 +12,12 @@ pub(crate) struct Side {
 pub(crate) struct Step {
     pub(crate) by: u32,
     pub(crate) back: bool,
+}
+
+/// The sides of a board, whether its piece is a rider, and the sum of the squares of a vector's parts.
+#[derive(Drop)]
+pub(crate) struct Course {
+    pub(crate) sides: Vec<Side>,
+    pub(crate) rides: bool,
+    pub(crate) most: u32,
 }

@@ -7,11 +7,13 @@ ghost use Rattle.sgb_make.specs.Private.Rank.{IsSmall, cells};
 ghost use Rattle.sgb_make.specs.Private.Signs.{along_signings, along_parts};
 ghost use Rattle.sgb_make.specs.Private.Still.{IsStillAt};
 
-use crate::course::Course;
 use crate::link::Links;
-use crate::ride::insert_rides;
-use crate::side::{Side, Step};
-use sgb_graph::{Builder, Refusal};
+use crate::ride::{insert_rides, most_steps};
+use crate::side::{Course, Side, Step};
+use sgb_graph::{Builder, MOST_ARCS, Refusal};
+
+// Twice what a graph takes.
+const TOO_MANY: usize = 2 * MOST_ARCS as usize;
 
 // Inserts along the vectors that begin with the steps before `at` and go on with these absolute values, with both
 // signs for each once a part other than 0 was seen.
@@ -163,4 +165,46 @@ fn insert_whole(
         return Ok(());
     }
     insert_signed(builder, tables, course, parts, steps, 0, false)
+}
+
+// From how many positions step `len` stays on the board, summed over the vectors whose squares sum to `left`: a lower bound
+// where ends are joined. The count stops early once a graph has no room for so many.
+fn count_steps(sides: &[Side], left: u32, len: usize) -> usize
+    requires { left ≤ 128 }
+{
+    let Some((side, others)) = sides.split_first() else {
+        return if left == 0 { 1 } else { 0 };
+    };
+    let size = side.size as usize;
+    let mut count: usize = 0;
+    for part in 0..parts_end(*side, left) {
+        let by = len.saturating_mul(part as usize);
+        let here = if side.wraps && by < size {
+            size
+        } else {
+            size.saturating_sub(by)
+        };
+        let signs = if part == 0 { 1 } else { 2 };
+        let behind = count_steps(others, left - part * part, len);
+        count = count.saturating_add(behind.saturating_mul(here).saturating_mul(signs));
+        if count > TOO_MANY {
+            break;
+        }
+    }
+    count
+}
+
+// A lower bound of the number of insertions, exact without joined ends. A piece has one vector of each opposite pair.
+pub(crate) fn count_insertions(course: &Course) -> usize
+    requires { course.now.most ≤ 128 }
+{
+    let mut count: usize = 0;
+    for len in 1..most_steps(course.rides, 65535) + 1 {
+        let steps = count_steps(&course.sides, course.most, len);
+        count = count.saturating_add(steps);
+        if steps == 0 || count > TOO_MANY {
+            break;
+        }
+    }
+    count / 2
 }

@@ -2,8 +2,9 @@
 use Rattle.std.proofs.Common.{◌≡◌, ◌≢◌, ◌<◌, ◌≤◌, ◌+◌, ℕ, zero, suc, List, [], ◌∷◌, take, drop, Bool, true, false, All, Contains, ◌⊎◌, inl, inr, refl, sym, ap, subst, ◌∙◌, arith}
 use Rattle.std.specs.List.{flat_map, filter, list_all, range_with_len}
 use Rattle.std.proofs.lemmas.Bool.{false≢true, cases_Bool, cases_lt, and_parts, and_from}
-use Rattle.std.proofs.lemmas.List.Elements.{All-contains, All-nil, All-cons, All-head, All-tail, Contains-append_left, Contains-append_right, Contains-append_cases}
+use Rattle.std.proofs.lemmas.List.Elements.{All-contains, All-nil, All-cons, Contains-append_left, Contains-append_right, Contains-append_cases}
 use Rattle.sgb_plan.specs.Distinct.{Distinct}
+use Rattle.sgb_plan.proofs.Lists.{filter_none}
 use Rattle.sgb_plan.proofs.Distincts.{Distinct-head, Distinct-tail}
 
 -- ---- filters
@@ -13,12 +14,6 @@ filter_all p (x ∷ xs) all =
     let both = and_parts (p x) (list_all p xs) all in
     let passes : p x ≡ true = both.0 in
     rw passes (ap (λ ys. x ∷ ys) (filter_all p xs both.1))
-
-pub filter_none : {X : Type 0} (p : X → Bool) (xs : List X) → All (λ x. p x ≡ false) xs → filter p xs ≡ []
-filter_none p [] none = refl
-filter_none p (x ∷ xs) none =
-    let fails : p x ≡ false = All-head (λ y. p y ≡ false) x xs none in
-    rw fails (filter_none p xs (All-tail (λ y. p y ≡ false) x xs none))
 
 -- a filter behind a weaker one
 pub filter_within : {X : Type 0} (p q : X → Bool) → ((x : X) → p x ≡ true → q x ≡ true) → (xs : List X) → filter p (filter q xs) ≡ filter p xs

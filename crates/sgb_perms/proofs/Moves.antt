@@ -4,12 +4,12 @@ use Rattle.std.specs.List.{flat_map, range_with_len}
 use Rattle.std.proofs.lemmas.Bool.{cond-true, cond-false, lt-ltb, le-ltb}
 use Rattle.std.proofs.lemmas.List.Elements.{Contains-get_or}
 use Rattle.sgb_graph.specs.Builder.{Insertion, insertion}
-use Rattle.sgb_graph.proofs.Inserting.{LeftFrom, from_start, map-filter}
+use Rattle.sgb_graph.proofs.InsertionRuns.{LeftFrom, from_start, map-filter}
 use Rattle.sgb_graph.specs.declared.builder.Builder.{Builder}
 use Rattle.sgb_perms.specs.Arrangement.{is_descent, descents, exchanged, arrangements}
 use Rattle.sgb_perms.specs.Perms.{exchange, exchanges, exchanges_of, place_of, row_at}
 use Rattle.sgb_perms.specs.Private.Places.{IsClosed, LeadsWithin}
-use Rattle.sgb_perms.proofs.Exchanging.{exchange_listed, place_within, exchanged_back}
+use Rattle.sgb_perms.proofs.ExchangeSources.{exchange_listed, place_within, exchanged_back}
 
 -- the exchange at a place, where there is one
 abbrev pub move_at : List (List ℕ) → ℕ → List ℕ → ℕ → List Insertion

@@ -1,10 +1,10 @@
 pub mod Digits
 pub mod Distincts
-pub mod Dots
 pub mod Ids
 pub mod Joins
 pub mod Lengths
-pub mod Listings
-pub mod Planning
-pub mod Refusing
+pub mod SizeLists
+pub mod Lists
+pub mod Plans
+pub mod PlanRefusals
 pub mod Shorts

@@ -12,9 +12,6 @@ use Rattle.sgb_graph.proofs.NewLemmas.{decimal_bytes}
 use Rattle.sgb_plan.specs.Id.{hexadecimal, shortened}
 use Rattle.sgb_plan.specs.Private.Bytes.{IsShort}
 
-pub IsShort-none : (n : ℕ) → IsShort n []
-IsShort-none n = record { short = omega arith; printable = refl }
-
 pub IsShort-append : {m n : ℕ} {s t : List ℕ} → IsShort m s → IsShort n t → IsShort (m + n) (s ++ t)
 IsShort-append {m} {n} {s} {t} front back = record {
   short = omega (arith, length-append s t, front.short, back.short);

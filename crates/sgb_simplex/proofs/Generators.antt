@@ -1,7 +1,6 @@
 -- What the generators answer.
-use Rattle.std.proofs.Common.{◌≡◌, ◌<◌, ◌≤◌, ℕ, ℤ, pos, unsigned_abs, List, [], ◌∷◌, ◌++◌, length, map, Bool, true, false, nat_le, FitsSigned, w64, to_z, of_z, if◌then◌else◌, Result, Ok, Err, inl, inr, refl, sym, ap, ap₂, subst, ◌∙◌, arith}
+use Rattle.std.proofs.Common.{◌≡◌, ◌≤◌, ℕ, ℤ, List, [], ◌∷◌, ◌++◌, length, map, Bool, true, FitsSigned, w64, to_z, of_z, if◌then◌else◌, Result, Ok, Err, inl, inr, refl, sym, ap, ap₂, subst, ◌∙◌, arith}
 use Rattle.std.specs.Fmt.{signed_decimal}
-use Rattle.std.proofs.lemmas.Bool.{and_from, and_right, le-leb, lt-leb}
 use Rattle.std.proofs.lemmas.Int.{to_z-of_z}
 use Rattle.std.proofs.lemmas.List.{length-map}
 use Rattle.sgb_graph.specs.declared.builder.Builder.{Builder}
@@ -10,10 +9,10 @@ use Rattle.sgb_graph.specs.declared.refusal.Refusal.TheVariants.{NoRoom, BadSpec
 use Rattle.sgb_graph.specs.Graph.{GraphOf, IsGraph, n_of}
 use Rattle.sgb_graph.specs.Builder.{Insertion, grown}
 use Rattle.sgb_graph.specs.New.{bare_graph}
-use Rattle.sgb_graph.proofs.Inserting.{RefusesInsertions}
+use Rattle.sgb_graph.proofs.InsertionRuns.{RefusesInsertions}
 use Rattle.sgb_plan.specs.Plan.{Plan, IsMade, with_named, MayAllocate}
-use Rattle.sgb_plan.proofs.Planning.{RefusesNames, n-with_named, many_vertices, refused_before, refused_insertions, made}
-use Rattle.sgb_simplex.specs.Bounds.{first_of, bounds_of, is_total, are_in_range, points_within, plan_within, shown_bound, shown_parts}
+use Rattle.sgb_plan.proofs.Plans.{RefusesNames, n-with_named, many_vertices, refused_before, refused_insertions, made}
+use Rattle.sgb_simplex.specs.Bounds.{first_of, are_in_range, points_within, plan_within, shown_bound, shown_parts}
 use Rattle.sgb_simplex.specs.Points.{point_types, point_vertex, point_plan}
 use Rattle.sgb_simplex.specs.Private.Started.{RefusesPoints, started}
 
@@ -66,20 +65,6 @@ names_only_room b id directed all e is few (inr large) =
     absurd (let size : n_of (with_named b (map point_vertex all)).graph ≡ length all = ap (λ (a : Builder). n_of (with_named a (map point_vertex all)).graph) is ∙ n-started id directed all in omega (arith, large.1, size, few))
 
 -- ---- ranges
-pub total_is : (n : ℤ) (total : ℕ) → pos total ≡ n → total ≤ 65535 → (unsigned_abs n ≡ total) × (is_total n ≡ true)
-total_is n total is small = (ap unsigned_abs (sym is), subst (λ z. is_total z ≡ true) is (and_from (nat_le 0 total) (nat_le total 65535) (le-leb 0 total (omega arith)) (le-leb total 65535 small)))
-
-pub range_of : (n : ℤ) (numbers : List ℤ) (total : ℕ) → pos total ≡ n → total ≤ 65535 → length (bounds_of total numbers) ≤ 16 → are_in_range n numbers ≡ true
-range_of n numbers total is small few =
-    let known = total_is n total is small in
-    and_from (is_total n) (nat_le (length (bounds_of (unsigned_abs n) numbers)) 16) known.1
-    (ap (λ t. nat_le (length (bounds_of t numbers)) 16) known.0 ∙ le-leb (length (bounds_of total numbers)) 16 few)
-
-pub not_range_of : (n : ℤ) (numbers : List ℤ) (total : ℕ) → pos total ≡ n → 16 < length (bounds_of total numbers) → are_in_range n numbers ≡ false
-not_range_of n numbers total is many =
-    and_right (is_total n) (nat_le (length (bounds_of (unsigned_abs n) numbers)) 16)
-    (ap (λ z. nat_le (length (bounds_of (unsigned_abs z) numbers)) 16) (sym is) ∙ lt-leb (length (bounds_of total numbers)) 16 many)
-
 -- ---- the numbers as they are read
 pub first_is : (n0 r : ℤ) → FitsSigned w64 n0 → FitsSigned w64 r → r ≡ first_of (to_z w64 (of_z w64 n0)) → to_z w64 (of_z w64 r) ≡ first_of n0
 first_is n0 r fits too is = to_z-of_z w64 r too ∙ (is ∙ ap first_of (to_z-of_z w64 n0 fits))

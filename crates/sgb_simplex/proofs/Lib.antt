@@ -1,9 +1,9 @@
-pub mod Counting
+pub mod PointCounts
 pub mod Fronts
 pub mod Generators
-pub mod Inserted
+pub mod MoveInsertions
 pub mod Ones
-pub mod Named
+pub mod PointNames
 pub mod Parts
 pub mod Rows
 pub mod Runs

@@ -1,27 +1,10 @@
 -- Lemmas on lists that are joined from one list for each number of a range.
-use Rattle.std.proofs.Common.{◌≡◌, ◌<◌, ◌≤◌, ◌+◌, ℕ, zero, suc, List, [], ◌∷◌, ◌++◌, length, map, Bool, true, false, not, eqb, inl, inr, refl, ap, subst, ◌∙◌, arith}
-use Rattle.std.specs.List.{flat_map, filter, position_or_len, range_with_len}
-use Rattle.std.proofs.lemmas.Bool.{cases_Bool, eq-eqb, ne_eqb}
+use Rattle.std.proofs.Common.{◌≡◌, ◌<◌, ◌≤◌, ◌+◌, ℕ, zero, suc, List, [], ◌++◌, length, Bool, true, false, not, eqb, refl, ap, subst, ◌∙◌, arith}
+use Rattle.std.specs.List.{flat_map, position_or_len, range_with_len}
+use Rattle.std.proofs.lemmas.Bool.{eq-eqb, ne_eqb}
 use Rattle.std.proofs.lemmas.List.{length-append}
-use Rattle.std.proofs.lemmas.List.Elements.{filter-append}
 use Rattle.std.proofs.lemmas.List.Folds.{prefix_len-append}
 use Rattle.sgb_simplex.specs.Private.Counts.{sum_from}
-
-pub filter-flat_map : {X Y : Type 0} (p : Y → Bool) (f : X → List Y) (xs : List X) → filter p (flat_map f xs) ≡ flat_map (λ x. filter p (f x)) xs
-filter-flat_map p f [] = refl
-filter-flat_map p f (x ∷ xs) = filter-append p (f x) (flat_map f xs) ∙ ap (λ ys. filter p (f x) ++ ys) (filter-flat_map p f xs)
-
-pub filter-map : {X Y : Type 0} (p : Y → Bool) (f : X → Y) (xs : List X) → filter p (map f xs) ≡ map f (filter (λ x. p (f x)) xs)
-filter-map p f [] = refl
-filter-map p f (x ∷ xs) =
-    elim (cases_Bool (p (f x))) [
-      | inl passes ↦ rw passes (ap (λ ys. f x ∷ ys) (filter-map p f xs))
-      | inr fails ↦ rw fails (filter-map p f xs)
-    ]
-
-pub filter_none : {X : Type 0} (p : X → Bool) (xs : List X) → ((x : X) → p x ≡ false) → filter p xs ≡ []
-filter_none p [] fails = refl
-filter_none p (x ∷ xs) fails = let here : p x ≡ false = fails x in rw here (filter_none p xs fails)
 
 -- ---- ranges that are cut
 pub agree : {Y : Type 0} (f g : ℕ → List Y) (a n : ℕ) → ((x : ℕ) → a ≤ x → x < a + n → f x ≡ g x) → flat_map f (range_with_len a n) ≡ flat_map g (range_with_len a n)
@@ -42,6 +25,9 @@ cut_above f a n zero less none = empty f a n (λ x low high. none x (omega arith
 cut_above f a zero (suc m) less none = absurd (omega (arith, less))
 cut_above f a (suc n) (suc m) less none =
     ap (λ ys. f a ++ ys) (cut_above f (a + 1) n m (omega (arith, less)) (λ x low high. none x (omega arith) (omega arith)))
+
+pub cut : {Y : Type 0} (f g : ℕ → List Y) (n all : ℕ) → n ≤ all → ((x : ℕ) → x < n → f x ≡ g x) → ((x : ℕ) → n ≤ x → f x ≡ []) → flat_map f (range_with_len 0 all) ≡ flat_map g (range_with_len 0 n)
+cut f g n all le same none = cut_above f 0 all n le (λ x low high. none x (omega arith)) ∙ agree f g 0 n (λ x low high. same x (omega arith))
 
 pub cut_below : {Y : Type 0} (f : ℕ → List Y) (a k n m b : ℕ) → m ≡ k + n → b ≡ a + k → ((x : ℕ) → a ≤ x → x < b → f x ≡ []) → flat_map f (range_with_len a m) ≡ flat_map f (range_with_len b n)
 cut_below f a zero n m b sum is none =

@@ -9,9 +9,10 @@ use Rattle.std.proofs.lemmas.List.Elements.{All-nil, All-cons, All-map, All-weak
 use Rattle.std.proofs.lemmas.List.FromFn.{length-range_with_len, get_or-range_with_len}
 use Rattle.std.proofs.lemmas.List.Sums.{sum_by-cons}
 use Rattle.sgb_plan.proofs.Distincts.{All-flat_map, position_or_len-map, position_agree}
+use Rattle.sgb_plan.proofs.Lists.{filter_none, filter-map, filter-flat_map}
 use Rattle.sgb_simplex.specs.Points.{tuples, points, place_of}
 use Rattle.sgb_simplex.specs.Private.Counts.{sum_from, counted, counted_below, IsPoint}
-use Rattle.sgb_simplex.proofs.Runs.{filter-flat_map, filter-map, filter_none, agree, empty, cut_above, cut_below, length_in, position_in}
+use Rattle.sgb_simplex.proofs.Runs.{agree, empty, cut_above, cut_below, length_in, position_in}
 use Rattle.sgb_simplex.proofs.Sums.{sum_same, sum_more, sum_part, sum_back, sum_limited}
 
 -- the points that begin with x
@@ -37,7 +38,7 @@ piece_is s x bs less =
 piece_none : (s x : ℕ) (ts : List (List ℕ)) → s < x → filter (λ t. sum t == s) (map (λ t. x ∷ t) ts) ≡ []
 piece_none s x ts more =
     filter-map (λ t. sum t == s) (λ t. x ∷ t) ts
-    ∙ ap (map (λ t. x ∷ t)) (filter_none (λ t. sum (x ∷ t) == s) ts (λ t. ne_eqb (sum (x ∷ t)) s (λ same. omega (arith, more, same, sum_cons x t))))
+    ∙ ap (map (λ t. x ∷ t)) (filter_none (λ t. sum (x ∷ t) == s) ts (λ k d below. ne_eqb (sum (x ∷ get_or ts k d)) s (λ same. omega (arith, more, same, sum_cons x (get_or ts k d)))))
 
 pub points_nil : points 0 [] ≡ [] ∷ []
 unfolding points tuples
@@ -86,13 +87,6 @@ counted_is bs s = refl
 
 pub counted_few : (bs : List ℕ) (s : ℕ) → length (points s bs) ≤ 65535 → counted bs s ≡ length (points s bs)
 counted_few bs s few = omega (arith, few, counted_is bs s)
-
-pub counted_most : (bs : List ℕ) (s : ℕ) → counted bs s ≤ 65536
-counted_most bs s = omega (arith, counted_is bs s)
-
-below_is : (bs : List ℕ) (s : ℕ) → counted_below bs s ≡ sum_from (counted bs) 0 s
-unfolding counted_below
-below_is bs s = refl
 
 pub below_none : (bs : List ℕ) → counted_below bs 0 ≡ 0
 unfolding counted_below sum_from

@@ -1,5 +1,5 @@
 use Rattle.std.proofs.Common.{◌+◌, ◌-◌, ◌*◌, length, ap, sym, ◌∙◌, arith}
-use Rattle.sgb_binary.proofs.Coding.{code_fits, code_end, code_grown}
+use Rattle.sgb_binary.proofs.NameCodes.{code_fits, code_end, code_grown}
 use Rattle.sgb_binary.proofs.code.code_of.Goals as goal
 
 pub loop-place-init : goal.loop-place-init

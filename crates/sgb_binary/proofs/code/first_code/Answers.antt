@@ -3,7 +3,7 @@ use Rattle.std.specs.Option.{option_to_list}
 use Rattle.sgb_binary.specs.Rotation.{tree_fronts}
 use Rattle.sgb_binary.specs.Private.Code.{code_of}
 use Rattle.sgb_binary.specs.Private.Span.{span_from}
-use Rattle.sgb_binary.proofs.Coding.{worth_fits, sum_fits, worth_more, code_on_dot, code_on_leaf}
+use Rattle.sgb_binary.proofs.NameCodes.{worth_fits, sum_fits, worth_more, code_on_dot, code_on_leaf}
 use Rattle.sgb_binary.proofs.Spans.{tree_fronts_are, span_dot, span_leaf, span_past, span_found}
 use Rattle.sgb_binary.proofs.code.first_code.Goals as goal
 use Rattle.sgb_binary.proofs.code.first_code.Goals.{then-letter-eq46, else-letter-eq46}

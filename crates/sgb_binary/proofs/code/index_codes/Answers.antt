@@ -2,7 +2,7 @@ use Rattle.std.proofs.Common.{◌<◌, length, map, ap, ◌∙◌, arith}
 use Rattle.std.proofs.lemmas.List.{length-map, take_all}
 use Rattle.sgb_binary.specs.Private.Names.{bytes_of}
 use Rattle.sgb_binary.specs.Private.Code.{code_of, codes_of}
-use Rattle.sgb_binary.proofs.Coding.{code_added, name_short, name_at}
+use Rattle.sgb_binary.proofs.NameCodes.{code_added, name_short, name_at}
 use Rattle.sgb_binary.proofs.code.index_codes.Goals as goal
 
 pub loop-name-init : goal.loop-name-init

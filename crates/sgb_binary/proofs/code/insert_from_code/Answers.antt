@@ -2,11 +2,11 @@ use Rattle.std.proofs.Common.{◌≡◌, ◌<◌, List, ℕ, length, map, subst,
 use Rattle.std.proofs.lemmas.List.{length-map}
 use Rattle.std.proofs.lemmas.Result.{err_from_is_err_and}
 use Rattle.sgb_graph.specs.Builder.{grown}
-use Rattle.sgb_graph.proofs.Inserting.{RefusesInsertions, from_some, from_none, from_refused, from_end, from_n}
+use Rattle.sgb_graph.proofs.InsertionRuns.{RefusesInsertions, from_some, from_none, from_refused, from_end, from_n}
 use Rattle.sgb_binary.specs.Private.Names.{bytes_of}
 use Rattle.sgb_binary.specs.Rotation.{rotations_of}
 use Rattle.sgb_binary.specs.Private.Code.{code_of}
-use Rattle.sgb_binary.proofs.Coding.{name_short, name_at, target_some, target_none}
+use Rattle.sgb_binary.proofs.NameCodes.{name_short, name_at, target_some, target_none}
 use Rattle.sgb_binary.proofs.code.insert_from_code.Goals as goal
 use Rattle.sgb_binary.proofs.code.insert_from_code.Goals.{in-Some+in_ok-insert, in_default}
 

@@ -4,7 +4,7 @@ use Rattle.std.specs.Option.{option_to_list}
 use Rattle.std.proofs.lemmas.List.{take_rest}
 use Rattle.sgb_binary.specs.Rotation.{tree_fronts}
 use Rattle.sgb_binary.specs.Private.Code.{code_of}
-use Rattle.sgb_binary.proofs.Coding.{turned_none, turned_no_tree, turned_value}
+use Rattle.sgb_binary.proofs.NameCodes.{turned_none, turned_no_tree, turned_value}
 use Rattle.sgb_binary.proofs.code.turned_code.Goals as goal
 
 pub returns-then-not-starts_with : goal.returns-then-not-starts_with

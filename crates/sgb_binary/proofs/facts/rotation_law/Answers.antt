@@ -1,4 +1,4 @@
-use Rattle.sgb_binary.proofs.Rotating.{turned_tree, found_tree}
+use Rattle.sgb_binary.proofs.RotatedTrees.{turned_tree, found_tree}
 use Rattle.sgb_binary.proofs.facts.rotation_law.Goals as goal
 
 pub returns-clause-turned : goal.returns-clause-turned

@@ -1,7 +1,7 @@
 use Rattle.std.proofs.Common.{◌≡◌, false, Err, refl, sym, subst, ◌∙◌}
 use Rattle.sgb_graph.specs.declared.refusal.Refusal.TheVariants.{BadSpecs}
 use Rattle.sgb_plan.specs.Plan.{IsMade}
-use Rattle.sgb_plan.proofs.Planning.{refused_before}
+use Rattle.sgb_plan.proofs.Plans.{refused_before}
 use Rattle.sgb_binary.specs.declared.spec.BinarySpec.{BinarySpec}
 use Rattle.sgb_binary.specs.Binary.{plan_of_binary, is_binary}
 use Rattle.sgb_binary.proofs.generator.binary.Goals as goal

@@ -4,18 +4,18 @@ use Rattle.std.proofs.lemmas.Result.{err_from_is_err_and}
 use Rattle.sgb_graph.specs.Builder.{grown}
 use Rattle.sgb_graph.specs.Graph.{IsGraph}
 use Rattle.sgb_graph.specs.Text.{IsText}
-use Rattle.sgb_graph.proofs.Inserting.{RefusesInsertions}
+use Rattle.sgb_graph.proofs.InsertionRuns.{RefusesInsertions}
 use Rattle.sgb_plan.specs.Distinct.{Distinct}
 use Rattle.sgb_binary.specs.Private.Names.{bytes_of}
 use Rattle.sgb_plan.specs.Plan.{Plan}
-use Rattle.sgb_plan.proofs.Planning.{RefusesNames, made, refused_names, refused_insertions}
+use Rattle.sgb_plan.proofs.Plans.{RefusesNames, made, refused_names, refused_insertions}
 use Rattle.sgb_binary.specs.Binary.{binary_plan, tree_vertex}
 use Rattle.sgb_binary.specs.Rotation.{rotations}
 use Rattle.sgb_binary.specs.Tree.{trees}
 use Rattle.sgb_binary.specs.Private.Code.{IsName}
-use Rattle.sgb_binary.proofs.Indexing.{names_of}
+use Rattle.sgb_binary.proofs.NameIndexes.{names_of}
 use Rattle.sgb_binary.proofs.Shapes.{trees_distinct}
-use Rattle.sgb_binary.proofs.Making.{trees_text, trees_names, cut_trees, letters_whole, begins, refused_trees, named, many_named, may_want}
+use Rattle.sgb_binary.proofs.TreeGraphs.{trees_text, trees_names, cut_trees, letters_whole, begins, refused_trees, named, many_named, may_want}
 use Rattle.sgb_binary.proofs.generator.make_graph.Goals as goal
 
 pub returns-in_err-count-clause-made : goal.returns-in_err-count-clause-made

@@ -5,9 +5,9 @@ use Rattle.sgb_graph.specs.New.{six_zeros}
 use Rattle.sgb_graph.specs.Text.{IsText}
 use denote.Ref.{Bor}
 use Rattle.sgb_binary.specs.Private.Names.{bytes_of}
-use Rattle.sgb_plan.proofs.Planning.{NamesOf, pushed, push_refused, names_of_start, names_of_some, names_of_refused, names_of_end}
+use Rattle.sgb_plan.proofs.Plans.{NamesOf, pushed, push_refused, names_of_start, names_of_some, names_of_refused, names_of_end}
 use Rattle.sgb_binary.specs.Binary.{tree_vertex}
-use Rattle.sgb_binary.proofs.Indexing.{names_of}
+use Rattle.sgb_binary.proofs.NameIndexes.{names_of}
 use Rattle.sgb_binary.proofs.generator.name_vertices.Goals as goal
 
 -- the name that one of the keys is

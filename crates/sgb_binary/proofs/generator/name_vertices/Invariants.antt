@@ -1,7 +1,7 @@
 use Rattle.std.proofs.Common.{map}
-use Rattle.sgb_plan.proofs.Planning.{NamesOf}
+use Rattle.sgb_plan.proofs.Plans.{NamesOf}
 use Rattle.sgb_binary.specs.Binary.{tree_vertex}
-use Rattle.sgb_binary.proofs.Indexing.{names_of}
+use Rattle.sgb_binary.proofs.NameIndexes.{names_of}
 use Rattle.sgb_binary.proofs.generator.name_vertices.Given as goal
 
 abbrev pub invariant-loop-tree : goal.invariant-loop-tree

@@ -1,8 +1,8 @@
 use Rattle.std.proofs.Common.{◌<◌, length, ap, ◌∙◌, arith}
 use Rattle.std.proofs.lemmas.List.{length-map, take_all}
 use Rattle.sgb_binary.specs.Private.Names.{bytes_of}
-use Rattle.sgb_binary.proofs.Coding.{name_at}
-use Rattle.sgb_binary.proofs.Indexing.{names_of, name_more}
+use Rattle.sgb_binary.proofs.NameCodes.{name_at}
+use Rattle.sgb_binary.proofs.NameIndexes.{names_of, name_more}
 use Rattle.sgb_binary.proofs.index.index_names.Goals as goal
 
 pub loop-name-init : goal.loop-name-init

@@ -2,7 +2,7 @@ use Rattle.std.proofs.Common.{◌==◌, ap, sym, ◌∙◌}
 use Rattle.std.specs.Cmp.Lexicographic.{pointwise}
 use Rattle.std.specs.Option.{option_to_list}
 use Rattle.sgb_binary.specs.Private.Names.{bytes_of}
-use Rattle.sgb_binary.proofs.Turning.{position-map}
+use Rattle.sgb_binary.proofs.RotationSteps.{position-map}
 use Rattle.sgb_binary.proofs.index.number_of.Goals as goal
 
 pub returns-clause-value : goal.returns-clause-value

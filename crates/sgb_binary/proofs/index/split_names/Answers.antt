@@ -3,7 +3,7 @@ use Rattle.std.proofs.lemmas.List.{append-nil, map-append}
 use denote.Ref.{Bor}
 use Rattle.sgb_binary.specs.Private.Names.{bytes_of}
 use Rattle.sgb_binary.specs.Private.Listing.{pieces}
-use Rattle.sgb_binary.proofs.Indexing.{names_of, piece_taken, pieces_end, width_left, width_next}
+use Rattle.sgb_binary.proofs.NameIndexes.{names_of, piece_taken, pieces_end, width_left, width_next}
 use Rattle.sgb_binary.proofs.index.split_names.Goals as goal
 
 pub split_at-requires : goal.split_at-requires

@@ -1,6 +1,6 @@
 use Rattle.std.proofs.Common.{◌≡◌, ◌-◌, ◌*◌, ◌++◌, length}
 use Rattle.sgb_binary.specs.Private.Listing.{pieces}
-use Rattle.sgb_binary.proofs.Indexing.{names_of}
+use Rattle.sgb_binary.proofs.NameIndexes.{names_of}
 use Rattle.sgb_binary.proofs.index.split_names.Given as goal
 
 abbrev pub invariant-loop-v : goal.invariant-loop-v

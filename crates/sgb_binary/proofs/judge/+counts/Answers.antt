@@ -3,8 +3,8 @@ use Rattle.std.specs.Prelude.{reverse}
 use Rattle.std.proofs.lemmas.List.{length-append, length-map, length-reverse, length-set, length-take-le}
 use Rattle.sgb_binary.specs.Private.Listing.{rows, dotted_rows, leaf_rows, rooms, letters_left}
 use Rattle.sgb_binary.proofs.Rows.{rows_none, dotted_none, dotted_low, room_double, rooms_few}
-use Rattle.sgb_binary.proofs.Listings.{rooms_popped, rows_popped, rooms_two, rows_two}
-use Rattle.sgb_binary.proofs.Counting.{leaves_alone, some_waiting, last_of_front, one_behind, two_behind, kept_before}
+use Rattle.sgb_binary.proofs.RowStacks.{rooms_popped, rows_popped, rooms_two, rows_two}
+use Rattle.sgb_binary.proofs.RowCounts.{leaves_alone, some_waiting, last_of_front, one_behind, two_behind, kept_before}
 use Rattle.sgb_binary.proofs.judge.+counts.Goals as goal
 
 pub count_dotted-returns-then-dots-eq0-clause-count : goal.count_dotted-returns-then-dots-eq0-clause-count

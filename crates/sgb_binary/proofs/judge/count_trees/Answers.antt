@@ -1,5 +1,5 @@
 use Rattle.std.proofs.Common.{◌∷◌, [], length, refl, sym, ap, ◌∙◌, arith}
-use Rattle.sgb_binary.proofs.Listings.{one_row, one_room, no_trees}
+use Rattle.sgb_binary.proofs.RowStacks.{one_row, one_room, no_trees}
 use Rattle.sgb_binary.proofs.judge.count_trees.Goals as goal
 
 pub returns-then-n-total-clause-ok : goal.returns-then-n-total-clause-ok

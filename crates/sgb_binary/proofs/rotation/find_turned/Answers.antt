@@ -5,7 +5,7 @@ use Rattle.std.specs.List.{starts_with}
 use Rattle.std.proofs.lemmas.List.{take_rest}
 use Rattle.sgb_binary.specs.Private.Names.{bytes_of}
 use Rattle.sgb_binary.specs.Rotation.{number_in, tree_fronts, turned}
-use Rattle.sgb_binary.proofs.Turning.{behind_dot, turned_part, turned_is, turned_back, targets_none, targets_no_tree, targets_one}
+use Rattle.sgb_binary.proofs.RotationSteps.{behind_dot, turned_part, turned_is, turned_back, targets_none, targets_no_tree, targets_one}
 use Rattle.sgb_binary.proofs.rotation.find_turned.Goals as goal
 
 pub returns-then-not-starts_with-clause-value : goal.returns-then-not-starts_with-clause-value

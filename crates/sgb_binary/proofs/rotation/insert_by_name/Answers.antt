@@ -3,11 +3,11 @@ use Rattle.std.proofs.lemmas.List.{get_or-map, length-map}
 use Rattle.std.proofs.lemmas.Result.{err_from_is_err_and}
 use Rattle.sgb_graph.specs.declared.builder.Builder.{Builder}
 use Rattle.sgb_graph.specs.Builder.{grown}
-use Rattle.sgb_graph.proofs.Inserting.{RefusesInsertions, LeftFrom, from_start, from_some, from_refused, from_end, from_n}
+use Rattle.sgb_graph.proofs.InsertionRuns.{RefusesInsertions, LeftFrom, from_start, from_some, from_refused, from_end, from_n}
 use denote.Ref.{Bor}
 use Rattle.sgb_binary.specs.Private.Names.{bytes_of}
 use Rattle.sgb_binary.specs.Rotation.{rotations_from, rotations_of, rotations}
-use Rattle.sgb_binary.proofs.Indexing.{names_of}
+use Rattle.sgb_binary.proofs.NameIndexes.{names_of}
 use Rattle.sgb_binary.proofs.rotation.insert_by_name.Goals as goal
 
 -- the name that is copied

@@ -1,10 +1,10 @@
 use Rattle.std.proofs.Common.{◌+◌, List, length, ℕ, subst, ap, sym, ◌∙◌, arith}
 use Rattle.std.proofs.lemmas.Result.{err_from_is_err_and}
 use Rattle.sgb_graph.specs.Builder.{grown}
-use Rattle.sgb_graph.proofs.Inserting.{LeftFrom, RefusesInsertions, from_some, from_none, from_refused, from_end, from_n}
+use Rattle.sgb_graph.proofs.InsertionRuns.{LeftFrom, RefusesInsertions, from_some, from_none, from_refused, from_end, from_n}
 use Rattle.sgb_binary.specs.Rotation.{rotations_at, rotations_of}
-use Rattle.sgb_binary.proofs.Indexing.{names_of}
-use Rattle.sgb_binary.proofs.Turning.{rotation_one, rotation_none}
+use Rattle.sgb_binary.proofs.NameIndexes.{names_of}
+use Rattle.sgb_binary.proofs.RotationSteps.{rotation_one, rotation_none}
 use Rattle.sgb_binary.proofs.rotation.insert_from.Goals as goal
 use Rattle.sgb_binary.proofs.rotation.insert_from.Goals.{in-Some+in_ok-insert, in_default}
 

@@ -1,7 +1,7 @@
 use Rattle.std.proofs.Common.{◌≡◌, length}
-use Rattle.sgb_graph.proofs.Inserting.{LeftFrom}
+use Rattle.sgb_graph.proofs.InsertionRuns.{LeftFrom}
 use Rattle.sgb_binary.specs.Rotation.{rotations_at, rotations_of}
-use Rattle.sgb_binary.proofs.Indexing.{names_of}
+use Rattle.sgb_binary.proofs.NameIndexes.{names_of}
 use Rattle.sgb_binary.proofs.rotation.insert_from.Given as goal
 
 abbrev pub invariant-loop-place : goal.invariant-loop-place

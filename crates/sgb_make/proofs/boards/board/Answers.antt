@@ -7,12 +7,12 @@ use Rattle.sgb_graph.specs.declared.refusal.Refusal.{Refusal}
 use Rattle.sgb_graph.specs.declared.refusal.Refusal.TheVariants.{NoRoom, TooLarge, BadSpecs}
 use Rattle.sgb_plan.specs.Listing.{listed, count_of}
 use Rattle.sgb_plan.specs.Plan.{Plan, IsMade}
-use Rattle.sgb_plan.proofs.Planning.{refused_before}
+use Rattle.sgb_plan.proofs.Plans.{refused_before}
 use Rattle.sgb_make.specs.declared.spec.BoardSpec.{BoardSpec}
 use Rattle.sgb_make.specs.Board.{sizes_asked, piece_of, most_of_piece, sides_of, board_id, board_plan, plan_of_board}
 use Rattle.sgb_make.specs.Private.Rank.{volume, cells, IsSmall}
 use Rattle.sgb_make.specs.Private.Ridden.{ridden_plan}
-use Rattle.sgb_make.proofs.Planned.{positive-listed, too_many_sizes, too_large_piece, planned, board_plan_is, too_many_positions, few_positions}
+use Rattle.sgb_make.proofs.BoardPlans.{positive-listed, too_many_sizes, too_large_piece, planned, board_plan_is, too_many_positions, few_positions}
 use Rattle.sgb_make.proofs.Volumes.{ArePositive, small_sizes, small-sides_of, cells-sides_of, length-sides_of}
 use Rattle.sgb_make.proofs.boards.board.Goals as goal
 

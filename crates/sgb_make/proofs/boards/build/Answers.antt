@@ -2,11 +2,11 @@ use Rattle.std.proofs.Common.{map, refl, ap, subst, ◌∙◌}
 use Rattle.std.proofs.lemmas.Result.{err_from_is_err_and}
 use Rattle.sgb_graph.specs.Graph.{IsGraph}
 use Rattle.sgb_plan.specs.Plan.{Plan, with_named}
-use Rattle.sgb_plan.proofs.Planning.{RefusesNames, made, refused_names, refused_insertions}
+use Rattle.sgb_plan.proofs.Plans.{RefusesNames, made, refused_names, refused_insertions}
 use Rattle.sgb_simplex.specs.Points.{point_vertex}
 use Rattle.sgb_make.specs.Ride.{positions}
 use Rattle.sgb_make.specs.Private.Ridden.{ridden_plan}
-use Rattle.sgb_make.proofs.Planned.{begins, named_n}
+use Rattle.sgb_make.proofs.BoardPlans.{begins, named_n}
 use Rattle.sgb_make.proofs.boards.build.Goals as goal
 
 pub returns-in_err-name_positions : goal.returns-in_err-name_positions

@@ -11,4 +11,4 @@ returns c =
     subst (λ (es : List Insertion). Inserts c.args.builder.now c.insert_parts.new.builder es c.insert_parts.result)
     (ap (λ d. along_parts sides c.args.course.now.rides c.args.course.now.most [] d c.args.course.now.most) all
     ∙ sym (all_vectors sides c.args.course.now.rides (length sides) c.args.course.now.most))
-    c.insert_parts.ensures.value
+    (subst (λ b. Inserts b c.insert_parts.new.builder (along_parts sides c.args.course.now.rides c.args.course.now.most [] (length sides - 0) c.args.course.now.most) c.insert_parts.result) c.in_ok-reserve.ensures.same c.insert_parts.ensures.value)

@@ -1,4 +1,4 @@
-use Rattle.sgb_make.proofs.Still.{ride_ends}
+use Rattle.sgb_make.proofs.SizeMultiples.{ride_ends}
 use Rattle.sgb_make.proofs.law.ride_law.Goals as goal
 
 pub returns : goal.returns

@@ -2,19 +2,19 @@ use Rattle.std.proofs.Common.{◌≡◌, ◌+◌, ◌∷◌, [], length, map, re
 use Rattle.std.proofs.lemmas.List.{with_items_is}
 use Rattle.std.proofs.lemmas.Result.{err_from_is_err_and}
 use Rattle.sgb_plan.specs.Plan.{with_named}
-use Rattle.sgb_plan.proofs.Planning.{RefusesNames, NamesOf, names_of_start, names_of_some, names_of_refused, names_of_end}
+use Rattle.sgb_plan.proofs.Plans.{RefusesNames, NamesOf, names_of_start, names_of_some, names_of_refused, names_of_end}
 use Rattle.sgb_simplex.specs.Points.{point_vertex}
 use Rattle.sgb_make.specs.Ride.{positions}
 use Rattle.sgb_make.specs.Private.Rank.{IsOn, rank}
 use Rattle.sgb_make.proofs.Advances.{zeros_on, rank-zeros, length-on}
-use Rattle.sgb_make.proofs.Named.{position_here}
+use Rattle.sgb_make.proofs.PositionNames.{position_here}
 use Rattle.sgb_make.proofs.Ranks.{length-positions}
 use Rattle.sgb_make.proofs.position.name_positions.Goals as goal
 
 pub loop-init : goal.loop-init
 loop-init c =
     let sides = c.args.sides.now in
-    let zeros : c.in_ok-position.position.items ≡ replicate (length sides) 0 = c.in_ok-position.ensures in
+    let zeros : c.in_ok-position.position.items ≡ replicate (length sides) 0 = c.in_ok-position.ensures.items_if_clones_equal (λ y same. same) in
     record {
       left = subst (λ b. NamesOf c.args.builder.now (map point_vertex (positions sides)) b point_vertex (positions sides) 0) (sym c.reserve_vertices.ensures.same) (names_of_start c.args.builder.now point_vertex (positions sides));
       on = subst (IsOn sides) (sym zeros) (zeros_on sides c.requires.small);

@@ -1,5 +1,5 @@
 use Rattle.std.proofs.Common.{◌≡◌, ◌<◌, map}
-use Rattle.sgb_plan.proofs.Planning.{NamesOf}
+use Rattle.sgb_plan.proofs.Plans.{NamesOf}
 use Rattle.sgb_simplex.specs.Points.{point_vertex}
 use Rattle.sgb_make.specs.Ride.{positions}
 use Rattle.sgb_make.specs.Private.Rank.{IsOn, rank}

@@ -3,7 +3,7 @@ use Rattle.std.specs.Int.{w64}
 use Rattle.std.proofs.lemmas.Int.{to_z_pos}
 use Rattle.std.proofs.lemmas.Result.{err_from_is_err_and}
 use Rattle.sgb_graph.specs.Builder.{insertion, grown}
-use Rattle.sgb_graph.proofs.Inserting.{RefusesInsertions}
+use Rattle.sgb_graph.proofs.InsertionRuns.{RefusesInsertions}
 use Rattle.sgb_make.proofs.Trips.{trip_start, trip_none, trip_back, trip_some, trip_refused, trip_end, trip_n}
 use Rattle.sgb_make.proofs.ride.insert_trip.Goals as goal
 

@@ -1,6 +1,6 @@
 use Rattle.std.proofs.Common.{length, arith}
 use Rattle.std.proofs.lemmas.Result.{err_from_is_err_and}
-use Rattle.sgb_graph.proofs.Inserting.{from_start, from_some, from_refused, from_end, from_n}
+use Rattle.sgb_graph.proofs.InsertionRuns.{from_start, from_some, from_refused, from_end, from_n}
 use Rattle.sgb_make.specs.Private.Link.{trip_from, trips}
 use Rattle.sgb_make.proofs.ride.insert_trips.Goals as goal
 

@@ -1,5 +1,5 @@
 use Rattle.std.proofs.Common.{length}
-use Rattle.sgb_graph.proofs.Inserting.{LeftFrom}
+use Rattle.sgb_graph.proofs.InsertionRuns.{LeftFrom}
 use Rattle.sgb_make.specs.Private.Link.{trip_from, trips}
 use Rattle.sgb_make.proofs.ride.insert_trips.Given as goal
 

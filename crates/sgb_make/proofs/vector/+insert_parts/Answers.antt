@@ -2,13 +2,13 @@ use Rattle.std.proofs.Common.{rules, ◌≡◌, ◌<◌, ◌+◌, ◌-◌, ◌*�
 use Rattle.std.proofs.lemmas.List.{take_all}
 use Rattle.std.proofs.lemmas.Result.{err_from_is_err_and}
 use Rattle.sgb_graph.specs.Builder.{Insertion, Inserts, grown}
-use Rattle.sgb_graph.proofs.Inserting.{RefusesInsertions, from_some, from_refused, from_end, from_n}
-use Rattle.sgb_graph.proofs.Growing.{grown-nil}
+use Rattle.sgb_graph.proofs.InsertionRuns.{RefusesInsertions, from_some, from_refused, from_end, from_n}
+use Rattle.sgb_graph.proofs.Insertions.{grown-nil}
 use Rattle.sgb_make.specs.Private.Signs.{along_parts}
 use Rattle.sgb_make.specs.Private.Still.{IsStillAt}
-use Rattle.sgb_make.proofs.Still.{still_parts}
+use Rattle.sgb_make.proofs.SizeMultiples.{still_parts}
 use Rattle.sgb_make.proofs.Parts.{parts_start, kept_parts, begun_more}
-use Rattle.sgb_make.proofs.Quiet.{idle_above}
+use Rattle.sgb_make.proofs.StillVectors.{idle_above}
 use Rattle.sgb_make.proofs.vector.+insert_parts.Goals as goal
 
 pub returns-then-are_still-clause-value : goal.returns-then-are_still-clause-value

@@ -1,5 +1,5 @@
 use Rattle.std.proofs.Common.{◌≡◌, ◌+◌, ◌-◌, length, take}
-use Rattle.sgb_graph.proofs.Inserting.{LeftFrom}
+use Rattle.sgb_graph.proofs.InsertionRuns.{LeftFrom}
 use Rattle.sgb_make.specs.Private.Signs.{along_parts}
 use Rattle.sgb_make.proofs.Parts.{behind_part}
 use Rattle.sgb_make.proofs.vector.+insert_parts.Given as goal

@@ -4,10 +4,10 @@ use Rattle.std.proofs.lemmas.Result.{err_from_is_err_and}
 use Rattle.sgb_graph.specs.declared.builder.Builder.{Builder}
 use Rattle.sgb_graph.specs.Graph.{n_of}
 use Rattle.sgb_graph.specs.Builder.{Insertion, Inserts, grown}
-use Rattle.sgb_graph.proofs.Growing.{n-grown, Inserts-append}
+use Rattle.sgb_graph.proofs.Insertions.{n-grown, Inserts-append}
 use Rattle.sgb_make.specs.Ride.{rides_along}
 use Rattle.sgb_make.specs.Private.Link.{part_of}
-use Rattle.sgb_make.proofs.Signings.{signed_from, step_of, kept_before, end_is, zero_more, first_more, both_more, refused_first}
+use Rattle.sgb_make.proofs.SignSequences.{signed_from, step_of, kept_before, end_is, zero_more, first_more, both_more, refused_first}
 use Rattle.sgb_make.proofs.vector.+insert_signed.Goals as goal
 
 pub returns-then-at-parts-clause-value : goal.returns-then-at-parts-clause-value

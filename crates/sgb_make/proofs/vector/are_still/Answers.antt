@@ -2,7 +2,7 @@ use Rattle.std.proofs.Common.{false, arith}
 use Rattle.std.proofs.lemmas.Bool.{ltb-true}
 use Rattle.sgb_make.specs.declared.side.Side.{Side}
 use Rattle.sgb_make.specs.Private.Still.{IsStillAt}
-use Rattle.sgb_make.proofs.Still.{still_at, positive_at}
+use Rattle.sgb_make.proofs.SizeMultiples.{still_at, positive_at}
 use borrow.Author.Count.{below_more}
 use Rattle.sgb_make.proofs.vector.are_still.Goals as goal
 

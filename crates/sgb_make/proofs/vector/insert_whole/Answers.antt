@@ -1,6 +1,6 @@
 use Rattle.std.proofs.Common.{◌≡◌, List, [], false, ap, sym, subst, ◌∙◌, arith}
 use Rattle.sgb_graph.specs.Builder.{Insertion, Inserts, grown}
-use Rattle.sgb_graph.proofs.Growing.{grown-nil}
+use Rattle.sgb_graph.proofs.Insertions.{grown-nil}
 use Rattle.sgb_make.specs.Private.Signs.{along_signings, along_parts}
 use Rattle.sgb_make.proofs.Parts.{whole_zero, whole_some}
 use Rattle.sgb_make.proofs.Signs.{along_from_nothing}

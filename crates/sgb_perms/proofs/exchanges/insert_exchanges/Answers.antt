@@ -1,6 +1,6 @@
 use Rattle.std.proofs.Common.{length, ◌++◌, sym, ap₂, subst, ◌∙◌, arith}
 use Rattle.std.proofs.lemmas.Result.{err_from_is_err_and}
-use Rattle.sgb_graph.proofs.Inserting.{LeftFrom, from_some, from_refused, from_end, from_n}
+use Rattle.sgb_graph.proofs.InsertionRuns.{LeftFrom, from_some, from_refused, from_end, from_n}
 use Rattle.sgb_perms.specs.Perms.{exchanges, exchanges_of, row_at}
 use Rattle.sgb_perms.proofs.Moves.{exchanges_start}
 use Rattle.sgb_perms.proofs.exchanges.insert_exchanges.Goals as goal

@@ -1,7 +1,7 @@
 use Rattle.std.proofs.Common.{◌≡◌, ◌<◌, ◌+◌, ◌-◌, length, refl, sym, ap, subst, ◌∙◌, arith}
 use Rattle.std.proofs.lemmas.Result.{err_from_is_err_and}
 use Rattle.sgb_graph.specs.Builder.{grown}
-use Rattle.sgb_graph.proofs.Inserting.{LeftFrom, RefusesInsertions, from_some, from_none, from_refused, from_end, from_n}
+use Rattle.sgb_graph.proofs.InsertionRuns.{LeftFrom, RefusesInsertions, from_some, from_none, from_refused, from_end, from_n}
 use Rattle.sgb_perms.specs.Perms.{exchanges_of}
 use Rattle.sgb_perms.specs.Private.Places.{LeadsWithin}
 use Rattle.sgb_perms.proofs.Moves.{move_at, moves_start, move_some, move_none, descends_so, rises_so, place_so, row_back, from_within}

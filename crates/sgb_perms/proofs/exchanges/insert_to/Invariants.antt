@@ -1,5 +1,5 @@
 use Rattle.std.proofs.Common.{◌≡◌, ◌-◌, length}
-use Rattle.sgb_graph.proofs.Inserting.{LeftFrom}
+use Rattle.sgb_graph.proofs.InsertionRuns.{LeftFrom}
 use Rattle.sgb_perms.specs.Perms.{exchanges_of}
 use Rattle.sgb_perms.proofs.Moves.{move_at}
 use Rattle.sgb_perms.proofs.exchanges.insert_to.Given as goal

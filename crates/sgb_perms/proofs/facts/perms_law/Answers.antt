@@ -1,7 +1,7 @@
 use Rattle.std.proofs.Common.{◌≡◌, ◌≤◌, ◌<◌, ℕ, List, [], ◌∷◌, length, sum, Contains, ◌↔◌, arith}
 use Rattle.sgb_perms.specs.Arrangement.{IsArrangement, arrangements, vector_of}
-use Rattle.sgb_perms.proofs.Arranged.{listed_is, listed_has, arrangements_differ, vector_tells}
-use Rattle.sgb_perms.proofs.Greatest.{at_most, reached}
+use Rattle.sgb_perms.proofs.Arrangements.{listed_is, listed_has, arrangements_differ, vector_tells}
+use Rattle.sgb_perms.proofs.MostInversions.{at_most, reached}
 use Rattle.sgb_perms.proofs.facts.perms_law.Goals as goal
 
 law_all : (counts a : List ℕ) (most : ℕ) → 0 < length counts → Contains (arrangements counts most) a ↔ (IsArrangement counts a × (sum (vector_of counts a) ≤ most))

@@ -8,16 +8,16 @@ use Rattle.sgb_graph.specs.declared.refusal.Refusal.TheVariants.{NoRoom, BadSpec
 use Rattle.sgb_graph.specs.Graph.{IsGraph, n_of}
 use Rattle.sgb_graph.specs.New.{bare_graph}
 use Rattle.sgb_graph.specs.Builder.{grown}
-use Rattle.sgb_graph.proofs.Inserting.{RefusesInsertions}
+use Rattle.sgb_graph.proofs.InsertionRuns.{RefusesInsertions}
 use Rattle.sgb_plan.specs.Distinct.{Distinct}
 use Rattle.sgb_plan.specs.Plan.{Plan, IsMade, with_named, MayAllocate}
-use Rattle.sgb_plan.proofs.Planning.{begun, n-with_named, RefusesNames, made, refused_before, refused_names, refused_insertions, many_vertices}
+use Rattle.sgb_plan.proofs.Plans.{begun, n-with_named, RefusesNames, made, refused_before, refused_names, refused_insertions, many_vertices}
 use Rattle.sgb_perms.specs.declared.spec.PermsSpec.{PermsSpec}
 use Rattle.sgb_perms.specs.Arrangement.{arrangements}
 use Rattle.sgb_perms.specs.Perms.{counts_of, are_allowed, most_of, row_vertex, exchanges, perms_id, perms_plan, plan_of_perms}
 use Rattle.sgb_perms.specs.Private.Rows.{RowsOf}
 use Rattle.sgb_perms.specs.Private.Places.{IsClosed}
-use Rattle.sgb_perms.proofs.Arranged.{listed_is, arrangements_differ}
+use Rattle.sgb_perms.proofs.Arrangements.{listed_is, arrangements_differ}
 use Rattle.sgb_perms.proofs.Filters.{All-from_contains}
 use Rattle.sgb_perms.proofs.Moves.{closed}
 use Rattle.sgb_perms.proofs.generate.perms.Goals as goal

@@ -1,7 +1,7 @@
 use Rattle.std.proofs.Common.{◌+◌, ◌-◌, ℕ, min, sym, ap, ◌∙◌, arith}
 use Rattle.std.proofs.lemmas.List.{nil_from_length}
 use Rattle.sgb_perms.specs.Private.Counted.{copies_counted, rows_counted}
-use Rattle.sgb_perms.proofs.Counting.{one_counted, none_counted, kind_counted, no_kind_counted, count_step, count_over, count_end}
+use Rattle.sgb_perms.proofs.RowCounts.{one_counted, none_counted, kind_counted, no_kind_counted, count_step, count_over, count_end}
 use Rattle.sgb_perms.proofs.judge.+count_rows.Goals as goal
 
 pub returns-in-Some : goal.returns-in-Some

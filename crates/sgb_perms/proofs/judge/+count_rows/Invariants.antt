@@ -1,6 +1,6 @@
 use Rattle.std.proofs.Common.{◌≤◌, ◌+◌, ◌-◌, min, length, sum}
 use Rattle.sgb_perms.specs.Private.Counted.{copies_counted, rows_counted}
-use Rattle.sgb_perms.proofs.Counting.{LeftToCount}
+use Rattle.sgb_perms.proofs.RowCounts.{LeftToCount}
 use Rattle.sgb_perms.proofs.judge.+count_rows.Given as goal
 
 abbrev pub decreases-count_rows : goal.decreases-count_rows

@@ -1,6 +1,6 @@
 use Rattle.std.proofs.Common.{◌-◌, List, ℕ, length, take, drop, refl, arith}
 use Rattle.std.proofs.lemmas.List.{take_rest}
-use Rattle.sgb_perms.proofs.Counting.{all_counted}
+use Rattle.sgb_perms.proofs.RowCounts.{all_counted}
 use Rattle.sgb_perms.proofs.judge.count_arrangements.Goals as goal
 
 pub returns-then-count-gt-MOST_VERTICES-clause-err : goal.returns-then-count-gt-MOST_VERTICES-clause-err

@@ -7,7 +7,7 @@ use Rattle.std.proofs.lemmas.Result.{err_from_is_err_and}
 use Rattle.sgb_perms.specs.Arrangement.{arrangements}
 use Rattle.sgb_perms.specs.Private.Listed.{copies_from, rows_from}
 use Rattle.sgb_perms.specs.Private.Rows.{RowsOf, with_rows}
-use Rattle.sgb_perms.proofs.Arranged.{arrangements_are}
+use Rattle.sgb_perms.proofs.Arrangements.{arrangements_are}
 use Rattle.sgb_perms.proofs.Runs.{RefusesRows}
 use Rattle.sgb_perms.proofs.listing.list_arrangements.Goals as goal
 

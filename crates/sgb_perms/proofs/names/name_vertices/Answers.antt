@@ -7,7 +7,7 @@ use Rattle.std.proofs.lemmas.Result.{err_from_is_err_and}
 use Rattle.sgb_graph.specs.New.{six_zeros}
 use Rattle.sgb_graph.specs.Text.{IsText, is_text_byte}
 use Rattle.sgb_plan.specs.Plan.{with_named}
-use Rattle.sgb_plan.proofs.Planning.{RefusesNames, pushed, push_refused, names_of_start, names_of_some, names_of_refused, names_of_end, NamesOf}
+use Rattle.sgb_plan.proofs.Plans.{RefusesNames, pushed, push_refused, names_of_start, names_of_some, names_of_refused, names_of_end, NamesOf}
 use Rattle.sgb_perms.specs.Perms.{symbol, name_of, row_vertex}
 use Rattle.sgb_perms.proofs.names.name_vertices.Goals as goal
 

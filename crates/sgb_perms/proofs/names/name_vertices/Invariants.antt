@@ -1,5 +1,5 @@
 use Rattle.std.proofs.Common.{map}
-use Rattle.sgb_plan.proofs.Planning.{NamesOf}
+use Rattle.sgb_plan.proofs.Plans.{NamesOf}
 use Rattle.sgb_perms.specs.Perms.{row_vertex}
 use Rattle.sgb_perms.proofs.names.name_vertices.Given as goal
 

@@ -3,7 +3,7 @@ use Rattle.std.specs.List.{slice_get}
 use Rattle.std.specs.Option.{unwrap_or}
 use Rattle.sgb_perms.specs.Perms.{place_of}
 use Rattle.sgb_perms.specs.Private.Places.{shown_by, IsWordsOf, IsIndexOf}
-use Rattle.sgb_perms.proofs.Looking.{found, word_found, word_guessed}
+use Rattle.sgb_perms.proofs.RowLookup.{found, word_found, word_guessed}
 use Rattle.sgb_perms.proofs.places.find_place.Goals as goal
 
 pub returns-in-Some : goal.returns-in-Some

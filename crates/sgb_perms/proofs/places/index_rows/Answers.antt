@@ -1,7 +1,7 @@
 use Rattle.std.proofs.Common.{◌<◌, length, ap, ◌∙◌, arith}
 use Rattle.std.proofs.lemmas.List.{take_all}
 use Rattle.sgb_perms.specs.Private.Places.{shown_by}
-use Rattle.sgb_perms.proofs.Looking.{key_more}
+use Rattle.sgb_perms.proofs.RowLookup.{key_more}
 use Rattle.sgb_perms.proofs.places.index_rows.Goals as goal
 
 pub loop-v-init : goal.loop-v-init

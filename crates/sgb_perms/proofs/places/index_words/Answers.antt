@@ -1,6 +1,6 @@
 use Rattle.std.proofs.Common.{◌<◌, length, sym, ap, ◌∙◌, arith}
 use Rattle.sgb_perms.specs.Private.Places.{word_of}
-use Rattle.sgb_perms.proofs.Looking.{words_none, words_more, words_all}
+use Rattle.sgb_perms.proofs.RowLookup.{words_none, words_more, words_all}
 use Rattle.sgb_perms.proofs.places.index_words.Goals as goal
 
 pub loop-v-init : goal.loop-v-init

@@ -1,4 +1,4 @@
-use Rattle.sgb_perms.proofs.Looking.{IsWordsTo}
+use Rattle.sgb_perms.proofs.RowLookup.{IsWordsTo}
 use Rattle.sgb_perms.proofs.places.index_words.Given as goal
 
 abbrev pub invariant-loop-v : goal.invariant-loop-v

@@ -1,6 +1,6 @@
 use Rattle.std.proofs.Common.{◌≡◌, ◌+◌, ◌-◌, length, drop, sym, ap, ◌∙◌, arith}
 use Rattle.sgb_perms.specs.Private.Places.{word_of}
-use Rattle.sgb_perms.proofs.Looking.{word_none, word_more}
+use Rattle.sgb_perms.proofs.RowLookup.{word_none, word_more}
 use Rattle.sgb_perms.proofs.places.word_of.Goals as goal
 
 pub loop-place-init : goal.loop-place-init

@@ -2,7 +2,7 @@ use Rattle.std.proofs.Common.{rules, ◌≡◌, ◌%◌, length, get_or, pos, un
 use Rattle.std.proofs.lemmas.Int.{to_z-of_z}
 use Rattle.std.proofs.lemmas.List.FromFn.{length-map-range_with_len}
 use Rattle.sgb_plan.specs.Listing.{listed_at}
-use Rattle.sgb_plan.proofs.Listings.{place_is_listed, listed_more}
+use Rattle.sgb_plan.proofs.SizeLists.{place_is_listed, listed_more}
 use Rattle.sgb_plan.proofs.listing.list_of.Goals as goal
 
 pub bounds-numbers-i : goal.bounds-numbers-i

@@ -2,8 +2,8 @@ use Rattle.std.proofs.Common.{◌+◌, refl, ap₂, subst}
 use Rattle.std.proofs.lemmas.Result.{on_ok_weaker}
 use Rattle.sgb_random.specs.Random.{Course}
 use Rattle.sgb_random.specs.Private.Progress.{IsIndexed}
-use Rattle.sgb_random.proofs.Coursing.{attempted_is, indexed_drawn}
-use Rattle.sgb_random.proofs.Following.{follows_two, follows_then}
+use Rattle.sgb_random.proofs.AttemptOutcomes.{attempted_is, indexed_drawn}
+use Rattle.sgb_random.proofs.DrawCounts.{follows_two, follows_then}
 use Rattle.sgb_random.proofs.attempt.attempt.Goals as goal
 
 pub returns-clause-ok : goal.returns-clause-ok

@@ -1,4 +1,4 @@
-use Rattle.sgb_random.proofs.Following.{follows_some}
+use Rattle.sgb_random.proofs.DrawCounts.{follows_some}
 use Rattle.sgb_random.proofs.attempt.draw_length.Goals as goal
 
 pub returns-clause-follows : goal.returns-clause-follows

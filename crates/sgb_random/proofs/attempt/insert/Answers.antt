@@ -3,10 +3,10 @@ use Rattle.std.proofs.lemmas.Int.{to_z-of_z}
 use Rattle.std.proofs.lemmas.List.{map-append}
 use Rattle.std.proofs.lemmas.Result.{on_ok_weaker}
 use Rattle.sgb_graph.specs.Builder.{insertion, grown}
-use Rattle.sgb_graph.proofs.Growing.{grown-append}
+use Rattle.sgb_graph.proofs.Insertions.{grown-append}
 use Rattle.sgb_random.specs.Private.Progress.{insertion_of}
-use Rattle.sgb_random.proofs.Coursing.{kept_drawn}
-use Rattle.sgb_random.proofs.Within.{inserts_ok, room_only}
+use Rattle.sgb_random.proofs.AttemptOutcomes.{kept_drawn}
+use Rattle.sgb_random.proofs.InsertionCounts.{inserts_ok, room_only}
 use Rattle.sgb_random.proofs.attempt.insert.Goals as goal
 
 pub returns-then-shortens-clause-ok : goal.returns-then-shortens-clause-ok

@@ -3,8 +3,8 @@ use Rattle.std.specs.Int.{int_min}
 use Rattle.std.proofs.lemmas.Int.{to_z-of_z}
 use Rattle.sgb_graph.specs.Builder.{insertion}
 use Rattle.sgb_random.specs.Private.Progress.{insertion_of, with_len_at}
-use Rattle.sgb_random.proofs.Coursing.{kept_drawn}
-use Rattle.sgb_random.proofs.Joining.{with_len_at-set}
+use Rattle.sgb_random.proofs.AttemptOutcomes.{kept_drawn}
+use Rattle.sgb_random.proofs.VertexPairs.{with_len_at-set}
 use Rattle.sgb_random.proofs.attempt.lower.Goals as goal
 
 pub returns-clause-ok : goal.returns-clause-ok

@@ -6,9 +6,9 @@ use Rattle.sgb_random.specs.Random.{Course, joins, lowered, with_length}
 use Rattle.sgb_random.specs.Private.Table.{holds}
 use Rattle.sgb_random.specs.Private.Progress.{IsIndexed, insertion_of, with_len_at}
 use Rattle.std.proofs.lemmas.Result.{on_ok_weaker}
-use Rattle.sgb_random.proofs.Coursing.{tried_barred, tried_again, tried_new, tried_shorter, tried_skipped, found_is, place_is, kept_same, indexed_same, indexed_more, indexed_lower, with_length_same, on_ok_both, not_false, not_true, below_le, IsPut}
-use Rattle.sgb_random.proofs.Joining.{lowered_at}
-use Rattle.sgb_random.proofs.Placing.{put_again}
+use Rattle.sgb_random.proofs.AttemptOutcomes.{tried_barred, tried_again, tried_new, tried_shorter, tried_skipped, found_is, place_is, kept_same, indexed_same, indexed_more, indexed_lower, with_length_same, on_ok_both, not_false, not_true, below_le, IsPut}
+use Rattle.sgb_random.proofs.VertexPairs.{lowered_at}
+use Rattle.sgb_random.proofs.PairTable.{put_again}
 use Rattle.sgb_random.proofs.attempt.try_pair.Goals as goal
 
 pub returns-then-is_barred-clause-ok : goal.returns-then-is_barred-clause-ok

@@ -1,7 +1,7 @@
 use Rattle.std.proofs.Common.{ap, ◌∙◌, arith}
 use Rattle.std.proofs.lemmas.Result.{err_from_is_err_and}
 use Rattle.sgb_graph.specs.Graph.{n_of}
-use Rattle.sgb_random.proofs.Building.{begins, names_fit}
+use Rattle.sgb_random.proofs.RandomGraphs.{begins, names_fit}
 use Rattle.sgb_random.proofs.build.begin.Goals as goal
 
 pub returns-in_err-name_vertices-clause-err : goal.returns-in_err-name_vertices-clause-err

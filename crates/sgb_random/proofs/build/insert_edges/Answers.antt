@@ -1,8 +1,8 @@
 use Rattle.std.proofs.Common.{arith}
 use Rattle.std.proofs.lemmas.Result.{err_from_is_err_and}
-use Rattle.sgb_graph.proofs.Inserting.{of_start_map, of_some, of_refused, of_end, of_n}
+use Rattle.sgb_graph.proofs.InsertionRuns.{of_start_map, of_some, of_refused, of_end, of_n}
 use Rattle.sgb_random.specs.Private.Progress.{insertion_of}
-use Rattle.sgb_random.proofs.Building.{edge_at, edge_within}
+use Rattle.sgb_random.proofs.RandomGraphs.{edge_at, edge_within}
 use Rattle.sgb_random.proofs.build.insert_edges.Goals as goal
 
 pub loop-edge-init : goal.loop-edge-init

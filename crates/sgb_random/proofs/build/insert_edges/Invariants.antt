@@ -1,5 +1,5 @@
 use Rattle.std.proofs.Common.{◌∷◌, [], map}
-use Rattle.sgb_graph.proofs.Inserting.{LeftOf}
+use Rattle.sgb_graph.proofs.InsertionRuns.{LeftOf}
 use Rattle.sgb_random.specs.Private.Progress.{insertion_of}
 use Rattle.sgb_random.proofs.build.insert_edges.Given as goal
 

@@ -1,6 +1,6 @@
 use Rattle.std.proofs.Common.{map}
 use Rattle.std.specs.List.{range_with_len}
-use Rattle.sgb_plan.proofs.Planning.{NamesFrom}
+use Rattle.sgb_plan.proofs.Plans.{NamesFrom}
 use Rattle.sgb_random.specs.Random.{numbered}
 use Rattle.sgb_random.proofs.build.name_vertices.Given as goal
 

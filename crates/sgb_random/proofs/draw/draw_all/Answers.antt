@@ -1,7 +1,7 @@
 use Rattle.std.proofs.Common.{inr, refl, arith}
 use Rattle.sgb_random.specs.Random.{attempts}
-use Rattle.sgb_random.proofs.Following.{follows_start, follows_then}
-use Rattle.sgb_random.proofs.Running.{run_start, run_next, run_places, run_ready, run_room, run_course, run_all, run_stuck}
+use Rattle.sgb_random.proofs.DrawCounts.{follows_start, follows_then}
+use Rattle.sgb_random.proofs.AttemptRuns.{run_start, run_next, run_places, run_ready, run_room, run_course, run_all, run_stuck}
 use Rattle.sgb_random.proofs.draw.draw_all.Goals as goal
 
 pub loop-attempt-init : goal.loop-attempt-init

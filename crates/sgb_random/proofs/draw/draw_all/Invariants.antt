@@ -1,4 +1,4 @@
-use Rattle.sgb_random.proofs.Running.{IsRun}
+use Rattle.sgb_random.proofs.AttemptRuns.{IsRun}
 use Rattle.sgb_random.proofs.draw.draw_all.Given as goal
 
 abbrev pub invariant-loop-attempt : goal.invariant-loop-attempt

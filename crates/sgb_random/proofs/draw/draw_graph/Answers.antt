@@ -3,7 +3,7 @@ use Rattle.std.proofs.lemmas.Result.{err_from_is_err_and}
 use Rattle.sgb_graph.specs.Graph.{n_of}
 use Rattle.sgb_random.specs.Random.{size_of}
 use Rattle.sgb_random.specs.Private.Progress.{IsWithin, insertion_of}
-use Rattle.sgb_random.proofs.Within.{course_room}
+use Rattle.sgb_random.proofs.InsertionCounts.{course_room}
 use Rattle.sgb_random.proofs.draw.draw_graph.Goals as goal
 
 pub insert_edges-requires : goal.insert_edges-requires

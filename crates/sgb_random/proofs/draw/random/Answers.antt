@@ -3,11 +3,11 @@ use Rattle.std.proofs.lemmas.Result.{err_from_is_err_and}
 use Rattle.sgb_graph.specs.declared.refusal.Refusal.TheVariants.{NoRoom}
 use Rattle.sgb_graph.specs.Graph.{IsGraph}
 use Rattle.sgb_plan.specs.Plan.{Plan, IsMade}
-use Rattle.sgb_plan.proofs.Planning.{made, refused_before}
+use Rattle.sgb_plan.proofs.Plans.{made, refused_before}
 use Rattle.sgb_random.specs.Random.{course, random_plan}
-use Rattle.sgb_random.proofs.Building.{bare_is}
-use Rattle.sgb_random.proofs.Judging.{judge_room}
-use Rattle.sgb_random.proofs.Running.{plan_before, plan_after, stuck_refused, whole_made}
+use Rattle.sgb_random.proofs.RandomGraphs.{bare_is}
+use Rattle.sgb_random.proofs.Refusals.{judge_room}
+use Rattle.sgb_random.proofs.AttemptRuns.{plan_before, plan_after, stuck_refused, whole_made}
 use Rattle.sgb_random.proofs.draw.random.Goals as goal
 
 pub returns-in_err-range-clause-err : goal.returns-in_err-range-clause-err

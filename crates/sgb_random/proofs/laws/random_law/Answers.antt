@@ -1,7 +1,7 @@
 use Rattle.std.proofs.Common.{pos, int_le}
-use Rattle.sgb_random.proofs.Judging.{true_from_T}
-use Rattle.sgb_random.proofs.Once.{once_course}
-use Rattle.sgb_random.proofs.Within.{plan_fits}
+use Rattle.sgb_random.proofs.Refusals.{true_from_T}
+use Rattle.sgb_random.proofs.PairsOnce.{once_course}
+use Rattle.sgb_random.proofs.InsertionCounts.{plan_fits}
 use Rattle.sgb_random.proofs.laws.random_law.Goals as goal
 
 pub returns-clause-once : goal.returns-clause-once

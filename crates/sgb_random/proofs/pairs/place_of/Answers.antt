@@ -1,5 +1,5 @@
 use Rattle.std.proofs.Common.{◌+◌}
-use Rattle.sgb_random.proofs.Placing.{has_room, place_around, place_at_once}
+use Rattle.sgb_random.proofs.PairTable.{has_room, place_around, place_at_once}
 use Rattle.sgb_random.proofs.pairs.place_of.Goals as goal
 
 pub returns-in-Some : goal.returns-in-Some

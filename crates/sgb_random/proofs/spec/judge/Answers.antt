@@ -2,7 +2,7 @@ use Rattle.std.proofs.Common.{ap₂, sym, ◌∙◌, FitsSigned, w64, rules}
 use Rattle.std.proofs.lemmas.Int.{to_z-of_z}
 use Rattle.std.proofs.lemmas.Result.{err_from_is_err_and}
 use Rattle.sgb_plan.specs.Length.{refusal_of_range}
-use Rattle.sgb_random.proofs.Judging.{judge_unsound, judge_range, judge_large, judge_none, range_none}
+use Rattle.sgb_random.proofs.Refusals.{judge_unsound, judge_range, judge_large, judge_none, range_none}
 use Rattle.sgb_random.proofs.spec.judge.Goals as goal
 
 pub returns-then-not-is_sound-clause-err : goal.returns-then-not-is_sound-clause-err

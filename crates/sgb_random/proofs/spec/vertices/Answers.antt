@@ -1,7 +1,7 @@
 use Rattle.std.proofs.Common.{◌≡◌, ap, unsigned_abs, ◌∙◌, FitsSigned, w64, rules, arith}
 use Rattle.std.proofs.lemmas.Int.{to_z-of_z}
 use Rattle.sgb_random.specs.Random.{size_of}
-use Rattle.sgb_random.proofs.Judging.{judged, some_positive}
+use Rattle.sgb_random.proofs.Refusals.{judged, some_positive}
 use Rattle.sgb_random.proofs.spec.vertices.Goals as goal
 
 pub overflow_cast-result : goal.overflow_cast-result

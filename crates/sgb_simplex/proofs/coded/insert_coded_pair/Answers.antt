@@ -5,7 +5,7 @@ use Rattle.sgb_graph.specs.Builder.{insertion}
 use Rattle.sgb_simplex.specs.Points.{points}
 use Rattle.sgb_simplex.specs.Overlap.{has_size, is_partner}
 use Rattle.sgb_simplex.specs.Private.Codes.{AreCodes}
-use Rattle.sgb_simplex.proofs.Inserted.{none_inserted, some_inserted}
+use Rattle.sgb_simplex.proofs.MoveInsertions.{none_inserted, some_inserted}
 use Rattle.sgb_simplex.proofs.Ones.{overlap_is, overlap_low}
 use Rattle.sgb_simplex.proofs.Simplices.{all_points}
 use Rattle.sgb_simplex.proofs.coded.insert_coded_pair.Goals as goal

@@ -1,4 +1,4 @@
-use Rattle.sgb_graph.proofs.Inserting.{LeftFrom}
+use Rattle.sgb_graph.proofs.InsertionRuns.{LeftFrom}
 use Rattle.sgb_simplex.specs.Points.{points}
 use Rattle.sgb_simplex.specs.Overlap.{pairs, pairs_to}
 use Rattle.sgb_simplex.proofs.coded.insert_coded_pairs.Given as goal

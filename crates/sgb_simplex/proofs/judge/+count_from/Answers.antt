@@ -1,7 +1,7 @@
 use Rattle.std.proofs.Common.{◌≡◌, ◌+◌, ◌∷◌, ℕ, List, get_or, drop, ap, arith}
 use Rattle.std.specs.List.{sum}
 use Rattle.std.proofs.lemmas.List.{drop_more, length-drop}
-use Rattle.sgb_simplex.proofs.Counting.{count_start, count_step, count_over, count_end, one_point}
+use Rattle.sgb_simplex.proofs.PointCounts.{count_start, count_step, count_over, count_end, one_point}
 use Rattle.sgb_simplex.proofs.Simplices.{sum_cons}
 use Rattle.sgb_simplex.proofs.judge.+count_from.Goals as goal
 

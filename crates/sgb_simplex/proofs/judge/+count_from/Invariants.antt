@@ -1,5 +1,5 @@
 use Rattle.std.proofs.Common.{◌≤◌, ◌+◌, ◌-◌, length, drop}
-use Rattle.sgb_simplex.proofs.Counting.{LeftToCount}
+use Rattle.sgb_simplex.proofs.PointCounts.{LeftToCount}
 use Rattle.sgb_simplex.proofs.judge.+count_from.Given as goal
 
 abbrev pub decreases-count_from : goal.decreases-count_from

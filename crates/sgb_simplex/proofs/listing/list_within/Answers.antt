@@ -3,7 +3,7 @@ use Rattle.std.specs.List.{range_with_len}
 use Rattle.std.proofs.lemmas.Int.{to_z-of_z}
 use Rattle.std.proofs.lemmas.List.{take_more_set}
 use Rattle.sgb_plan.specs.Listing.{listed, listed_at}
-use Rattle.sgb_plan.proofs.Listings.{place_is_listed, listed_more}
+use Rattle.sgb_plan.proofs.SizeLists.{place_is_listed, listed_more}
 use Rattle.sgb_simplex.proofs.listing.list_within.Goals as goal
 
 pub bounds-numbers-i : goal.bounds-numbers-i

@@ -5,7 +5,7 @@ use Rattle.std.proofs.lemmas.List.{get_or_read}
 use Rattle.sgb_graph.specs.Builder.{insertion}
 use Rattle.sgb_simplex.specs.Points.{points}
 use Rattle.sgb_simplex.specs.Moves.{move_from}
-use Rattle.sgb_simplex.proofs.Inserted.{none_inserted, some_inserted}
+use Rattle.sgb_simplex.proofs.MoveInsertions.{none_inserted, some_inserted}
 use Rattle.sgb_simplex.proofs.moves.insert_move.Goals as goal
 
 pub returns-then-point-k : goal.returns-then-point-k

@@ -1,10 +1,10 @@
 use Rattle.std.proofs.Common.{ap, subst, sym, ◌∙◌, arith}
 use Rattle.std.proofs.lemmas.Result.{err_from_is_err_and}
-use Rattle.sgb_graph.proofs.Inserting.{LeftFrom, RefusesInsertions, from_some, from_refused, from_end, from_n}
+use Rattle.sgb_graph.proofs.InsertionRuns.{LeftFrom, RefusesInsertions, from_some, from_refused, from_end, from_n}
 use Rattle.sgb_graph.specs.Builder.{grown}
 use Rattle.sgb_simplex.specs.Moves.{moves, moves_to}
 use Rattle.sgb_simplex.specs.Points.{points}
-use Rattle.sgb_simplex.proofs.Inserted.{moves_at, moves_begin}
+use Rattle.sgb_simplex.proofs.MoveInsertions.{moves_at, moves_begin}
 use Rattle.sgb_simplex.proofs.moves.insert_moves.Goals as goal
 
 pub loop-v-init : goal.loop-v-init

@@ -1,7 +1,7 @@
-use Rattle.sgb_graph.proofs.Inserting.{LeftFrom}
+use Rattle.sgb_graph.proofs.InsertionRuns.{LeftFrom}
 use Rattle.sgb_simplex.specs.Points.{points}
 use Rattle.sgb_simplex.specs.Moves.{moves}
-use Rattle.sgb_simplex.proofs.Inserted.{moves_at}
+use Rattle.sgb_simplex.proofs.MoveInsertions.{moves_at}
 use Rattle.sgb_simplex.proofs.moves.insert_moves.Given as goal
 
 abbrev pub invariant-loop-v : goal.invariant-loop-v

@@ -1,10 +1,10 @@
 use Rattle.std.proofs.Common.{nat_lt, ◌∙◌, arith}
 use Rattle.std.proofs.lemmas.Result.{err_from_is_err_and}
-use Rattle.sgb_graph.proofs.Inserting.{from_some, from_refused, from_end, from_n}
+use Rattle.sgb_graph.proofs.InsertionRuns.{from_some, from_refused, from_end, from_n}
 use Rattle.std.specs.List.{slice_index}
 use Rattle.sgb_simplex.specs.Moves.{moves_from}
 use Rattle.sgb_simplex.specs.Points.{points}
-use Rattle.sgb_simplex.proofs.Inserted.{moves_from_begin, none_inserted, none_to_take}
+use Rattle.sgb_simplex.proofs.MoveInsertions.{moves_from_begin, none_inserted, none_to_take}
 use Rattle.sgb_simplex.proofs.moves.insert_moves_from.Goals as goal
 
 pub loop-k-init : goal.loop-k-init

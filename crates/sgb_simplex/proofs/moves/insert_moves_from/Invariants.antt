@@ -1,6 +1,6 @@
-use Rattle.sgb_graph.proofs.Inserting.{LeftFrom}
+use Rattle.sgb_graph.proofs.InsertionRuns.{LeftFrom}
 use Rattle.sgb_simplex.specs.Points.{points}
-use Rattle.sgb_simplex.proofs.Inserted.{moves_if, move_if}
+use Rattle.sgb_simplex.proofs.MoveInsertions.{moves_if, move_if}
 use Rattle.sgb_simplex.proofs.moves.insert_moves_from.Given as goal
 
 abbrev pub invariant-loop-k : goal.invariant-loop-k

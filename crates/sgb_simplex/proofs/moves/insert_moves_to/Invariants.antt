@@ -1,7 +1,7 @@
-use Rattle.sgb_graph.proofs.Inserting.{LeftFrom}
+use Rattle.sgb_graph.proofs.InsertionRuns.{LeftFrom}
 use Rattle.sgb_simplex.specs.Points.{points}
 use Rattle.sgb_simplex.specs.Moves.{moves_to}
-use Rattle.sgb_simplex.proofs.Inserted.{moves_if}
+use Rattle.sgb_simplex.proofs.MoveInsertions.{moves_if}
 use Rattle.sgb_simplex.proofs.moves.insert_moves_to.Given as goal
 
 abbrev pub invariant-loop-j : goal.invariant-loop-j

@@ -1,7 +1,7 @@
 use Rattle.std.proofs.Common.{[], List, ℕ, map, subst, sym, ◌∙◌, arith}
 use Rattle.std.proofs.lemmas.Result.{err_from_is_err_and}
 use Rattle.std.proofs.lemmas.List.{get_or_default}
-use Rattle.sgb_plan.proofs.Planning.{NamesOf, names_of_start, names_of_some, names_of_refused, names_of_end}
+use Rattle.sgb_plan.proofs.Plans.{NamesOf, names_of_start, names_of_some, names_of_refused, names_of_end}
 use Rattle.sgb_simplex.specs.Points.{points, point_vertex}
 use Rattle.sgb_simplex.proofs.naming.name_vertices.Goals as goal
 

@@ -3,7 +3,7 @@ use Rattle.sgb_graph.specs.declared.field.Util.{Util}
 use Rattle.sgb_graph.specs.declared.field.Util.TheVariants.{Zero}
 use Rattle.sgb_plan.specs.Name.{dotted}
 use Rattle.sgb_simplex.specs.Points.{point_vertex}
-use Rattle.sgb_simplex.proofs.Named.{names_one}
+use Rattle.sgb_simplex.proofs.PointNames.{names_one}
 use Rattle.sgb_simplex.proofs.naming.push_point.Goals as goal
 
 pub returns : goal.returns

@@ -2,7 +2,7 @@ use Rattle.std.proofs.Common.{◌≡◌, ◌∷◌, [], ℕ, pos, List, Bool, ge
 use Rattle.sgb_graph.specs.Builder.{insertion}
 use Rattle.sgb_simplex.specs.Points.{points}
 use Rattle.sgb_simplex.specs.Overlap.{overlap, has_size, is_partner}
-use Rattle.sgb_simplex.proofs.Inserted.{none_inserted, some_inserted}
+use Rattle.sgb_simplex.proofs.MoveInsertions.{none_inserted, some_inserted}
 use Rattle.sgb_simplex.proofs.overlap.insert_pair.Goals as goal
 
 partner : (all : List (List ℕ)) (bits u v : ℕ) (p q : List ℕ) (s : ℕ) (r : Bool) → r ≡ has_size bits s → s ≡ overlap p q → p ≡ get_or all u [] → q ≡ get_or all v [] → is_partner all bits v u ≡ r

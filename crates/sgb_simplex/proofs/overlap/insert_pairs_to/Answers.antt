@@ -1,8 +1,8 @@
 use Rattle.std.proofs.Common.{◌∙◌, arith}
 use Rattle.std.proofs.lemmas.Result.{err_from_is_err_and}
-use Rattle.sgb_graph.proofs.Inserting.{from_some, from_refused, from_end, from_n}
+use Rattle.sgb_graph.proofs.InsertionRuns.{from_some, from_refused, from_end, from_n}
 use Rattle.sgb_simplex.specs.Points.{points}
-use Rattle.sgb_simplex.proofs.Inserted.{pairs_to_begin}
+use Rattle.sgb_simplex.proofs.MoveInsertions.{pairs_to_begin}
 use Rattle.sgb_simplex.proofs.overlap.insert_pairs_to.Goals as goal
 
 pub loop-u-init : goal.loop-u-init

@@ -1,8 +1,8 @@
 use Rattle.std.proofs.Common.{◌+◌}
-use Rattle.sgb_graph.proofs.Inserting.{LeftFrom}
+use Rattle.sgb_graph.proofs.InsertionRuns.{LeftFrom}
 use Rattle.sgb_simplex.specs.Points.{points}
 use Rattle.sgb_simplex.specs.Overlap.{pairs_to}
-use Rattle.sgb_simplex.proofs.Inserted.{pair_of}
+use Rattle.sgb_simplex.proofs.MoveInsertions.{pair_of}
 use Rattle.sgb_simplex.proofs.overlap.insert_pairs_to.Given as goal
 
 abbrev pub invariant-loop-u : goal.invariant-loop-u

@@ -4,7 +4,7 @@ use Rattle.std.proofs.lemmas.List.{append-nil, length-reverse, nil_from_length}
 use Rattle.std.proofs.lemmas.Result.{err_from_is_err_and}
 use Rattle.sgb_binary.specs.Private.Listing.{rows, dotted_rows, leaf_rows, rooms, budgets_of, letters_left, Listed}
 use Rattle.sgb_binary.proofs.Rows.{rows_none, dotted_none, dotted_low, room_double, rooms_few}
-use Rattle.sgb_binary.proofs.Listings.{RefusesList, refused_front, refused_back, refused_letter, listed_none, listed_letter, listed_both, lists_one, rooms_popped, length_popped, rows_popped, rows_none_left, rooms_two, letters_two, rows_two, cut_one, cut_two, put_back}
+use Rattle.sgb_binary.proofs.RowStacks.{RefusesList, refused_front, refused_back, refused_letter, listed_none, listed_letter, listed_both, lists_one, rooms_popped, length_popped, rows_popped, rows_none_left, rooms_two, letters_two, rows_two, cut_one, cut_two, put_back}
 use Rattle.sgb_binary.proofs.lister.Lister.+rows.Goals as goal
 
 pub list-returns-in_default : goal.list-returns-in_default

@@ -2,7 +2,7 @@ use Rattle.std.proofs.Common.{List, ℕ, length, subst, ap, sym, ◌∙◌, arit
 use Rattle.std.specs.Prelude.{reverse}
 use Rattle.sgb_binary.specs.Tree.{trees}
 use Rattle.sgb_binary.specs.Private.Listing.{Lists}
-use Rattle.sgb_binary.proofs.Listings.{listed_none, one_row, one_room, no_trees}
+use Rattle.sgb_binary.proofs.RowStacks.{listed_none, one_row, one_room, no_trees}
 use Rattle.sgb_binary.proofs.lister.Lister.list_all.Goals as goal
 
 pub returns-then-n-total : goal.returns-then-n-total

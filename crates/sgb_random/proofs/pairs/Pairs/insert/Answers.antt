@@ -1,6 +1,6 @@
 use Rattle.std.proofs.Common.{subst}
 use Rattle.sgb_random.specs.Private.Table.{IsPlaceOf}
-use Rattle.sgb_random.proofs.Placing.{table_put}
+use Rattle.sgb_random.proofs.PairTable.{table_put}
 use Rattle.sgb_random.proofs.pairs.Pairs.insert.Goals as goal
 
 pub invariant_of-self : goal.invariant_of-self

@@ -3,18 +3,18 @@
 -- A loop's invariant is `NamesFrom` over numbers or `NamesOf` over a slice, from the builder that it began with; the
 -- lemmas' names are those of a run of insertions. A generator ends by `made`, and where it is refused by `refused_names` or `refused_insertions`.
 use Rattle.std.proofs.Common.{◌≡◌, ◌<◌, ◌≤◌, ◌+◌, ◌-◌, ℕ, suc, List, [], ◌∷◌, ◌++◌, length, get_or, drop, map, Bool, true, false, ◌||◌, nat_lt, Ok, Err, ◌⊎◌, inl, inr, refl, sym, ap, subst, ◌∙◌, arith, append_assoc}
-use Rattle.std.proofs.lemmas.Bool.{cases_Bool, lt-ltb, le-ltb}
+use Rattle.std.proofs.lemmas.Bool.{lt-ltb, le-ltb}
 use Rattle.std.specs.List.{range_with_len}
 use Rattle.std.proofs.lemmas.List.{append-nil, map-append, length-append, length-map, at_drop_more, at_drop_all}
 use Rattle.sgb_graph.specs.declared.builder.Builder.{Builder}
 use Rattle.sgb_graph.specs.declared.field.Util.{Util}
 use Rattle.sgb_graph.specs.declared.refusal.Refusal.{Refusal}
 use Rattle.sgb_graph.specs.declared.refusal.Refusal.TheVariants.{NoRoom, TooLarge}
-use Rattle.sgb_graph.specs.Graph.{GraphOf, IsGraph, n_of, made_of}
+use Rattle.sgb_graph.specs.Graph.{IsGraph, n_of, made_of}
 use Rattle.sgb_graph.specs.New.{bare_graph}
 use Rattle.sgb_graph.specs.Vertex.{new_vertex, with_vertex_last}
 use Rattle.sgb_graph.specs.Builder.{grown, IsTooMany}
-use Rattle.sgb_graph.proofs.Growing.{n-with_all}
+use Rattle.sgb_graph.proofs.Insertions.{n-with_all}
 use Rattle.sgb_plan.specs.Plan.{Named, Plan, vertex_of, graph_of_plan, is_too_large, outcome_of, IsMade, with_named}
 
 -- what `Names` says of an `Err`
@@ -35,10 +35,6 @@ with_named-append b vs ws =
 pub n-with_named : (b : Builder) (vs : List Named) → n_of (with_named b vs).graph ≡ n_of b.graph + length vs
 unfolding with_named
 n-with_named b vs = length-append b.graph.vertices (map vertex_of vs) ∙ ap (λ k. n_of b.graph + k) (length-map vs vertex_of)
-
-pub directed-with_named : (b : Builder) (vs : List Named) → (with_named b vs).directed ≡ b.directed
-unfolding with_named
-directed-with_named b vs = refl
 
 -- one vertex, as the builder pushes it
 pub pushed : (b : Builder) (label : List ℕ) (fields : List Util) → record b { graph = with_vertex_last b.graph (new_vertex label fields) } ≡ with_named b (record { label = label; fields = fields } ∷ [])
@@ -179,11 +175,3 @@ made p {b} {c} named inserted sound =
 pub refused_before : (e : Refusal) → IsMade (Err e) (Err e)
 unfolding outcome_of
 refused_before e = inr refl
-
--- what is answered is the plan's graph, which is within the limits
-pub made_is : (p : Plan) {g : GraphOf} → IsMade (Ok p) (Ok g) → (g ≡ graph_of_plan p) × (is_too_large p ≡ false)
-made_is p {g} is =
-    elim (cases_Bool (is_too_large p)) [
-      | inl large ↦ absurd (let wrong : Err TooLarge ≡ Ok g = sym (outcome_large p large) ∙ is in cc)
-      | inr fits ↦ (let same : Ok (graph_of_plan p) ≡ Ok g = sym (outcome_fits p fits) ∙ is in cc, fits)
-    ]

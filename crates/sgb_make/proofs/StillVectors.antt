@@ -14,7 +14,8 @@ use Rattle.sgb_make.specs.Private.Rank.{cells, IsOn}
 use Rattle.sgb_make.specs.Private.Signs.{signings, along_vectors}
 use Rattle.sgb_make.proofs.Links.{one_times}
 use Rattle.std.proofs.lemmas.List.{length-take-le}
-use Rattle.sgb_make.proofs.Parts.{IsIdle, flat_none}
+use Rattle.sgb_plan.proofs.Lists.{flat_map_none}
+use Rattle.sgb_make.proofs.Parts.{IsIdle}
 use Rattle.sgb_make.proofs.Ranks.{length-positions, get_or-positions, unrank, unrank-on, rank-unrank, flat_by_place}
 use Rattle.sgb_make.proofs.Signs.{signings_forward}
 
@@ -45,7 +46,7 @@ quiet_rides sides rides v quiet =
     let on : IsOn sides p = unrank-on sides i inside in
     let here : get_or (positions sides) i [] ≡ p = ap (λ k. get_or (positions sides) k []) (sym (rank-unrank sides i inside)) ∙ get_or-positions sides p [] on in
     ap f here ∙ no_ride (place_of sides p) (if rides then n else 1) (stop_number sides v rides p) (no_stop sides rides v p (quiet p on)))
-    ∙ flat_none (λ i. []) (range_with_len 0 n) (λ i. refl)
+    ∙ flat_map_none (λ i. []) (range_with_len 0 n) (λ i. refl)
 
 -- ---- all vectors of the same absolute values
 quiet_signings : (parts : List ℕ) (seen : Bool) (f : List ℤ → List Insertion) → ((v : List ℤ) → map unsigned_abs v ≡ parts → f v ≡ []) → flat_map f (signings parts seen) ≡ []

@@ -7,7 +7,7 @@ use Rattle.std.proofs.lemmas.List.Sums.{sum_by-cons}
 use Rattle.sgb_perms.specs.Arrangement.{arrangements}
 use Rattle.sgb_perms.specs.Private.Listed.{placed, copies_from, rows_from}
 use Rattle.sgb_perms.specs.Private.Counted.{copies_counted, rows_counted}
-use Rattle.sgb_perms.proofs.Arranged.{arrangements_are}
+use Rattle.sgb_perms.proofs.Arrangements.{arrangements_are}
 
 -- ---- what is listed is as long as it is counted
 length_each : (f : ℕ → List (List ℕ)) (g : ℕ → ℕ) (xs : List ℕ) → ((x : ℕ) → length (f x) ≡ g x) → length (flat_map f xs) ≡ sum_by g xs

@@ -10,7 +10,7 @@ use Rattle.sgb_graph.specs.Graph.{n_of, made_of}
 use Rattle.sgb_graph.specs.New.{bare_graph}
 use Rattle.sgb_plan.specs.declared.part.Seed.{Seed}
 use Rattle.sgb_plan.specs.Plan.{no_letters, vertex_of, with_named}
-use Rattle.sgb_plan.proofs.Planning.{RefusesNames, n-with_named}
+use Rattle.sgb_plan.proofs.Plans.{RefusesNames, n-with_named}
 use Rattle.sgb_random.specs.declared.progress.Edge.{Edge}
 use Rattle.sgb_random.specs.declared.spec.RandomSpec.{RandomSpec}
 use Rattle.sgb_random.specs.Random.{numbered, random_id, size_of}

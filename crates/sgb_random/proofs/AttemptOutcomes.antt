@@ -13,8 +13,8 @@ use Rattle.sgb_random.specs.declared.spec.RandomSpec.{RandomSpec}
 use Rattle.sgb_random.specs.Random.{Course, joins, lowered, with_length, tried, attempted, size_of, wanted}
 use Rattle.sgb_random.specs.Private.Progress.{insertion_of, insertions_of, key_of, key_of_insertion, keys_of, IsIndexed, IsKept, IsWithin, with_len_at}
 use Rattle.sgb_random.specs.Private.Table.{holds, taken, HasRoom, IsListed, IsNumbered}
-use Rattle.sgb_random.proofs.Joining.{any_key, place_key, same_count, keys-with_len_at, within-with_len_at, within_more, within_one}
-use Rattle.sgb_random.proofs.Placing.{holds_more, listed_by, numbered_put, taken_put}
+use Rattle.sgb_random.proofs.VertexPairs.{any_key, place_key, same_count, keys-with_len_at, within-with_len_at, within_more, within_one}
+use Rattle.sgb_random.proofs.PairTable.{holds_more, listed_by, numbered_put, taken_put}
 
 -- a length was drawn, with which the insertions become these
 pub kept_drawn : {s : RandomSpec} {a : Builder} {k : Course} {p q : Progress} {w x : Generator} (low high : ℤ) (es : ℤ → List Insertion) (len : ℤ) → IsKept s a k p w → len ≡ (drawn_length low high w).len → q.made ≡ p.made + 1 → q.draws ≡ p.draws + (drawn_length low high w).draws → x ≡ (drawn_length low high w).rest → (int_lt s.multi (pos 0) ≡ true → (q.builder ≡ a) × (insertions_of q ≡ es len)) → (int_lt s.multi (pos 0) ≡ false → q.builder ≡ grown a (es len)) → IsKept s a (with_length low high k es) q x

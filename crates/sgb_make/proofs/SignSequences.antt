@@ -5,7 +5,7 @@ use Rattle.std.proofs.lemmas.List.{map-append, at_drop_more, take_all, drop_all,
 use Rattle.sgb_graph.specs.declared.builder.Builder.{Builder}
 use Rattle.sgb_graph.specs.declared.refusal.Refusal.{Refusal}
 use Rattle.sgb_graph.specs.Builder.{Insertion}
-use Rattle.sgb_graph.proofs.Inserting.{RefusesInsertions, left_start, left_as, left_refused}
+use Rattle.sgb_graph.proofs.InsertionRuns.{RefusesInsertions, left_start, left_as, left_refused}
 use Rattle.sgb_make.specs.declared.side.Side.{Side}
 use Rattle.sgb_make.specs.declared.side.Step.{Step}
 use Rattle.sgb_make.specs.Ride.{rides_along}

@@ -11,7 +11,7 @@ use Rattle.sgb_binary.specs.Rotation.{tree_fronts, turned, turned_at}
 use Rattle.sgb_binary.specs.Private.Span.{span_from}
 use Rattle.sgb_binary.proofs.Shapes.{IsWord, texts, row_of, tree_word}
 use Rattle.sgb_binary.proofs.Spans.{tree_fronts_are}
-use Rattle.sgb_binary.proofs.Turning.{two_dots}
+use Rattle.sgb_binary.proofs.RotationSteps.{two_dots}
 
 -- ---- the tree that a word begins with
 span_text : (t : Tree) (i k : ℕ) (rest : List ℕ) → span_from i (suc k) (text t ++ rest) ≡ span_from (i + length (text t)) k rest

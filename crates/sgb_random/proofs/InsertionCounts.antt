@@ -11,17 +11,17 @@ use Rattle.sgb_graph.specs.declared.refusal.Refusal.{Refusal}
 use Rattle.sgb_graph.specs.declared.refusal.Refusal.TheVariants.{NoRoom}
 use Rattle.sgb_graph.specs.Builder.{Insertion, insertion, grown, Inserts}
 use Rattle.sgb_graph.specs.New.{bare_graph}
-use Rattle.sgb_graph.proofs.Growing as growing
-use Rattle.sgb_graph.proofs.Inserting.{RefusesInsertions}
+use Rattle.sgb_graph.proofs.Insertions as growing
+use Rattle.sgb_graph.proofs.InsertionRuns.{RefusesInsertions}
 use Rattle.sgb_plan.specs.declared.part.Seed.{Seed}
 use Rattle.sgb_plan.specs.Length.{drawn_length}
 use Rattle.sgb_plan.specs.Plan.{Plan, graph_of_plan, is_too_large, vertex_of}
 use Rattle.sgb_random.specs.declared.spec.RandomSpec.{RandomSpec}
 use Rattle.sgb_random.specs.Random.{Course, attempted, attempts, course, joins, lowered, numbered, numbers_each, random_plan, refusal_of_random, tried, with_length, size_of, wanted}
 use Rattle.sgb_random.specs.Private.Progress.{IsBare, IsReady}
-use Rattle.sgb_random.proofs.Coursing.{insertions-with_length, tried_barred, tried_again, tried_new, tried_shorter, tried_skipped}
-use Rattle.sgb_random.proofs.Joining.{lowered_at, same_count}
-use Rattle.sgb_random.proofs.Judging.{judged, wanted_few}
+use Rattle.sgb_random.proofs.AttemptOutcomes.{insertions-with_length, tried_barred, tried_again, tried_new, tried_shorter, tried_skipped}
+use Rattle.sgb_random.proofs.VertexPairs.{lowered_at, same_count}
+use Rattle.sgb_random.proofs.Refusals.{judged, wanted_few}
 
 -- ---- each insertion counts as made
 pub record IsFew (m : ℕ) (c : Course) : Type 0 where

@@ -5,7 +5,7 @@ use Rattle.std.proofs.lemmas.Bool.{cases_order, and_parts, and_from, leb-true, l
 use Rattle.sgb_perms.specs.Arrangement.{count, counts_from, smaller_right, vector_from}
 use Rattle.sgb_perms.specs.Private.Listed.{placed}
 use Rattle.sgb_perms.proofs.Vectors.{below, at, length-smaller_right}
-use Rattle.sgb_perms.proofs.Decoding.{copies_of, decoded, length-placed}
+use Rattle.sgb_perms.proofs.VectorArrangements.{copies_of, decoded, length-placed}
 
 -- the numbers of the copies of one kind: none is greater than the one before, and the first not than `most`
 unfoldable pub falls : ℕ → List ℕ → Bool

@@ -7,7 +7,7 @@ use Rattle.sgb_graph.specs.declared.refusal.Refusal.TheVariants.{NoRoom, BadSpec
 use Rattle.sgb_graph.specs.Edit.{refusal_unless}
 use Rattle.sgb_graph.specs.Graph.{GraphOf}
 use Rattle.sgb_plan.specs.Plan.{Plan, IsMade, MayAllocate, plan_unless}
-use Rattle.sgb_plan.proofs.Planning.{refused_before}
+use Rattle.sgb_plan.proofs.Plans.{refused_before}
 
 -- ---- there is one, which is answered
 pub answered : (x : Result Plan Refusal) (r : Result GraphOf Refusal) {e : Refusal} → IsErrAnd r (λ q. q ≡ e) → IsMade x (Err e) → IsMade x r

@@ -8,7 +8,7 @@ use Rattle.std.proofs.lemmas.List.Elements.{All-cons, All-head, All-tail}
 use Rattle.std.proofs.lemmas.List.Sums.{sum_by-cons, sum_by-append, fails_before_first}
 use Rattle.sgb_perms.specs.Arrangement.{same_list, count, counts_from, smaller_right, vector_from, arrangements, is_descent, exchanged}
 use Rattle.sgb_perms.proofs.Vectors.{below, at}
-use Rattle.sgb_perms.proofs.Arranged.{IsListed, listed_is, listed_has, test_from_same}
+use Rattle.sgb_perms.proofs.Arrangements.{IsListed, listed_is, listed_has, test_from_same}
 
 -- ---- two neighbours exchanged, in a list that is written out
 swap_apart : (front : List ℕ) (x y : ℕ) (back : List ℕ) (n : ℕ) → length front ≡ n → swap (front ++ x ∷ y ∷ back) n (n + 1) ≡ front ++ y ∷ x ∷ back

@@ -8,7 +8,7 @@ use Rattle.sgb_graph.specs.Graph.{n_of}
 use Rattle.sgb_graph.specs.Vertex.{new_vertex, with_vertex_last}
 use Rattle.sgb_plan.specs.Name.{dotted}
 use Rattle.sgb_plan.specs.Plan.{Names, with_named}
-use Rattle.sgb_plan.proofs.Planning.{RefusesNames, pushed, push_refused}
+use Rattle.sgb_plan.proofs.Plans.{RefusesNames, pushed, push_refused}
 use Rattle.sgb_simplex.specs.Points.{point_vertex}
 
 -- the vertex of a point is pushed, or refused

@@ -8,19 +8,19 @@ use Rattle.sgb_graph.specs.declared.builder.Builder.{Builder}
 use Rattle.sgb_graph.specs.declared.refusal.Refusal.{Refusal}
 use Rattle.sgb_graph.specs.declared.refusal.Refusal.TheVariants.{NoRoom, Stuck}
 use Rattle.sgb_graph.specs.Graph.{GraphOf}
-use Rattle.sgb_graph.proofs.Growing.{grown-nil}
+use Rattle.sgb_graph.proofs.Insertions.{grown-nil}
 use Rattle.sgb_plan.specs.declared.part.Seed.{Seed}
 use Rattle.sgb_plan.specs.Plan.{IsMade}
-use Rattle.sgb_plan.proofs.Planning.{refused_before}
+use Rattle.sgb_plan.proofs.Plans.{refused_before}
 use Rattle.sgb_random.specs.declared.progress.Progress.{Progress}
 use Rattle.sgb_random.specs.declared.spec.RandomSpec.{RandomSpec}
 use Rattle.sgb_random.specs.Random.{Course, begun, attempted, attempts, course, plan_of_course, plan_of_random, random_plan, unless_refused, refusal_of_random, wanted, size_of}
 use Rattle.sgb_random.specs.Private.Progress.{insertion_of, insertions_of, Follows, IsBare, IsFresh, IsIndexed, IsReady, IsWithin}
 use Rattle.sgb_random.specs.Private.Table.{HasRoom, IsListed}
-use Rattle.sgb_random.proofs.Coursing.{places_are, room_is}
-use Rattle.sgb_random.proofs.Following.{follows_none, follows_then}
-use Rattle.sgb_random.proofs.Placing.{free_holds, free_numbered, taken_free}
-use Rattle.sgb_random.proofs.Within.{few_attempts, ready}
+use Rattle.sgb_random.proofs.AttemptOutcomes.{places_are, room_is}
+use Rattle.sgb_random.proofs.DrawCounts.{follows_none, follows_then}
+use Rattle.sgb_random.proofs.PairTable.{free_holds, free_numbered, taken_free}
+use Rattle.sgb_random.proofs.InsertionCounts.{few_attempts, ready}
 
 -- ---- the attempts one by one
 pub attempts_none : (s : RandomSpec) (w : Generator) → attempts s w 0 ≡ begun w

@@ -14,8 +14,8 @@ use Rattle.sgb_make.specs.Private.Signs.{parts_below, along_parts, along_vectors
 use Rattle.sgb_make.specs.Private.Still.{IsStillAt}
 use Rattle.sgb_make.proofs.Links.{one_times}
 use Rattle.sgb_make.proofs.Moves.{moved-none}
-use Rattle.sgb_make.proofs.Parts.{flat_none}
-use Rattle.sgb_make.proofs.Quiet.{moved-off, with_first_none, quiet_vectors}
+use Rattle.sgb_plan.proofs.Lists.{flat_map_none}
+use Rattle.sgb_make.proofs.StillVectors.{moved-off, with_first_none, quiet_vectors}
 use Rattle.sgb_make.proofs.Ranks.{length-positions, get_or-positions, unrank, unrank-on, rank-unrank}
 
 low_rest : (x n q : ℕ) → x < n → (x + q * n) % n ≡ x
@@ -105,7 +105,7 @@ still_whole (a ∷ sides) (n ∷ parts) (suc at) t long still =
 pub still_parts : (sides : List Side) (rides : Bool) (most : ℕ) (parts : List ℕ) (at d left : ℕ) → rides ≡ true → at ≤ length parts → ((k : ℕ) → k < length sides → IsStillAt sides parts at k) → along_parts sides rides most (take at parts) d left ≡ []
 unfolding along_parts
 still_parts sides rides most parts at d left rider long still =
-    flat_none (λ t. along_vectors sides rides (take at parts ++ t)) (parts_below most d left)
+    flat_map_none (λ t. along_vectors sides rides (take at parts ++ t)) (parts_below most d left)
     (λ t. quiet_vectors sides rides (take at parts ++ t)
     (λ v is p on. still_or_back rider (stop-still sides v p (subst (AreStill sides) (sym is) (still_whole sides parts at t long still)) on)))
 

@@ -8,17 +8,18 @@ use Rattle.std.proofs.lemmas.List.Folds.{list_all-append}
 use Rattle.std.proofs.lemmas.List.Sums.{sum_by-cons, length-filter, count_by-le-length, AllPass-from_list_all, list_all-from_AllPass}
 use Rattle.std.proofs.lemmas.Slice.Eq.{bytes_eq-Decides}
 use Rattle.std.proofs.lemmas.Bool.{and_from, le-ltb}
-use Rattle.sgb_graph.proofs.Inserting.{flat_map-filter}
+use Rattle.sgb_graph.proofs.InsertionRuns.{flat_map-filter}
 use Rattle.sgb_plan.specs.Distinct.{Distinct}
 use Rattle.sgb_plan.proofs.Distincts.{Distinct-filter, Distinct-flat_map}
 use Rattle.sgb_perms.specs.Arrangement.{words, same_list, count, counts_from, IsArrangement, all_arrangements, smaller_right, vector_from, vector_of, vectors, arrangements}
 use Rattle.sgb_perms.specs.Private.Listed.{rows_from}
-use Rattle.sgb_perms.proofs.Filters.{filter_none, filter_one, OnlyOne, All-from_contains, list_all-weaker, Contains-filter, Contains-from_filter, Contains-flat_map, Contains-from_flat_map}
+use Rattle.sgb_plan.proofs.Lists.{filter_none, flat_map_agree}
+use Rattle.sgb_perms.proofs.Filters.{filter_one, OnlyOne, All-from_contains, list_all-weaker, Contains-filter, Contains-from_filter, Contains-flat_map, Contains-from_flat_map}
 use Rattle.sgb_perms.proofs.Words.{IsWord, words_have, words_are, words_differ}
 use Rattle.sgb_perms.proofs.Vectors.{below, at, AllBelow, all_kept, kept_at, below_weaker, sum_counts, length-smaller_right}
-use Rattle.sgb_perms.proofs.Decoding.{decoded, decoded_one, decoded_is}
-use Rattle.sgb_perms.proofs.Encoding.{encoded, zeros_kept}
-use Rattle.sgb_perms.proofs.Pruning.{told, flat_map_agree, pruned}
+use Rattle.sgb_perms.proofs.VectorArrangements.{decoded, decoded_one, decoded_is}
+use Rattle.sgb_perms.proofs.ArrangementVectors.{encoded, zeros_kept}
+use Rattle.sgb_perms.proofs.VectorPrefixes.{told, pruned}
 
 pub same_from_test : (a b : List ℕ) → same_list a b ≡ true → a ≡ b
 same_from_test a b = (bytes_eq-Decides a b).0
@@ -158,7 +159,7 @@ arrangements_are zeros cs most =
     let long : length (start zeros) ≡ zeros = length-replicate zeros 0 in
     flat_map-filter (having counts) (λ v. nat_le (sum v) most) (words (sum counts) (sum cs))
     ∙ (flat_map_agree (told most (having counts)) (told most (decoded 1 cs (start zeros)))
-    (λ v. ap (λ ds. cond (nat_le (sum v) most) ds []) (having_is zeros cs v)) (words (sum counts) (sum cs))
+    (words (sum counts) (sum cs)) (λ v. ap (λ ds. cond (nat_le (sum v) most) ds []) (having_is zeros cs v))
     ∙ pruned (sum counts) 1 cs most (start zeros) (omega arith))
 
 -- ---- laws

@@ -9,9 +9,9 @@ use Rattle.std.proofs.lemmas.List.Sums.{sum_by-cons, sum_by-append}
 use Rattle.sgb_perms.specs.Arrangement.{count, counts_from, IsArrangement, smaller_right, vector_from, vector_of, greatest_from}
 use Rattle.sgb_perms.specs.Private.Listed.{placed}
 use Rattle.sgb_perms.proofs.Vectors.{below, at, count_more, length-smaller_right}
-use Rattle.sgb_perms.proofs.Decoding.{copies_of, decoded, length-placed}
-use Rattle.sgb_perms.proofs.Encoding.{falls, falls-more, falls-smaller_right, zeros_kept}
-use Rattle.sgb_perms.proofs.Arranged.{from_decoded}
+use Rattle.sgb_perms.proofs.VectorArrangements.{copies_of, decoded, length-placed}
+use Rattle.sgb_perms.proofs.ArrangementVectors.{falls, falls-more, falls-smaller_right, zeros_kept}
+use Rattle.sgb_perms.proofs.Arrangements.{from_decoded}
 
 -- ---- none has more
 sum_falls : (most : ℕ) (xs : List ℕ) → falls most xs ≡ true → sum xs ≤ most * length xs

@@ -1,7 +1,7 @@
 -- Lemmas on the plan of a board, and on when there is none.
-use Rattle.std.proofs.Common.{◌≡◌, ◌<◌, ◌≤◌, ◌%◌, ◌==◌, ℕ, zero, suc, ℤ, pos, negsuc, unsigned_abs, int_lt, nat_le, List, [], length, map, get_or, drop, Bool, true, false, inl, inr, ◌&&◌, Ok, Err, if◌then◌else◌, refl, sym, ap, subst, ◌∙◌, arith}
+use Rattle.std.proofs.Common.{◌≡◌, ◌<◌, ◌≤◌, ◌%◌, ◌==◌, ℕ, zero, suc, ℤ, pos, negsuc, unsigned_abs, int_lt, nat_le, List, [], length, map, get_or, drop, Bool, true, false, ◌&&◌, Ok, Err, if◌then◌else◌, refl, sym, ap, subst, ◌∙◌, arith}
 use Rattle.std.specs.List.{range_with_len}
-use Rattle.std.proofs.lemmas.Bool.{cases_Bool, le-leb, lt-leb, and_from}
+use Rattle.std.proofs.lemmas.Bool.{le-leb, lt-leb, and_from}
 use Rattle.std.proofs.lemmas.List.{length-map}
 use Rattle.std.proofs.lemmas.List.Elements.{All-map}
 use Rattle.std.proofs.lemmas.List.FromFn.{length-map-range_with_len, length-range_with_len, get_or-range_with_len}
@@ -14,7 +14,7 @@ use Rattle.sgb_graph.specs.Graph.{n_of}
 use Rattle.sgb_graph.specs.New.{bare_graph}
 use Rattle.sgb_plan.specs.Listing.{is_positive, leading, count_from, count_of, listed_at, listed}
 use Rattle.sgb_plan.specs.Plan.{Plan, IsMade, with_named, MayAllocate}
-use Rattle.sgb_plan.proofs.Planning.{begun, n-with_named, many_vertices}
+use Rattle.sgb_plan.proofs.Plans.{begun, n-with_named, many_vertices}
 use Rattle.sgb_make.specs.declared.side.Side.{Side}
 use Rattle.sgb_make.specs.declared.spec.BoardSpec.{BoardSpec}
 use Rattle.sgb_make.specs.Board.{sizes_asked, piece_of, most_of_piece, sides_of, board_id, board_plan, plan_of_board}
@@ -105,13 +105,3 @@ few_positions s few small positions_few =
     let sides = sides_of s.wrap sizes in
     subst MayAllocate (sym (planned s few small))
     (omega (arith, positions_few, length-map (positions sides) point_vertex, length-positions sides, cells-sides_of s.wrap sizes))
-
-pub most_is : (d : ℕ) → most_of_piece d ≤ 128
-most_is d =
-    elim (cases_Bool (nat_le d 4)) [
-      | inl few ↦ rw few (omega arith)
-      | inr more ↦ elim (cases_Bool (nat_le d 16)) [
-        | inl some ↦ rw (more, some) (omega arith)
-        | inr many ↦ rw (more, many) (omega arith)
-      ]
-    ]

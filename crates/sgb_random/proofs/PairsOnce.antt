@@ -10,8 +10,8 @@ use Rattle.sgb_plan.specs.Length.{drawn_length}
 use Rattle.sgb_random.specs.declared.spec.RandomSpec.{RandomSpec}
 use Rattle.sgb_random.specs.Random.{Course, JoinsOnce, attempted, attempts, course, joins, lowered, tried, with_length, size_of, wanted}
 use Rattle.sgb_random.specs.Private.Progress.{with_len_at}
-use Rattle.sgb_random.proofs.Coursing.{insertions-with_length, tried_barred, tried_new, tried_shorter, tried_skipped}
-use Rattle.sgb_random.proofs.Joining.{lowered_at, same_count}
+use Rattle.sgb_random.proofs.AttemptOutcomes.{insertions-with_length, tried_barred, tried_new, tried_shorter, tried_skipped}
+use Rattle.sgb_random.proofs.VertexPairs.{lowered_at, same_count}
 
 -- ---- a new pair
 absent_at : {X : Type 0} (p : X → Bool) (xs : List X) (i : ℕ) (d : X) → i < length xs → list_any p xs ≡ false → p (get_or xs i d) ≡ false

@@ -18,7 +18,7 @@ use Rattle.sgb_binary.specs.Private.Names.{bytes_of}
 use Rattle.sgb_plan.proofs.Distincts.{position_agree}
 use Rattle.sgb_binary.specs.Rotation.{tree_fronts, turned, turned_at, number_in, targets, rotations_at}
 use Rattle.sgb_binary.specs.Private.Code.{leaf, code_of, codes_of, number_among, IsLetter, IsName, AreNames}
-use Rattle.sgb_binary.proofs.Turning.{position-map, behind_dot, rotation_one, rotation_none}
+use Rattle.sgb_binary.proofs.RotationSteps.{position-map, behind_dot, rotation_one, rotation_none}
 
 -- ---- digits
 leaf_few : (c : ℕ) → leaf c ≤ 1

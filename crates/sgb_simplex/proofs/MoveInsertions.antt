@@ -4,9 +4,9 @@ use Rattle.std.specs.List.{flat_map, range_with_len, slice_index}
 use Rattle.sgb_graph.specs.declared.builder.Builder.{Builder}
 use Rattle.sgb_graph.specs.Builder.{Insertion, insertion, grown, Inserts}
 use Rattle.sgb_graph.specs.declared.refusal.Refusal.{Refusal}
-use Rattle.sgb_graph.proofs.Growing.{grown-nil}
+use Rattle.sgb_graph.proofs.Insertions.{grown-nil}
 use Rattle.std.proofs.lemmas.Bool.{cond-true, cond-false, lt-ltb, le-ltb}
-use Rattle.sgb_graph.proofs.Inserting.{LeftFrom, from_start, from_start_at, flat_map-filter, map-filter}
+use Rattle.sgb_graph.proofs.InsertionRuns.{LeftFrom, from_start, from_start_at, flat_map-filter, map-filter}
 use Rattle.sgb_simplex.specs.Moves.{moves, moves_to, moves_from, move_from}
 use Rattle.sgb_simplex.specs.Overlap.{pairs, pairs_to, is_partner}
 

@@ -16,7 +16,7 @@ use Rattle.sgb_plan.proofs.Distincts.{position_or_len-map}
 use Rattle.sgb_perms.specs.Arrangement.{same_list}
 use Rattle.sgb_perms.specs.Perms.{place_of}
 use Rattle.sgb_perms.specs.Private.Places.{shown_by, with_digit, word_of, IsWordsOf}
-use Rattle.sgb_perms.proofs.Arranged.{same_from_test}
+use Rattle.sgb_perms.proofs.Arrangements.{same_from_test}
 
 -- the comparison by which keys are looked up
 abbrev pub same_key : Bor (List ℕ) → Bor (List ℕ) → Bool

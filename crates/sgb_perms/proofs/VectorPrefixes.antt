@@ -1,47 +1,14 @@
 -- The vectors of arrangements, as they are met by recursion: where a number is too large nothing follows.
-use Rattle.std.proofs.Common.{◌≡◌, ◌<◌, ◌≤◌, ◌+◌, ◌-◌, ℕ, zero, suc, min, List, [], ◌∷◌, ◌++◌, length, map, Bool, true, false, nat_le, cond, inl, inr, refl, sym, ap, ap₂, ◌∙◌, arith}
+use Rattle.std.proofs.Common.{◌≡◌, ◌<◌, ◌≤◌, ◌+◌, ◌-◌, ℕ, zero, suc, min, List, [], ◌∷◌, length, map, Bool, true, false, nat_le, cond, inl, inr, refl, sym, ap, ◌∙◌, arith}
 use Rattle.std.specs.List.{flat_map, range_with_len, sum}
 use Rattle.std.proofs.lemmas.Bool.{cases_lt, le-leb, lt-leb}
-use Rattle.std.proofs.lemmas.List.Concat.{flat_map-append}
 use Rattle.std.proofs.lemmas.List.Folds.{flat_map-map}
 use Rattle.std.proofs.lemmas.List.Sums.{sum_by-cons}
+use Rattle.sgb_plan.proofs.Lists.{flat_map_agree, flat_map_none, flat_map-flat_map}
+use Rattle.sgb_simplex.proofs.Runs.{cut}
 use Rattle.sgb_perms.specs.Arrangement.{words}
 use Rattle.sgb_perms.specs.Private.Listed.{placed, copies_from, rows_from}
-use Rattle.sgb_perms.proofs.Decoding.{copies_of, decoded, length-placed}
-
--- ---- lists that are joined
-pub flat_map_agree : {X Y : Type 0} (f g : X → List Y) → ((x : X) → f x ≡ g x) → (xs : List X) → flat_map f xs ≡ flat_map g xs
-flat_map_agree f g same [] = refl
-flat_map_agree f g same (x ∷ xs) = ap₂ (λ ys zs. ys ++ zs) (same x) (flat_map_agree f g same xs)
-
-flat_map-flat_map : {X Y Z : Type 0} (f : Y → List Z) (g : X → List Y) (xs : List X) → flat_map f (flat_map g xs) ≡ flat_map (λ x. flat_map f (g x)) xs
-flat_map-flat_map f g [] = refl
-flat_map-flat_map f g (x ∷ xs) = flat_map-append f (g x) (flat_map g xs) ∙ ap (λ zs. flat_map f (g x) ++ zs) (flat_map-flat_map f g xs)
-
-flat_map_none : {X Y : Type 0} (f : X → List Y) → ((x : X) → f x ≡ []) → (xs : List X) → flat_map f xs ≡ []
-flat_map_none f none [] = refl
-flat_map_none f none (x ∷ xs) = ap₂ (λ ys zs. ys ++ zs) (none x) (flat_map_none f none xs)
-
-none_from : {Y : Type 0} (f : ℕ → List Y) (a n : ℕ) → ((x : ℕ) → a ≤ x → f x ≡ []) → flat_map f (range_with_len a n) ≡ []
-none_from f a zero none = refl
-none_from f a (suc n) none = ap₂ (λ ys zs. ys ++ zs) (none a (omega arith)) (none_from f (a + 1) n (λ x le. none x (omega arith)))
-
--- a run over the numbers from a on, of which only the first n have something
-cut_from : {Y : Type 0} (f g : ℕ → List Y) (a n more : ℕ) → ((x : ℕ) → x < a + n → f x ≡ g x) → ((x : ℕ) → a + n ≤ x → f x ≡ []) → flat_map f (range_with_len a (n + more)) ≡ flat_map g (range_with_len a n)
-cut_from f g a zero more same none =
-    let all : 0 + more ≡ more = omega arith in
-    rw all (none_from f a more (λ x le. none x (omega arith)))
-cut_from f g a (suc n) more same none =
-    let all : suc n + more ≡ suc (n + more) = omega arith in
-    rw all
-    (ap₂ (λ ys zs. ys ++ zs) (same a (omega arith))
-    (cut_from f g (a + 1) n more (λ x less. same x (omega arith)) (λ x le. none x (omega arith))))
-
-pub cut : {Y : Type 0} (f g : ℕ → List Y) (n all : ℕ) → n ≤ all → ((x : ℕ) → x < n → f x ≡ g x) → ((x : ℕ) → n ≤ x → f x ≡ []) → flat_map f (range_with_len 0 all) ≡ flat_map g (range_with_len 0 n)
-cut f g n all le same none =
-    let parts : all ≡ n + (all - n) = omega arith in
-    ap (λ m. flat_map f (range_with_len 0 m)) parts
-    ∙ cut_from f g 0 n (all - n) (λ x less. same x (omega arith)) (λ x more. none x (omega arith))
+use Rattle.sgb_perms.proofs.VectorArrangements.{copies_of, decoded, length-placed}
 
 -- ---- the sum of a vector and its first number
 sum_fits : (x left : ℕ) (v : List ℕ) → x ≤ left → nat_le (sum (x ∷ v)) left ≡ nat_le (sum v) (left - x)
@@ -83,26 +50,25 @@ copies_pruned bound m (suc n) k next rows goes (suc all) is right left row low f
     let step : flat_map (told left tell) (flat_map (λ x. map (λ v. x ∷ v) (words bound all)) (range_with_len 0 bound)) ≡ flat_map inner (range_with_len 0 bound) =
     flat_map-flat_map (told left tell) (λ x. map (λ v. x ∷ v) (words bound all)) (range_with_len 0 bound)
     ∙ flat_map_agree (λ x. flat_map (told left tell) (map (λ v. x ∷ v) (words bound all))) inner
-    (λ x. flat_map-map (told left tell) (λ v. x ∷ v) (words bound all)) (range_with_len 0 bound) in
+    (range_with_len 0 bound) (λ x. flat_map-map (told left tell) (λ v. x ∷ v) (words bound all)) in
     let same : (x : ℕ) → x < min right left + 1 → inner x ≡ copies_from n k rows x (left - x) (placed row k x) =
     λ x less.
     let long = length-placed row k x in
     let right_so : nat_le x right ≡ true = le-leb x right (omega arith) in
     flat_map_agree (λ v. told left tell (x ∷ v)) (told (left - x) (copies_of n k next x (placed row k x)))
-    (λ v. let sums = sum_fits x left v (omega arith) in rw (sums, right_so) refl)
     (words bound all)
+    (λ v. let sums = sum_fits x left v (omega arith) in rw (sums, right_so) refl)
     ∙ copies_pruned bound m n k next rows goes all (omega arith) x (left - x) (placed row k x) (omega arith) (omega arith) in
     let none : (x : ℕ) → min right left + 1 ≤ x → inner x ≡ [] =
     λ x more.
-    flat_map_none (λ v. told left tell (x ∷ v))
+    flat_map_none (λ v. told left tell (x ∷ v)) (words bound all)
     (λ v.
     elim (cases_lt right x) [
       | inl high ↦
           let fails : nat_le x right ≡ false = lt-leb x right high in
           rw fails (cond_none (nat_le (sum (x ∷ v)) left))
       | inr not_high ↦ let fails = sum_too_large x left v (omega arith) in rw fails refl
-    ])
-    (words bound all) in
+    ]) in
     step ∙ cut inner (λ x. copies_from n k rows x (left - x) (placed row k x)) (min right left + 1) bound (omega arith) same none
 
 -- the arrangements that the vectors of these counts tell

@@ -10,12 +10,12 @@ use Rattle.sgb_graph.specs.Graph.{n_of}
 use Rattle.sgb_graph.specs.New.{bare_graph}
 use Rattle.sgb_graph.specs.Text.{IsText, is_text_byte}
 use Rattle.sgb_plan.specs.Plan.{Plan, IsMade, with_named, MayAllocate}
-use Rattle.sgb_plan.proofs.Planning.{begun, many_vertices, n-with_named}
+use Rattle.sgb_plan.proofs.Plans.{begun, many_vertices, n-with_named}
 use Rattle.sgb_binary.specs.Binary.{binary_plan, tree_vertex}
 use Rattle.sgb_binary.specs.Tree.{words, is_low_tree, trees}
 use Rattle.sgb_binary.specs.Private.Code.{IsName}
 use Rattle.sgb_binary.specs.Private.Listing.{pieces}
-use Rattle.sgb_binary.proofs.Indexing.{pieces_concat, concat_length}
+use Rattle.sgb_binary.proofs.NameIndexes.{pieces_concat, concat_length}
 use Rattle.sgb_binary.proofs.Shapes.{trees_length, trees_letters}
 
 -- ---- names of vertices
