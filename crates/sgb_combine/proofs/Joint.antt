@@ -9,8 +9,8 @@ use Rattle.sgb_graph.specs.Operand.{spokes}
 use Rattle.sgb_combine.specs.Gunion.{is_candidate}
 use Rattle.sgb_combine.specs.Intersection.{firsts, longer, leading_to, joints, intersection_at}
 use Rattle.sgb_combine.specs.Lowest.{lowest, add_or_lower}
-use Rattle.sgb_combine.proofs.Joined.{leading-lowest}
-use Rattle.sgb_combine.proofs.Meeting.{upward_candidates}
+use Rattle.sgb_combine.proofs.SpokeLookup.{leading-lowest}
+use Rattle.sgb_combine.proofs.WalkedSpokes.{upward_candidates}
 
 -- what the spokes of the first graph that are found in the second insert
 pub joints_none : (v : ℕ) (ss : List Spoke) (r : Spoke) → leading_to r.to ss ≡ [] → joints v ss r ≡ []

@@ -12,7 +12,7 @@ use Rattle.sgb_combine.specs.Combined.{is_upward}
 use Rattle.sgb_combine.specs.Product.{has_single, has_double, pair_number, first_steps, second_steps, both_steps, product_at}
 use Rattle.sgb_combine.specs.Private.Rows.{row_of}
 use Rattle.sgb_combine.specs.Private.Pruned.{IsRowWithin, is_above, scaled, singles, doubles, pruned, pruned_at}
-use Rattle.sgb_combine.proofs.Upward.{cond_in, filter_all, firsts_up, seconds_up, boths_up, next_row}
+use Rattle.sgb_combine.proofs.LowerPairs.{cond_in, filter_all, firsts_up, seconds_up, boths_up, next_row}
 
 all_row : (directed : Bool) (h : GraphOf) (b : ℕ) → row_of true directed h b ≡ spokes directed h b
 unfolding row_of

@@ -15,7 +15,7 @@ use Rattle.sgb_graph.proofs.Halves.{pair_tip, pair_down}
 use Rattle.sgb_graph.specs.Operand.{tip_number}
 use Rattle.sgb_combine.specs.Drawing.{drawing, drawing_at, is_drawing, place_in, source_of}
 use Rattle.sgb_combine.specs.Lengths.{refusal_of_arcs}
-use Rattle.sgb_combine.proofs.Filled.{drawing_before, drawing_more}
+use Rattle.sgb_combine.proofs.DrawingArcs.{drawing_before, drawing_more}
 
 occurs_cons : (k j : ℕ) (ks : List ℕ) → occurrences k (j ∷ ks) ≡ cond (j == k) 1 0 + occurrences k ks
 occurs_cons k j ks = sum_by-cons (λ x. cond (x == k) 1 0) j ks

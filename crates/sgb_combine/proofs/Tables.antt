@@ -14,9 +14,9 @@ use Rattle.sgb_plan.specs.Length.{drawn_length}
 use Rattle.sgb_combine.specs.Drawing.{Draws, drawing, drawn, with_one, place_in, source_of, chosen, chosen_lengths}
 use Rattle.sgb_combine.specs.Lengths.{with_length, lengthened_at, with_lengths, refusal_of_arcs}
 use Rattle.sgb_combine.specs.Private.Table.{written, with_draw, drawn_over}
-use Rattle.sgb_combine.proofs.Counting.{draws_once}
+use Rattle.sgb_combine.proofs.DrawCounts.{draws_once}
 use Rattle.sgb_combine.proofs.Drawn.{drawn-none, drawn-more, length-drawn}
-use Rattle.sgb_combine.proofs.Halving.{half_silent}
+use Rattle.sgb_combine.proofs.EdgeHalves.{half_silent}
 use Rattle.sgb_combine.proofs.Sources.{has_source, paired_of}
 
 -- ---- places in a list with one number more

@@ -1,10 +1,9 @@
-//! The builder that a combination begins with: its id, and vertices that are named as those of a graph.
-ghost use Rattle.std.specs.Prelude.{◌≡◌, ◌≤◌, length, IfErr, OnOk, Some, None};
+//! What a combination begins with: operands that are not refused, and vertices that are named as those of a graph.
+ghost use Rattle.std.specs.Prelude.{◌≡◌, IfErr, OnOk, Some, None};
 ghost use Rattle.sgb_plan.specs.Plan.{Names};
 ghost use Rattle.sgb_combine.specs.Combined.{refusal_of_operands, vertices_of};
-ghost use Rattle.sgb_combine.specs.Private.Begin.{Begins};
 
-use sgb_graph::{Builder, Graph, Refusal, Text, Types, VertexNo, check_operand};
+use sgb_graph::{Builder, Graph, Refusal, VertexNo, check_operand};
 use sgb_plan::label_of;
 use std::alloc::Global;
 
@@ -17,24 +16,12 @@ pub(crate) fn check_operands(first: &Graph, second: &Graph) -> Result<(), Refusa
     check_operand(second)
 }
 
-// A builder with this id and the vertices of the graph, by their names alone, and with room for so many insertions.
-pub(crate) fn begin_as(
+// Adds the vertices of the graph, by their names alone.
+pub(crate) fn name_vertices(
+    builder: &mut Builder,
     alloc: Global,
-    id: Text,
     graph: &Graph,
-    directed: bool,
-    room: usize,
-) -> Result<Builder, Refusal>
-    requires { length id ≤ 160 }
-    ensures { Begins id directed (vertices_of graph.now) result }
-{
-    let mut builder = Builder::new(alloc, id, Types::none(), directed);
-    name_vertices(&mut builder, alloc, graph)?;
-    builder.reserve(room)?;
-    Ok(builder)
-}
-
-fn name_vertices(builder: &mut Builder, alloc: Global, graph: &Graph) -> Result<(), Refusal>
+) -> Result<(), Refusal>
     ensures { Names builder.old builder.new (vertices_of graph.now) result }
 {
     builder.reserve_vertices(graph.n() as usize)?;

@@ -1,14 +1,15 @@
 //! Intersections.
-ghost use Rattle.std.specs.Prelude.{◌≡◌, ◌<◌, All, Ok, IsErrOf};
-ghost use Rattle.std.specs.List.{flat_map, range_with_len};
-ghost use Rattle.sgb_graph.specs.Graph.{n_of};
+ghost use Rattle.std.specs.Prelude.{◌≡◌, ◌<◌, length, All, Ok, IsErrOf};
+ghost use Rattle.std.specs.List.{flat_map};
+ghost use Rattle.sgb_graph.specs.Graph.{IsGraph, n_of};
 ghost use Rattle.sgb_graph.specs.Builder.{Inserts};
 ghost use Rattle.sgb_graph.specs.Operand.{IsWithin};
 ghost use Rattle.sgb_plan.specs.Plan.{IsMade, MayAllocate};
 ghost use Rattle.sgb_combine.specs.Intersection.{longer, joints, intersection_at, intersection_plan, plan_of_intersection};
 
-use crate::begin::{begin_as, check_operands, room_of};
+use crate::begin::{check_operands, room_of};
 use crate::both::Both;
+use crate::combination::{Combination, combine};
 use crate::lowest::Lowest;
 use crate::run::insert_spoke;
 use sgb_graph::{Builder, Graph, Refusal, Spoke, VertexNo};
@@ -22,6 +23,7 @@ use std::alloc::Global;
 ///
 /// Refused `BadOperand` where an arc of a graph leads to no vertex, and then `TooLarge` where the intersection would
 /// give out more than 1,000,000 arc numbers.
+#[tactic(auto, using(sgb_plan::proofs::PlanRefusals::refused, sgb_plan::proofs::PlanRefusals::planned, sgb_plan::proofs::PlanRefusals::never_answered, crate::proofs::Starts::no_room_of_operands, crate::proofs::Starts::may_allocate_as))]
 pub fn intersection(
     alloc: Global,
     first: &Graph,
@@ -48,32 +50,40 @@ fn build_intersection(
     let flags = [Part::Flag(false), Part::Flag(directed)];
     let id = id_of_two(alloc, "intersection", first.id(), second.id(), &flags)?;
     let room = room_of(first, directed).min(room_of(second, directed));
-    let mut builder = begin_as(alloc, id, first, directed, room)?;
-    insert_intersections(&mut builder, alloc, first, second, directed)?;
-    Ok(builder.finish())
+    let intersection = IntersectionSource {
+        first,
+        second,
+        directed,
+        both: Both::new(alloc),
+        mine: Lowest::new(alloc, first.n())?,
+        theirs: Lowest::new(alloc, first.n())?,
+    };
+    combine(alloc, id, first, directed, room, intersection)
 }
 
-fn insert_intersections(
-    builder: &mut Builder,
-    alloc: Global,
-    first: &Graph,
-    second: &Graph,
+// Two graphs, and buffers for the arcs of one vertex in both.
+#[derive(Drop)]
+struct IntersectionSource<'a> {
+    first: &'a Graph,
+    second: &'a Graph,
     directed: bool,
-) -> Result<(), Refusal>
-    requires { n_of builder.old.graph ≡ n_of first.now }
-    ensures { Inserts builder.old builder.new
-        (flat_map (intersection_at directed first.now second.now) (range_with_len 0 (n_of first.now))) result }
-{
-    let mut both = Both::new(alloc);
-    let mut mine = Lowest::new(alloc, first.n())?;
-    let mut theirs = Lowest::new(alloc, first.n())?;
-    for v in 0..first.n() {
-        both.read(first, second, VertexNo(v), true, directed)?;
-        mine.keep(&both.mine)?;
-        theirs.keep(&both.theirs)?;
-        insert_joints(builder, VertexNo(v), mine.spokes(), &theirs)?;
+    both: Both,
+    mine: Lowest,
+    theirs: Lowest,
+}
+
+impl<'a> Combination for IntersectionSource<'a> {
+    ghost insertions_at = { λ c. intersection_at c.directed c.first.now c.second.now };
+
+    ghost fits = { λ c n. IsGraph c.first.now × (n_of c.first.now ≡ n) × (length c.mine.places.items ≡ n) × (length c.theirs.places.items ≡ n) };
+
+    fn insert_from(&mut self, builder: &mut Builder, vertex: VertexNo) -> Result<(), Refusal> {
+        self.both
+            .read(self.first, self.second, vertex, true, self.directed)?;
+        self.mine.keep(&self.both.mine)?;
+        self.theirs.keep(&self.both.theirs)?;
+        insert_joints(builder, vertex, self.mine.spokes(), &self.theirs)
     }
-    Ok(())
 }
 
 fn insert_joints(

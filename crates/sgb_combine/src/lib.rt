@@ -4,6 +4,7 @@
 
 mod begin;
 mod both;
+mod combination;
 mod delta;
 mod draw;
 mod exchange;

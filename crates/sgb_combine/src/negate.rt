@@ -1,15 +1,15 @@
 //! Complements.
 ghost use Rattle.std.specs.Prelude.{◌≡◌, ◌<◌, length, map, All, Ok, OnOk, IsErrOf, true};
-ghost use Rattle.std.specs.List.{flat_map, filter, range_with_len};
+ghost use Rattle.std.specs.List.{filter};
 ghost use Rattle.sgb_graph.specs.Graph.{n_of};
 ghost use Rattle.sgb_graph.specs.Builder.{Inserts};
-ghost use Rattle.sgb_graph.specs.Operand.{IsWithin};
 ghost use Rattle.sgb_plan.specs.Plan.{IsMade, MayAllocate};
 ghost use Rattle.sgb_combine.specs.Complement.{is_wanted, unit_step, wanted_steps, complement_at, complement_plan, plan_of_complement};
 ghost use Rattle.sgb_combine.specs.Private.Targets.{IsInOrder};
 
 use crate::ComplementSpec;
-use crate::begin::{begin_as, room_of};
+use crate::begin::room_of;
+use crate::combination::{Combination, combine};
 use crate::lowest::Lowest;
 use sgb_graph::{Builder, Graph, Refusal, Spoke, VertexNo, check_operand, read_spokes};
 use sgb_plan::{Part, id_of_one};
@@ -21,6 +21,7 @@ use std::alloc::{AllocError, Global};
 ///
 /// Refused `BadOperand` where an arc of the graph leads to no vertex, and then `TooLarge` where the complement would
 /// give out more than 1,000,000 arc numbers.
+#[tactic(auto, using(sgb_plan::proofs::PlanRefusals::refused, sgb_plan::proofs::PlanRefusals::planned, sgb_plan::proofs::PlanRefusals::never_answered, crate::proofs::Starts::no_room_of_operand, crate::proofs::Starts::may_allocate_as))]
 pub fn complement(alloc: Global, graph: &Graph, spec: &ComplementSpec) -> Result<Graph, Refusal>
     ensures made { IsMade (plan_of_complement graph.now spec.now) result }
     ensures room { IsErrOf result Refusal.NoRoom → MayAllocate (plan_of_complement graph.now spec.now) }
@@ -41,9 +42,14 @@ fn build_complement(alloc: Global, graph: &Graph, spec: ComplementSpec) -> Resul
     ];
     let id = id_of_one(alloc, "complement", graph.id(), &flags)?;
     let room = room_for(graph, spec);
-    let mut builder = begin_as(alloc, id, graph, spec.directed, room)?;
-    insert_complement(&mut builder, alloc, graph, spec)?;
-    Ok(builder.finish())
+    let missing = ComplementSource {
+        graph,
+        spec,
+        spokes: Vec::new(alloc),
+        tips: Vec::new(alloc),
+        lowest: Lowest::new(alloc, graph.n())?,
+    };
+    combine(alloc, id, graph, spec.directed, room, missing)
 }
 
 // For how many insertions there is to be room: no more than are made, but for loops, where no arcs are parallel.
@@ -61,51 +67,36 @@ fn room_for(graph: &Graph, spec: ComplementSpec) -> usize {
     }
 }
 
-fn insert_complement(
-    builder: &mut Builder,
-    alloc: Global,
-    graph: &Graph,
+// A graph, and buffers for the arcs of one of its vertices.
+#[derive(Drop)]
+struct ComplementSource<'a> {
+    graph: &'a Graph,
     spec: ComplementSpec,
-) -> Result<(), Refusal>
-    requires { n_of builder.old.graph ≡ n_of graph.now }
-    ensures { Inserts builder.old builder.new
-        (flat_map (complement_at spec graph.now) (range_with_len 0 (n_of graph.now))) result }
-{
-    let mut spokes = Vec::new(alloc);
-    let mut tips = Vec::new(alloc);
-    let mut lowest = Lowest::new(alloc, graph.n())?;
-    for u in 0..graph.n() {
-        spokes.clear();
-        read_spokes(&mut spokes, graph, VertexNo(u), true)?;
-        insert_wanted(builder, &mut lowest, &mut tips, VertexNo(u), &spokes, spec)?;
-    }
-    Ok(())
+    spokes: Vec<Spoke>,
+    tips: Vec<u32>,
+    lowest: Lowest,
 }
 
-// Inserts what is wanted from a vertex with these arcs.
-fn insert_wanted(
-    builder: &mut Builder,
-    lowest: &mut Lowest,
-    tips: &mut Vec<u32>,
-    vertex: VertexNo,
-    spokes: &[Spoke],
-    spec: ComplementSpec,
-) -> Result<(), Refusal>
-    requires from { vertex.0 < n_of builder.old.graph }
-    requires to { All (IsWithin (n_of builder.old.graph)) spokes.now }
-    requires width { length lowest.old.places.items ≡ n_of builder.old.graph }
-    ensures inserts { Inserts builder.old builder.new
-        (wanted_steps spec (n_of builder.old.graph) vertex.0 spokes.now) result }
-    ensures width { length lowest.new.places.items ≡ length lowest.old.places.items }
-{
-    if spec.copy {
-        return insert_joined(builder, tips, vertex, spokes, spec);
+impl<'a> Combination for ComplementSource<'a> {
+    ghost insertions_at = { λ c. complement_at c.spec c.graph.now };
+
+    ghost fits = { λ c n. (n_of c.graph.now ≡ n) × (length c.lowest.places.items ≡ n) };
+
+    fn insert_from(&mut self, builder: &mut Builder, vertex: VertexNo) -> Result<(), Refusal> {
+        self.spokes.clear();
+        read_spokes(&mut self.spokes, self.graph, vertex, true)?;
+        if self.spec.copy {
+            // No other vertices are wanted than those to which this one is joined.
+            read_tips(&mut self.tips, vertex, &self.spokes, self.spec)?;
+            put_in_order(&mut self.tips);
+            return insert_steps(builder, vertex, &self.tips);
+        }
+        self.lowest.keep(&self.spokes)?;
+        insert_missing(builder, &self.lowest, vertex, self.spec)
     }
-    lowest.keep(spokes)?;
-    insert_missing(builder, lowest, vertex, spec)
 }
 
-// Asks of every vertex if it is wanted.
+// Asks of every vertex if it is wanted, but where edges are made of none below.
 fn insert_missing(
     builder: &mut Builder,
     lowest: &Lowest,
@@ -116,32 +107,14 @@ fn insert_missing(
     ensures { Inserts builder.old builder.new
         (wanted_steps spec (n_of builder.old.graph) vertex.0 lowest.now.spokes.items) result }
 {
-    for w in 0..builder.graph().n() {
+    let low = if spec.directed { 0 } else { vertex.0 };
+    for w in low..builder.graph().n() {
         if !is_wanted(spec, vertex.0, lowest.leads_to(w), w) {
             continue;
         }
         builder.insert(vertex, VertexNo(w), 1)?;
     }
     Ok(())
-}
-
-// Asks only of the vertices to which the vertex is joined, since no others are wanted.
-fn insert_joined(
-    builder: &mut Builder,
-    tips: &mut Vec<u32>,
-    vertex: VertexNo,
-    spokes: &[Spoke],
-    spec: ComplementSpec,
-) -> Result<(), Refusal>
-    requires copy { spec.copy ≡ true }
-    requires from { vertex.0 < n_of builder.old.graph }
-    requires to { All (IsWithin (n_of builder.old.graph)) spokes.now }
-    ensures { Inserts builder.old builder.new
-        (wanted_steps spec (n_of builder.old.graph) vertex.0 spokes.now) result }
-{
-    read_tips(tips, vertex, spokes, spec)?;
-    put_in_order(tips);
-    insert_steps(builder, vertex, tips)
 }
 
 // The vertices to which the spokes lead and that are wanted, in place of what the buffer holds.

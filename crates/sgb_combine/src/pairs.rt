@@ -23,6 +23,7 @@ use std::alloc::Global;
 /// Refused `BadSpecs` for another kind; then `BadOperand` where an arc of a graph leads to no vertex, or where a pair's
 /// name would have more than 4,095 bytes; then `TooLarge` where there would be more than 65,535 vertices, which takes no
 /// memory to tell, or 1,000,000 arc numbers.
+#[tactic(auto, using(sgb_plan::proofs::PlanRefusals::planned, sgb_plan::proofs::PlanRefusals::never_answered, crate::proofs::Starts::no_room_of_product))]
 pub fn product(
     alloc: Global,
     first: &Graph,

@@ -1,20 +1,18 @@
 //! Unions.
-ghost use Rattle.std.specs.Prelude.{◌≡◌, ◌<◌, length, map, All, Ok, OnOk, IsErrOf};
-ghost use Rattle.std.specs.List.{flat_map, range_with_len};
+ghost use Rattle.std.specs.Prelude.{◌≡◌, length, Ok, IsErrOf};
 ghost use Rattle.sgb_graph.specs.Graph.{n_of};
-ghost use Rattle.sgb_graph.specs.Builder.{along, Inserts};
-ghost use Rattle.sgb_graph.specs.Operand.{IsWithin};
 ghost use Rattle.sgb_plan.specs.Plan.{IsMade, MayAllocate};
-ghost use Rattle.sgb_combine.specs.Gunion.{candidates, run_of, union_at, gunion_plan, plan_of_gunion};
+ghost use Rattle.sgb_combine.specs.Gunion.{union_at, gunion_plan, plan_of_gunion};
 
 use crate::GunionSpec;
-use crate::begin::{begin_as, check_operands, room_of};
+use crate::begin::{check_operands, room_of};
 use crate::both::Both;
+use crate::combination::{Combination, combine};
 use crate::lowest::Lowest;
 use crate::run::insert_spokes;
-use sgb_graph::{Builder, Graph, Refusal, Spoke, VertexNo};
+use sgb_graph::{Builder, Graph, Refusal, VertexNo};
 use sgb_plan::{Part, id_of_two};
-use std::alloc::{AllocError, Global};
+use std::alloc::Global;
 
 /// The union of two graphs: the vertices of the first, and from each what its list in the first graph and then that in
 /// the second, where that has the vertex, lead to among them, with its lengths. Where edges are made, what leads to a
@@ -23,6 +21,7 @@ use std::alloc::{AllocError, Global};
 ///
 /// Refused `BadOperand` where an arc of a graph leads to no vertex, and then `TooLarge` where the union would give out
 /// more than 1,000,000 arc numbers.
+#[tactic(auto, using(sgb_plan::proofs::PlanRefusals::refused, sgb_plan::proofs::PlanRefusals::planned, sgb_plan::proofs::PlanRefusals::never_answered, crate::proofs::Starts::no_room_of_operands, crate::proofs::Starts::may_allocate_as))]
 pub fn gunion(
     alloc: Global,
     first: &Graph,
@@ -49,9 +48,14 @@ fn build_union(
     let flags = [Part::Flag(spec.multi), Part::Flag(spec.directed)];
     let id = id_of_two(alloc, "gunion", first.id(), second.id(), &flags)?;
     let room = room_for(first, second, spec.directed);
-    let mut builder = begin_as(alloc, id, first, spec.directed, room)?;
-    insert_unions(&mut builder, alloc, first, second, spec)?;
-    Ok(builder.finish())
+    let union = UnionSource {
+        first,
+        second,
+        spec,
+        both: Both::new(alloc),
+        lowest: Lowest::new(alloc, first.n())?,
+    };
+    combine(alloc, id, first, spec.directed, room, union)
 }
 
 // For how many insertions there is to be room. Where the second graph has further vertices, it is not known how many of
@@ -65,59 +69,30 @@ fn room_for(first: &Graph, second: &Graph, directed: bool) -> usize {
     }
 }
 
-fn insert_unions(
-    builder: &mut Builder,
-    alloc: Global,
-    first: &Graph,
-    second: &Graph,
+// Two graphs, and buffers for the arcs of one vertex in both.
+#[derive(Drop)]
+struct UnionSource<'a> {
+    first: &'a Graph,
+    second: &'a Graph,
     spec: GunionSpec,
-) -> Result<(), Refusal>
-    requires { n_of builder.old.graph ≡ n_of first.now }
-    ensures { Inserts builder.old builder.new
-        (flat_map (union_at spec first.now second.now) (range_with_len 0 (n_of first.now))) result }
-{
-    let mut both = Both::new(alloc);
-    let mut lowest = Lowest::new(alloc, first.n())?;
-    for v in 0..first.n() {
-        read_candidates(&mut both, first, second, VertexNo(v), spec.directed)?;
-        insert_run(builder, &mut lowest, VertexNo(v), &both.mine, spec.multi)?;
-    }
-    Ok(())
+    both: Both,
+    lowest: Lowest,
 }
 
-// Reads the candidates of a vertex: those of the first graph, and behind them those of the second.
-fn read_candidates(
-    both: &mut Both,
-    first: &Graph,
-    second: &Graph,
-    vertex: VertexNo,
-    directed: bool,
-) -> Result<(), AllocError>
-    requires { vertex.0 < n_of first.now }
-    ensures { OnOk result (both.new.mine.items ≡ candidates directed first.now second.now vertex.0) }
-{
-    both.read(first, second, vertex, directed, directed)?;
-    both.mine.extend_from_slice(&both.theirs)?;
-    Ok(())
-}
+impl<'a> Combination for UnionSource<'a> {
+    ghost insertions_at = { λ c. union_at c.spec c.first.now c.second.now };
 
-// Inserts along the candidates of a vertex, or along the lowest of them.
-fn insert_run(
-    builder: &mut Builder,
-    lowest: &mut Lowest,
-    vertex: VertexNo,
-    candidates: &[Spoke],
-    multi: bool,
-) -> Result<(), Refusal>
-    requires from { vertex.0 < n_of builder.old.graph }
-    requires to { All (IsWithin (n_of builder.old.graph)) candidates.now }
-    requires width { length lowest.old.places.items ≡ n_of builder.old.graph }
-    ensures inserts { Inserts builder.old builder.new (map (along vertex.0) (run_of multi candidates.now)) result }
-    ensures width { length lowest.new.places.items ≡ length lowest.old.places.items }
-{
-    if multi {
-        return insert_spokes(builder, vertex, candidates);
+    ghost fits = { λ c n. (n_of c.first.now ≡ n) × (length c.lowest.places.items ≡ n) };
+
+    fn insert_from(&mut self, builder: &mut Builder, vertex: VertexNo) -> Result<(), Refusal> {
+        let directed = self.spec.directed;
+        self.both
+            .read(self.first, self.second, vertex, directed, directed)?;
+        self.both.mine.extend_from_slice(&self.both.theirs)?;
+        if self.spec.multi {
+            return insert_spokes(builder, vertex, &self.both.mine);
+        }
+        self.lowest.keep(&self.both.mine)?;
+        insert_spokes(builder, vertex, self.lowest.spokes())
     }
-    lowest.keep(candidates)?;
-    insert_spokes(builder, vertex, lowest.spokes())
 }

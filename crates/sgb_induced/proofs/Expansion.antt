@@ -19,12 +19,12 @@ use Rattle.sgb_induced.specs.Induced as public
 use Rattle.sgb_induced.specs.Induced.{asked, asked_at, insertions, is_met}
 use Rattle.sgb_induced.specs.Least.{least}
 use Rattle.sgb_induced.specs.Private.Run.{all_runs, between, expanded, image_at, image_of, is_run, no_image, numbers, run_at, runs_at, runs_of}
-use Rattle.sgb_induced.proofs.Alone.{alone_is, rows}
-use Rattle.sgb_induced.proofs.Covering.{Apart, In}
-use Rattle.sgb_induced.proofs.Leading.{fate_of_leader, leader-le, leader_of_leader}
-use Rattle.sgb_induced.proofs.Naming.{made_leading}
-use Rattle.sgb_induced.proofs.Pairing.{Leads, least_of_runs}
-use Rattle.sgb_induced.proofs.Placing.{known_image, start-le, start_more}
+use Rattle.sgb_induced.proofs.SharedLeaders.{alone_is, rows}
+use Rattle.sgb_induced.proofs.RunPairs.{Apart, In}
+use Rattle.sgb_induced.proofs.Leaders.{fate_of_leader, leader-le, leader_of_leader}
+use Rattle.sgb_induced.proofs.CopyNames.{made_leading}
+use Rattle.sgb_induced.proofs.RunEnds.{Leads, least_of_runs}
+use Rattle.sgb_induced.proofs.ImagePlaces.{known_image, start-le, start_more}
 
 -- ---- the images of one vertex
 count_there : (fs : List Fate) (n w : ℕ) {is : List Image} → is ≡ map (image_of fs) (range_with_len 0 n) → length fs ≡ n → count_of (fate fs w) ≡ (image_at is w).count

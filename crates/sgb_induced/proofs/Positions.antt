@@ -1,10 +1,8 @@
 -- Lemmas on the first place of a list that passes a test.
-use Rattle.std.proofs.Common.{◌≡◌, ◌<◌, ◌+◌, ℕ, zero, suc, List, [], ◌∷◌, ◌++◌, length, get_or, take, set, Option, Some, None, unwrap_or, Bool, true, false, cond, nat_lt, inl, inr, refl, sym, ap, ◌∙◌, arith}
+use Rattle.std.proofs.Common.{◌≡◌, ◌<◌, ◌+◌, ℕ, zero, suc, List, [], ◌∷◌, ◌++◌, length, get_or, take, Option, Some, None, unwrap_or, Bool, true, false, cond, nat_lt, inl, inr, refl, sym, ap, ◌∙◌, arith}
 use Rattle.std.specs.List.{position, position_or_len}
 use Rattle.std.specs.Option.{option_map}
 use Rattle.std.proofs.lemmas.Bool.{cases_Bool, lt-ltb, le-ltb, ltb-true, ltb-false}
-use Rattle.std.proofs.lemmas.List.{length-set}
-use Rattle.std.proofs.lemmas.List.Folds.{position_or_len-set}
 
 lt_suc_by : (a b : ℕ) (r : Bool) → nat_lt a b ≡ r → nat_lt (suc a) (suc b) ≡ r
 lt_suc_by a b true is = lt-ltb (suc a) (suc b) (omega (arith, ltb-true a b is))
@@ -85,8 +83,3 @@ first_or_here p (x ∷ xs) (suc w) d h passes =
       | inr later ↦ (let left : position_or_len p (x ∷ xs) ≡ suc (position_or_len p xs) = rw later (one_more (position_or_len p xs)) in
           left ∙ (ap (λ i. suc i) (first_or_here p xs w d (omega (arith, h)) passes) ∙ (sym (unwrap-suc (position p (take w xs)) w) ∙ sym (ap (λ o. unwrap_or o (suc w)) (place_no p x (take w xs) later)))))
     ]
-
-pub position-set : {X : Type 0} (p : X → Bool) (xs : List X) (i : ℕ) (y d : X) → p y ≡ p (get_or xs i d) → position p (set xs i y) ≡ position p xs
-position-set p xs i y d same =
-    ap (λ k. cond (nat_lt k (length (set xs i y))) (Some k) None) (position_or_len-set p xs i y d same)
-    ∙ ap (λ n. cond (nat_lt (position_or_len p xs) n) (Some (position_or_len p xs)) None) (length-set xs i y)

@@ -1,13 +1,15 @@
 //! The runs that the arcs of a graph ask for.
-ghost use Rattle.std.specs.Prelude.{◌≡◌, ◌==◌, ◌++◌, ◌&&◌, not, map, IfOk, OnOk};
+ghost use Rattle.std.specs.Prelude.{◌≡◌, ◌<◌, ◌==◌, ◌++◌, ◌&&◌, not, map, IfOk, OnOk};
 ghost use Rattle.std.specs.List.{filter};
+ghost use Rattle.sgb_graph.specs.Graph.{n_of};
+ghost use Rattle.sgb_graph.specs.Operand.{spokes};
 ghost use Rattle.sgb_induced.specs.Induced.{is_met};
 ghost use Rattle.sgb_induced.specs.Private.Run.{all_runs, is_run, run_at, runs_of};
 
 use crate::image::{Image, image_at};
+use crate::merge::merge_runs;
 use crate::run::Run;
-use crate::twin::merge_runs;
-use sgb_graph::{Graph, Spoke, VertexNo, read_spokes};
+use sgb_graph::{Graph, Spoke, VertexNo, spoke_at};
 use std::alloc::{AllocError, Global};
 
 // The runs of a graph, in the order of its vertices; without `multi` one for each pair of ends.
@@ -38,15 +40,12 @@ fn read_runs(
     ensures { IfOk result (λ rs. rs.items ≡ all_runs directed graph.now images.now) }
 {
     let mut runs = Vec::with_capacity(alloc, graph.m() as usize)?;
-    let mut spokes = Vec::new(alloc);
     for v in 0..graph.n() {
         let image = image_at(images, v);
         if image.count == 0 {
             continue;
         }
-        spokes.clear();
-        read_spokes(&mut spokes, graph, VertexNo(v), directed)?;
-        append_runs(&mut runs, &spokes, images, v, directed)?;
+        append_runs(&mut runs, graph, images, VertexNo(v), directed)?;
     }
     Ok(runs)
 }
@@ -54,18 +53,20 @@ fn read_runs(
 // Writes the runs of one vertex behind the others.
 fn append_runs(
     runs: &mut Vec<Run>,
-    spokes: &[Spoke],
+    graph: &Graph,
     images: &[Image],
-    v: u32,
+    vertex: VertexNo,
     directed: bool,
 ) -> Result<(), AllocError>
-    ensures { OnOk result (runs.new.items
-        ≡ runs.old.items ++ map (run_at images.now v) (filter (is_run directed images.now v) spokes.now)) }
+    requires { vertex.0 < n_of graph.now }
+    ensures { OnOk result (runs.new.items ≡ runs.old.items
+        ++ map (run_at images.now vertex.0) (filter (is_run directed images.now vertex.0) (spokes directed graph.now vertex.0))) }
 {
-    let from = image_at(images, v).leader;
-    for spoke in spokes {
+    let from = image_at(images, vertex.0).leader;
+    for number in graph.walk(vertex, directed) {
+        let spoke = spoke_at(graph, number);
         let image = image_at(images, spoke.to);
-        if !is_run(v, *spoke, image, directed) {
+        if !is_run(vertex.0, spoke, image, directed) {
             continue;
         }
         runs.push(Run {

@@ -7,9 +7,9 @@ mod fate;
 mod gather;
 mod image;
 mod inducing;
+mod merge;
 mod name;
 mod run;
-mod twin;
 
 pub use facts::least_law;
 pub use inducing::{InducedSpec, induced};

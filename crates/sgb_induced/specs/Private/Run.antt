@@ -61,6 +61,10 @@ merge directed (r ∷ rs) s = if same_run directed r s then lowered_run r s ∷ 
 abbrev pub merged : Bool → List Run → List Run
 merged directed = fold (merge directed) []
 
+-- the map knows the place of the run with these ends
+abbrev pub IsPlaced : {S : Type 0} → Bool → HashMap Key ℕ S → List Run → Type 0
+IsPlaced directed places rs = (q : Key) → get key_eq places q ≡ position (has_key directed q) rs
+
 -- ---- the insertions of a run
 abbrev pub from_one : Bool → Bool → Image → Run → ℕ → List Insertion
 from_one loops directed to r x = map (λ y. insertion x y r.len) (filter (is_wanted loops directed (r.from == r.to) x) (numbers to))

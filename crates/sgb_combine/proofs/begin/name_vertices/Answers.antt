@@ -3,7 +3,7 @@ use Rattle.std.proofs.lemmas.Result.{err_from_is_err_and}
 use Rattle.sgb_graph.specs.Graph.{n_of, label_of}
 use Rattle.sgb_graph.specs.New.{six_zeros}
 use Rattle.sgb_plan.specs.Plan.{with_named}
-use Rattle.sgb_plan.proofs.Planning.{NamesFrom, pushed, push_refused, names_from_some, names_from_refused, names_from_end, names_from_start}
+use Rattle.sgb_plan.proofs.Plans.{NamesFrom, pushed, push_refused, names_from_some, names_from_refused, names_from_end, names_from_start}
 use Rattle.sgb_combine.specs.Combined.{named_as, vertices_of}
 use Rattle.sgb_combine.proofs.begin.name_vertices.Goals as goal
 

@@ -1,5 +1,5 @@
 use Rattle.sgb_graph.specs.Graph.{n_of}
-use Rattle.sgb_plan.proofs.Planning.{NamesFrom}
+use Rattle.sgb_plan.proofs.Plans.{NamesFrom}
 use Rattle.sgb_combine.specs.Combined.{named_as, vertices_of}
 use Rattle.sgb_combine.proofs.begin.name_vertices.Given as goal
 

@@ -1,6 +1,6 @@
 use Rattle.std.proofs.Common.{sym, ◌∙◌}
 use Rattle.sgb_combine.specs.Gunion.{is_candidate}
-use Rattle.sgb_combine.proofs.Meeting.{held_none, held_one}
+use Rattle.sgb_combine.proofs.WalkedSpokes.{held_none, held_one}
 use Rattle.sgb_combine.proofs.both.hold.Goals as goal
 
 pub returns-then-not-is_sought : goal.returns-then-not-is_sought

@@ -2,7 +2,7 @@ use Rattle.std.proofs.Common.{All, IsSome, subst}
 use Rattle.std.proofs.lemmas.List.Elements.{All-tail}
 use Rattle.sgb_graph.specs.Graph.{arc_at}
 use Rattle.sgb_combine.specs.Gunion.{is_candidate}
-use Rattle.sgb_combine.proofs.Meeting.{next_passing}
+use Rattle.sgb_combine.proofs.WalkedSpokes.{next_passing}
 use Rattle.sgb_combine.proofs.both.hold_next.Goals as goal
 
 pub returns-in_err-hold-clause-live : goal.returns-in_err-hold-clause-live

@@ -2,7 +2,7 @@ use Rattle.std.proofs.Common.{All, IsSome, sym, subst}
 use Rattle.std.proofs.lemmas.List.Elements.{All-tail}
 use Rattle.sgb_graph.specs.Graph.{arc_at}
 use Rattle.sgb_combine.specs.Gunion.{is_candidate}
-use Rattle.sgb_combine.proofs.Meeting.{holds_start, holds_one, holds_end}
+use Rattle.sgb_combine.proofs.WalkedSpokes.{holds_start, holds_one, holds_end}
 use Rattle.sgb_combine.proofs.both.hold_rest.Goals as goal
 
 pub loop-number-init : goal.loop-number-init

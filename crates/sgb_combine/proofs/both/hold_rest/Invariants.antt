@@ -2,7 +2,7 @@ use Rattle.std.proofs.Common.{All, IsSome, ◌++◌}
 use Rattle.sgb_graph.specs.Graph.{arc_at}
 use Rattle.sgb_combine.specs.Gunion.{is_candidate}
 use Rattle.sgb_combine.specs.Private.Both.{passing}
-use Rattle.sgb_combine.proofs.Meeting.{Holds}
+use Rattle.sgb_combine.proofs.WalkedSpokes.{Holds}
 use Rattle.sgb_combine.proofs.both.hold_rest.Given as goal
 
 abbrev pub invariant-loop-number : goal.invariant-loop-number

@@ -1,5 +1,5 @@
 use Rattle.std.proofs.Common.{refl, arith}
-use Rattle.sgb_combine.proofs.Walked.{AllDrawn, over_room, over_more, over_all}
+use Rattle.sgb_combine.proofs.WalkLengths.{AllDrawn, over_room, over_more, over_all}
 use Rattle.sgb_combine.proofs.draw.draw_lengths.Goals as goal
 
 pub draw_walk-draws-requires-clause-few : goal.draw_walk-draws-requires-clause-few

@@ -1,4 +1,4 @@
-use Rattle.sgb_combine.proofs.Walked.{Over}
+use Rattle.sgb_combine.proofs.WalkLengths.{Over}
 use Rattle.sgb_combine.proofs.draw.draw_lengths.Given as goal
 
 abbrev pub invariant-loop-v : goal.invariant-loop-v

@@ -1,7 +1,7 @@
 use Rattle.std.proofs.Common.{rules, sym, ap, ◌∙◌, FitsSigned, w64, arith}
 use Rattle.std.proofs.lemmas.Int.{to_z-of_z}
 use Rattle.sgb_combine.specs.Private.Table.{written}
-use Rattle.sgb_combine.proofs.Walked.{walked_start, walked_skip, walked_draw, draw_is}
+use Rattle.sgb_combine.proofs.WalkLengths.{walked_start, walked_skip, walked_draw, draw_is}
 use Rattle.sgb_combine.proofs.draw.draw_walk.Goals as goal
 
 pub loop-number-init : goal.loop-number-init

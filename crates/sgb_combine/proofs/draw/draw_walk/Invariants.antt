@@ -1,4 +1,4 @@
-use Rattle.sgb_combine.proofs.Walked.{Walked}
+use Rattle.sgb_combine.proofs.WalkLengths.{Walked}
 use Rattle.sgb_combine.proofs.draw.draw_walk.Given as goal
 
 abbrev pub invariant-loop-number : goal.invariant-loop-number

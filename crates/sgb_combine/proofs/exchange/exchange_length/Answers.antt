@@ -2,7 +2,7 @@ use Rattle.std.proofs.Common.{rules, ◌∙◌, w64}
 use Rattle.std.specs.Prelude.{IsSome}
 use Rattle.std.proofs.lemmas.Int.{to_z-of_z}
 use Rattle.sgb_graph.specs.Graph.{arc_at}
-use Rattle.sgb_combine.proofs.Exchanging.{with_len_is}
+use Rattle.sgb_combine.proofs.LengthSwaps.{with_len_is}
 use Rattle.sgb_combine.proofs.exchange.exchange_length.Goals as goal
 
 pub returns-clause-graph : goal.returns-clause-graph

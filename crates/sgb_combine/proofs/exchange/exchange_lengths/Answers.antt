@@ -1,6 +1,6 @@
 use Rattle.std.proofs.Common.{rules, ap, FitsSigned, set, get_or, pos, w64, arith}
 use Rattle.std.proofs.lemmas.Int.{to_z-of_z}
-use Rattle.sgb_combine.proofs.Exchanging.{exchanged_start, exchanged_more, exchanged_graph, exchanged_lengths}
+use Rattle.sgb_combine.proofs.LengthSwaps.{exchanged_start, exchanged_more, exchanged_graph, exchanged_lengths}
 use Rattle.sgb_combine.proofs.exchange.exchange_lengths.Goals as goal
 
 pub loop-k-init : goal.loop-k-init

@@ -1,4 +1,4 @@
-use Rattle.sgb_combine.proofs.Exchanging.{Exchanged}
+use Rattle.sgb_combine.proofs.LengthSwaps.{Exchanged}
 use Rattle.sgb_combine.proofs.exchange.exchange_lengths.Given as goal
 
 abbrev pub invariant-loop-k : goal.invariant-loop-k

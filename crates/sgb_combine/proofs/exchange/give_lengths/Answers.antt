@@ -1,6 +1,6 @@
 use Rattle.std.proofs.Common.{rules, FitsSigned, get_or, pos, w64, arith}
 use Rattle.std.proofs.lemmas.Int.{to_z-of_z}
-use Rattle.sgb_combine.proofs.Exchanging.{given_start, given_more, given_graph}
+use Rattle.sgb_combine.proofs.LengthSwaps.{given_start, given_more, given_graph}
 use Rattle.sgb_combine.proofs.exchange.give_lengths.Goals as goal
 
 pub loop-k-init : goal.loop-k-init

@@ -1,4 +1,4 @@
-use Rattle.sgb_combine.proofs.Exchanging.{Given}
+use Rattle.sgb_combine.proofs.LengthSwaps.{Given}
 use Rattle.sgb_combine.proofs.exchange.give_lengths.Given as goal
 
 abbrev pub invariant-loop-k : goal.invariant-loop-k

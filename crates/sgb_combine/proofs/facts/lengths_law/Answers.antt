@@ -1,4 +1,4 @@
-use Rattle.sgb_combine.proofs.Counting.{draws_once}
+use Rattle.sgb_combine.proofs.DrawCounts.{draws_once}
 use Rattle.sgb_combine.proofs.Sources.{has_source}
 use Rattle.sgb_combine.proofs.facts.lengths_law.Goals as goal
 

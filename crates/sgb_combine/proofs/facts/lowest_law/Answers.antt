@@ -1,5 +1,5 @@
-use Rattle.sgb_combine.proofs.Joined.{leads-lowest}
-use Rattle.sgb_combine.proofs.Apart.{places-lowest, once-lowest, least-lowest}
+use Rattle.sgb_combine.proofs.SpokeLookup.{leads-lowest}
+use Rattle.sgb_combine.proofs.DistinctSpokes.{places-lowest, once-lowest, least-lowest}
 use Rattle.sgb_combine.proofs.facts.lowest_law.Goals as goal
 
 pub returns-clause-same : goal.returns-clause-same

@@ -1,6 +1,6 @@
 use Rattle.std.proofs.Common.{sym, ap, ◌∙◌}
 use Rattle.sgb_graph.specs.Builder.{grown}
-use Rattle.sgb_graph.proofs.Growing.{grown-nil}
+use Rattle.sgb_graph.proofs.Insertions.{grown-nil}
 use Rattle.sgb_combine.proofs.Joint.{joints_none}
 use Rattle.sgb_combine.proofs.intersect.insert_joint.Goals as goal
 

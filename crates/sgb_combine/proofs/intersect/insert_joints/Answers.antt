@@ -1,8 +1,8 @@
 use Rattle.std.proofs.Common.{arith}
 use Rattle.std.proofs.lemmas.List.{get_or_default}
 use Rattle.std.proofs.lemmas.Result.{err_from_is_err_and}
-use Rattle.sgb_graph.proofs.Inserting.{of_some, of_refused, of_end, of_n}
-use Rattle.sgb_combine.proofs.Reached.{spoke_in, no_spoke}
+use Rattle.sgb_graph.proofs.InsertionRuns.{of_some, of_refused, of_end, of_n}
+use Rattle.sgb_combine.proofs.SpokeBounds.{spoke_in, no_spoke}
 use Rattle.sgb_combine.proofs.intersect.insert_joints.Goals as goal
 
 pub insert_joint-requires-clause-from : goal.insert_joint-requires-clause-from

@@ -1,5 +1,5 @@
 use Rattle.std.specs.List.{flat_map}
-use Rattle.sgb_graph.proofs.Inserting.{LeftOf}
+use Rattle.sgb_graph.proofs.InsertionRuns.{LeftOf}
 use Rattle.sgb_combine.specs.Intersection.{joints}
 use Rattle.sgb_combine.proofs.intersect.insert_joints.Given as goal
 

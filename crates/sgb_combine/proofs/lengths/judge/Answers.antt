@@ -2,7 +2,7 @@ use Rattle.std.proofs.Common.{rules, None, Some, ap₂, sym, ◌∙◌, FitsSign
 use Rattle.std.proofs.lemmas.Int.{to_z-of_z}
 use Rattle.std.proofs.lemmas.Result.{err_from_is_err_and}
 use Rattle.sgb_plan.specs.Length.{refusal_of_range}
-use Rattle.sgb_combine.proofs.Judging.{judge_range, judge_arcs}
+use Rattle.sgb_combine.proofs.LengthRefusals.{judge_range, judge_arcs}
 use Rattle.sgb_combine.proofs.lengths.judge.Goals as goal
 
 pub returns-in_err-range-clause-err : goal.returns-in_err-range-clause-err

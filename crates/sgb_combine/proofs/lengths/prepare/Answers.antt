@@ -1,7 +1,7 @@
 use Rattle.std.proofs.Common.{◌≡◌, ◌∙◌, Err, Some, ap, sym}
 use Rattle.std.proofs.lemmas.Result.{err_from_is_err_and}
 use Rattle.sgb_graph.specs.declared.refusal.Refusal.TheVariants.{NoRoom}
-use Rattle.sgb_combine.proofs.Judging.{judge_room}
+use Rattle.sgb_combine.proofs.LengthRefusals.{judge_room}
 use Rattle.sgb_combine.proofs.lengths.prepare.Goals as goal
 
 pub returns-in_err-range-clause-room : goal.returns-in_err-range-clause-room

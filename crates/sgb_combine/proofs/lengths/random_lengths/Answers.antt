@@ -1,6 +1,6 @@
 use Rattle.std.proofs.Common.{ap, ◌∙◌}
 use Rattle.sgb_combine.specs.Lengths.{with_lengths, lengthened, new_lengths}
-use Rattle.sgb_combine.proofs.Back.{back_is, can_revert_is}
+use Rattle.sgb_combine.proofs.LengthUndo.{back_is, can_revert_is}
 use Rattle.sgb_combine.proofs.lengths.random_lengths.Goals as goal
 
 pub returns-clause-graph : goal.returns-clause-graph

@@ -1,5 +1,5 @@
 use Rattle.std.proofs.Common.{◌∙◌}
-use Rattle.sgb_combine.proofs.Back.{before_is}
+use Rattle.sgb_combine.proofs.LengthUndo.{before_is}
 use Rattle.sgb_combine.proofs.lengths.revert_lengths.Goals as goal
 
 pub returns-clause-graph : goal.returns-clause-graph

@@ -1,6 +1,6 @@
 use Rattle.std.proofs.Common.{sym, subst, ◌∙◌}
 use Rattle.sgb_graph.specs.Builder.{Inserts}
-use Rattle.sgb_combine.proofs.Pruning.{none_inserted, doubles_none, doubles_empty, doubles_above, doubles_from}
+use Rattle.sgb_combine.proofs.ProductRows.{none_inserted, doubles_none, doubles_empty, doubles_above, doubles_from}
 use Rattle.sgb_combine.proofs.multiply.insert_doubles.Goals as goal
 
 pub returns-then-not-pairs : goal.returns-then-not-pairs

@@ -1,6 +1,6 @@
 use Rattle.std.proofs.Common.{map}
 use Rattle.std.specs.List.{flat_map}
-use Rattle.sgb_graph.proofs.Inserting.{LeftOf}
+use Rattle.sgb_graph.proofs.InsertionRuns.{LeftOf}
 use Rattle.sgb_graph.specs.Builder.{along}
 use Rattle.sgb_combine.specs.Private.Pruned.{double_steps, inner}
 use Rattle.sgb_combine.proofs.multiply.insert_over.Given as goal

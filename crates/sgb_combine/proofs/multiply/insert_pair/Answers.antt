@@ -3,11 +3,11 @@ use Rattle.std.proofs.lemmas.Result.{err_from_is_err_and}
 use Rattle.sgb_graph.specs.declared.builder.Builder.{Builder}
 use Rattle.sgb_graph.specs.Graph.{n_of}
 use Rattle.sgb_graph.specs.Builder.{along, Inserts, grown}
-use Rattle.sgb_graph.proofs.Growing.{n-grown, Inserts-append}
-use Rattle.sgb_graph.proofs.Inserting.{RefusesInsertions}
+use Rattle.sgb_graph.proofs.Insertions.{n-grown, Inserts-append}
+use Rattle.sgb_graph.proofs.InsertionRuns.{RefusesInsertions}
 use Rattle.sgb_combine.specs.Product.{has_single, has_double, pair_number}
 use Rattle.sgb_combine.specs.Private.Pruned.{singles, doubles}
-use Rattle.sgb_combine.proofs.Pruning.{refused_first, pruned_two}
+use Rattle.sgb_combine.proofs.ProductRows.{refused_first, pruned_two}
 use Rattle.sgb_combine.proofs.multiply.insert_pair.Goals as goal
 
 pub returns-in_err-insert_singles : goal.returns-in_err-insert_singles

@@ -4,12 +4,12 @@ use Rattle.std.proofs.lemmas.List.Elements.{All-filter}
 use Rattle.std.proofs.lemmas.Result.{err_from_is_err_and}
 use Rattle.sgb_graph.specs.Graph.{n_of}
 use Rattle.sgb_graph.specs.Builder.{grown}
-use Rattle.sgb_graph.proofs.Inserting.{RefusesInsertions, from_some, from_refused, from_end, from_n}
+use Rattle.sgb_graph.proofs.InsertionRuns.{RefusesInsertions, from_some, from_refused, from_end, from_n}
 use Rattle.sgb_combine.specs.Private.Pruned.{is_above, IsRowWithin}
 use Rattle.sgb_combine.specs.Private.Rows.{row_of}
 use Rattle.sgb_combine.proofs.Products.{row_is, rows_within}
-use Rattle.sgb_combine.proofs.Rowed.{row_sound}
-use Rattle.sgb_combine.proofs.Upward.{next_row}
+use Rattle.sgb_combine.proofs.GraphRows.{row_sound}
+use Rattle.sgb_combine.proofs.LowerPairs.{next_row}
 use Rattle.sgb_combine.proofs.multiply.insert_product.Goals as goal
 
 pub insert_row-requires-clause-few : goal.insert_row-requires-clause-few

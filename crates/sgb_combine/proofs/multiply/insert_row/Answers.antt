@@ -2,9 +2,9 @@ use Rattle.std.proofs.Common.{◌≡◌, ◌+◌, ◌*◌, true, arith, ap, subs
 use Rattle.std.proofs.lemmas.Result.{err_from_is_err_and}
 use Rattle.sgb_graph.specs.Graph.{n_of}
 use Rattle.sgb_graph.specs.Builder.{grown}
-use Rattle.sgb_graph.proofs.Inserting.{RefusesInsertions, from_some, from_refused, from_end, from_n}
-use Rattle.sgb_combine.proofs.Reached.{within_as}
-use Rattle.sgb_combine.proofs.Rowed.{row_sound, below_k, pruned_as}
+use Rattle.sgb_graph.proofs.InsertionRuns.{RefusesInsertions, from_some, from_refused, from_end, from_n}
+use Rattle.sgb_combine.proofs.SpokeBounds.{within_as}
+use Rattle.sgb_combine.proofs.GraphRows.{row_sound, below_k, pruned_as}
 use Rattle.sgb_combine.proofs.multiply.insert_row.Goals as goal
 
 pub insert_pair-requires-clause-few : goal.insert_pair-requires-clause-few

@@ -1,6 +1,6 @@
 use Rattle.std.specs.List.{flat_map, range_with_len}
 use Rattle.sgb_graph.specs.Graph.{n_of}
-use Rattle.sgb_graph.proofs.Inserting.{LeftFrom}
+use Rattle.sgb_graph.proofs.InsertionRuns.{LeftFrom}
 use Rattle.sgb_combine.specs.Private.Pruned.{pruned_at}
 use Rattle.sgb_combine.proofs.multiply.insert_row.Given as goal
 

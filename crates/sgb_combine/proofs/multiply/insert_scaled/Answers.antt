@@ -3,10 +3,10 @@ use Rattle.std.proofs.lemmas.List.{get_or_default}
 use Rattle.std.proofs.lemmas.Simd.{map-map}
 use Rattle.std.proofs.lemmas.Result.{err_from_is_err_and}
 use Rattle.sgb_graph.specs.Builder.{along, Insertion, grown}
-use Rattle.sgb_graph.proofs.Inserting.{LeftOf, RefusesInsertions, of_start_map, of_some, of_refused, of_end, of_n}
+use Rattle.sgb_graph.proofs.InsertionRuns.{LeftOf, RefusesInsertions, of_start_map, of_some, of_refused, of_end, of_n}
 use Rattle.sgb_graph.specs.declared.spoke.Spoke.{Spoke}
 use Rattle.sgb_combine.specs.Private.Pruned.{scaled}
-use Rattle.sgb_combine.proofs.Reached.{spoke_in, no_spoke}
+use Rattle.sgb_combine.proofs.SpokeBounds.{spoke_in, no_spoke}
 use Rattle.sgb_combine.proofs.multiply.insert_scaled.Goals as goal
 
 pub loop-spoke-init : goal.loop-spoke-init

@@ -1,5 +1,5 @@
 use Rattle.std.proofs.Common.{◌∷◌, [], map}
-use Rattle.sgb_graph.proofs.Inserting.{LeftOf}
+use Rattle.sgb_graph.proofs.InsertionRuns.{LeftOf}
 use Rattle.sgb_graph.specs.Builder.{along}
 use Rattle.sgb_combine.specs.Private.Pruned.{scaled}
 use Rattle.sgb_combine.proofs.multiply.insert_scaled.Given as goal

@@ -3,10 +3,10 @@ use Rattle.std.proofs.lemmas.Result.{err_from_is_err_and}
 use Rattle.sgb_graph.specs.declared.builder.Builder.{Builder}
 use Rattle.sgb_graph.specs.Graph.{n_of}
 use Rattle.sgb_graph.specs.Builder.{along, Inserts}
-use Rattle.sgb_graph.proofs.Growing.{n-grown, Inserts-append}
-use Rattle.sgb_graph.proofs.Inserting.{RefusesInsertions}
+use Rattle.sgb_graph.proofs.Insertions.{n-grown, Inserts-append}
+use Rattle.sgb_graph.proofs.InsertionRuns.{RefusesInsertions}
 use Rattle.sgb_combine.specs.Private.Pruned.{scaled}
-use Rattle.sgb_combine.proofs.Pruning.{refused_first, none_inserted, singles_none, singles_two}
+use Rattle.sgb_combine.proofs.ProductRows.{refused_first, none_inserted, singles_none, singles_two}
 use Rattle.sgb_combine.proofs.multiply.insert_singles.Goals as goal
 
 pub returns-then-not-single : goal.returns-then-not-single

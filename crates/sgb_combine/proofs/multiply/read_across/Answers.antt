@@ -2,7 +2,7 @@ use Rattle.std.proofs.Common.{◌++◌, ap, ◌∙◌}
 use Rattle.std.specs.List.{filter}
 use Rattle.sgb_graph.specs.Operand.{spokes}
 use Rattle.sgb_combine.specs.Private.Pruned.{is_above}
-use Rattle.sgb_combine.proofs.Rowed.{row_kept}
+use Rattle.sgb_combine.proofs.GraphRows.{row_kept}
 use Rattle.sgb_combine.proofs.multiply.read_across.Goals as goal
 
 pub returns-clause-from : goal.returns-clause-from

@@ -2,18 +2,25 @@ use Rattle.std.proofs.Common.{sym, ap, subst, ◌∙◌, arith}
 use Rattle.std.proofs.lemmas.Result.{err_from_is_err_and}
 use Rattle.sgb_graph.specs.Graph.{n_of}
 use Rattle.sgb_graph.specs.Builder.{grown}
-use Rattle.sgb_graph.proofs.Inserting.{LeftFrom, RefusesInsertions, from_start, from_some, from_none, from_refused, from_end, from_n}
-use Rattle.sgb_combine.specs.Complement.{is_wanted}
-use Rattle.sgb_combine.proofs.Reached.{below_n, past_n}
-use Rattle.sgb_combine.proofs.Wanted.{wanted_at, wanted_is, wanted_one, wanted_none}
+use Rattle.sgb_graph.proofs.InsertionRuns.{LeftFrom, RefusesInsertions, from_start, from_some, from_none, from_refused, from_end, from_n}
+use Rattle.sgb_combine.specs.Complement.{is_wanted, wanted_steps}
+use Rattle.sgb_combine.proofs.SpokeBounds.{below_n, past_n}
+use Rattle.sgb_combine.proofs.Complements.{from_vertex, wanted_at, wanted_is, wanted_one, wanted_none}
+use Rattle.sgb_combine.proofs.negate.insert_missing.Goals.{then-spec, else-spec}
 use Rattle.sgb_combine.proofs.negate.insert_missing.Goals as goal
 
 pub loop-w-init : goal.loop-w-init
 loop-w-init c =
     let b = c.args.builder.now in
     let n = n_of b.graph in
-    let f = wanted_at c.args.spec c.args.vertex.0 c.args.lowest.now.spokes.items in
-    subst (λ all. LeftFrom b all b f 0 n) (wanted_is c.args.spec n c.args.vertex.0 c.args.lowest.now.spokes.items) (from_start b f n)
+    let ss = c.args.lowest.now.spokes.items in
+    let f = wanted_at c.args.spec c.args.vertex.0 ss in
+    let all = wanted_steps c.args.spec n c.args.vertex.0 ss in
+    let start : LeftFrom b all b f 0 n = subst (λ es. LeftFrom b es b f 0 n) (wanted_is c.args.spec n c.args.vertex.0 ss) (from_start b f n) in
+    elim c.if-spec.branch [
+      | then-spec w ↦ subst (λ i. LeftFrom b all b f i n) (sym w.low-is) start
+      | else-spec w ↦ subst (λ i. LeftFrom b all b f i n) (sym w.low-is) (from_vertex c.args.spec c.args.vertex.0 n ss c.args.vertex.0 w.if-spec.false c.requires (omega arith) start)
+    ]
 
 pub loop-w-preserved-then-not-is_wanted : goal.loop-w-preserved-then-not-is_wanted
 loop-w-preserved-then-not-is_wanted c =

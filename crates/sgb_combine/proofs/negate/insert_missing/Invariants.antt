@@ -1,7 +1,7 @@
 use Rattle.sgb_graph.specs.Graph.{n_of}
-use Rattle.sgb_graph.proofs.Inserting.{LeftFrom}
+use Rattle.sgb_graph.proofs.InsertionRuns.{LeftFrom}
 use Rattle.sgb_combine.specs.Complement.{wanted_steps}
-use Rattle.sgb_combine.proofs.Wanted.{wanted_at}
+use Rattle.sgb_combine.proofs.Complements.{wanted_at}
 use Rattle.sgb_combine.proofs.negate.insert_missing.Given as goal
 
 abbrev pub invariant-loop-w : goal.invariant-loop-w

@@ -1,7 +1,7 @@
 use Rattle.std.proofs.Common.{get_or, arith}
 use Rattle.std.proofs.lemmas.List.{get_or_default}
 use Rattle.std.proofs.lemmas.Result.{err_from_is_err_and}
-use Rattle.sgb_graph.proofs.Inserting.{of_some, of_refused, of_end, of_n}
+use Rattle.sgb_graph.proofs.InsertionRuns.{of_some, of_refused, of_end, of_n}
 use Rattle.sgb_combine.proofs.negate.insert_steps.Goals as goal
 
 pub insert-requires-clause-from : goal.insert-requires-clause-from

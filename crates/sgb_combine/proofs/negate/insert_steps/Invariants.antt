@@ -1,5 +1,5 @@
 use Rattle.std.proofs.Common.{◌∷◌, [], map}
-use Rattle.sgb_graph.proofs.Inserting.{LeftOf}
+use Rattle.sgb_graph.proofs.InsertionRuns.{LeftOf}
 use Rattle.sgb_combine.specs.Complement.{unit_step}
 use Rattle.sgb_combine.proofs.negate.insert_steps.Given as goal
 

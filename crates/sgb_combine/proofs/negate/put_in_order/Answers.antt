@@ -3,7 +3,7 @@ use Rattle.std.specs.List.Sorted.{IsStrictlyIncreasing}
 use Rattle.std.proofs.lemmas.List.Filters.{dedup_is, All-dedup}
 use Rattle.std.proofs.lemmas.List.Sorted.{All-permutation, list_any-IsPermutation}
 use Rattle.std.proofs.lemmas.Map.Keys.{IsStrictlyIncreasing-dedup}
-use Rattle.sgb_combine.proofs.Rising.{is_one, is_one-dedup}
+use Rattle.sgb_combine.proofs.AscendingNumbers.{is_one, is_one-dedup}
 use Rattle.sgb_combine.proofs.negate.put_in_order.Goals as goal
 
 pub returns : goal.returns

@@ -2,8 +2,8 @@ use Rattle.std.proofs.Common.{[], ◌∷◌, ◌++◌, true, map, sym, ap, ◌�
 use Rattle.std.specs.List.{filter}
 use Rattle.std.proofs.lemmas.List.{take_all}
 use Rattle.sgb_combine.specs.Complement.{is_wanted}
-use Rattle.sgb_combine.proofs.Reached.{no_spoke, spoke_in}
-use Rattle.sgb_combine.proofs.Wanted.{tips_push, tips_skip}
+use Rattle.sgb_combine.proofs.SpokeBounds.{no_spoke, spoke_in}
+use Rattle.sgb_combine.proofs.Complements.{tips_push, tips_skip}
 use Rattle.sgb_combine.proofs.negate.read_tips.Goals as goal
 
 pub loop-spoke-preserved-then-not-is_wanted : goal.loop-spoke-preserved-then-not-is_wanted

@@ -1,6 +1,6 @@
 use Rattle.std.proofs.Common.{◌<◌, inl, inr, sym, arith, ◌∙◌}
 use Rattle.sgb_graph.specs.Graph.{n_of}
-use Rattle.sgb_combine.proofs.Named.{names_tell, no_names}
+use Rattle.sgb_combine.proofs.PairNames.{names_tell, no_names}
 use Rattle.sgb_combine.proofs.pairs.are_names_short.Goals as goal
 
 pub returns-then-n-eq0 : goal.returns-then-n-eq0

@@ -4,9 +4,9 @@ use Rattle.std.proofs.lemmas.Result.{err_from_is_err_and}
 use Rattle.sgb_graph.specs.Graph.{n_of}
 use Rattle.sgb_graph.specs.New.{bare_graph}
 use Rattle.sgb_plan.specs.Plan.{with_named}
-use Rattle.sgb_plan.proofs.Planning.{RefusesNames, names_start, names_some, names_refused, names_end, names_as}
+use Rattle.sgb_plan.proofs.Plans.{RefusesNames, names_start, names_some, names_refused, names_end, names_as}
 use Rattle.sgb_combine.specs.Product.{pair_name, pair_names}
-use Rattle.sgb_combine.proofs.Named.{rows_left, rows_all, rows_cons, rows_none}
+use Rattle.sgb_combine.proofs.PairNames.{rows_left, rows_all, rows_cons, rows_none}
 use Rattle.sgb_combine.proofs.pairs.begin_pairs.Goals as goal
 
 pub loop-a-init : goal.loop-a-init

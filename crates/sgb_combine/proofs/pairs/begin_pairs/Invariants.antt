@@ -1,6 +1,6 @@
-use Rattle.sgb_plan.proofs.Planning.{NamesLeft}
+use Rattle.sgb_plan.proofs.Plans.{NamesLeft}
 use Rattle.sgb_combine.specs.Product.{pair_names}
-use Rattle.sgb_combine.proofs.Named.{rows_left}
+use Rattle.sgb_combine.proofs.PairNames.{rows_left}
 use Rattle.sgb_combine.proofs.pairs.begin_pairs.Given as goal
 
 abbrev pub invariant-loop-a : goal.invariant-loop-a

@@ -1,10 +1,10 @@
 use Rattle.std.proofs.Common.{Ok, refl, subst}
 use Rattle.sgb_graph.specs.Graph.{IsGraph}
-use Rattle.sgb_plan.proofs.Planning.{made, refused_insertions}
-use Rattle.sgb_plan.proofs.Refusing.{answered}
+use Rattle.sgb_plan.proofs.Plans.{made, refused_insertions}
+use Rattle.sgb_plan.proofs.PlanRefusals.{answered}
 use Rattle.sgb_combine.specs.Product.{product_plan}
-use Rattle.sgb_combine.proofs.Beginning.{named_so, begun_refused}
-use Rattle.sgb_combine.proofs.Named.{n_pairs}
+use Rattle.sgb_combine.proofs.Starts.{named_so, begun_refused}
+use Rattle.sgb_combine.proofs.PairNames.{n_pairs}
 use Rattle.sgb_combine.proofs.pairs.build_product.Goals as goal
 
 pub returns-in_err-builder : goal.returns-in_err-builder

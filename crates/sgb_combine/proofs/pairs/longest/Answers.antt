@@ -1,5 +1,5 @@
 use Rattle.std.proofs.Common.{length, arith, ap}
-use Rattle.sgb_combine.proofs.Named.{longest_more}
+use Rattle.sgb_combine.proofs.PairNames.{longest_more}
 use Rattle.sgb_combine.proofs.pairs.longest.Goals as goal
 
 pub loop-v-preserved : goal.loop-v-preserved

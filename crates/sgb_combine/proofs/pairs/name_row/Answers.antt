@@ -2,9 +2,9 @@ use Rattle.std.proofs.Common.{◌∷◌, [], ap, ◌∙◌, arith}
 use Rattle.std.proofs.lemmas.Result.{err_from_is_err_and}
 use Rattle.sgb_graph.specs.New.{six_zeros}
 use Rattle.sgb_plan.specs.Plan.{with_named}
-use Rattle.sgb_plan.proofs.Planning.{pushed, push_refused, names_from_some, names_from_refused, names_from_end}
+use Rattle.sgb_plan.proofs.Plans.{pushed, push_refused, names_from_some, names_from_refused, names_from_end}
 use Rattle.sgb_combine.specs.Product.{pair_name}
-use Rattle.sgb_combine.proofs.Named.{short_pair}
+use Rattle.sgb_combine.proofs.PairNames.{short_pair}
 use Rattle.sgb_combine.proofs.pairs.name_row.Goals as goal
 
 pub name_of-requires-clause-short : goal.name_of-requires-clause-short

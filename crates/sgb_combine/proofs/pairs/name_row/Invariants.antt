@@ -1,7 +1,7 @@
 use Rattle.std.proofs.Common.{map}
 use Rattle.std.specs.List.{range_with_len}
 use Rattle.sgb_graph.specs.Graph.{n_of}
-use Rattle.sgb_plan.proofs.Planning.{NamesFrom}
+use Rattle.sgb_plan.proofs.Plans.{NamesFrom}
 use Rattle.sgb_combine.specs.Product.{pair_name}
 use Rattle.sgb_combine.proofs.pairs.name_row.Given as goal
 

@@ -1,8 +1,8 @@
 use Rattle.std.proofs.Common.{arith}
 use Rattle.std.proofs.lemmas.Result.{err_from_is_err_and}
-use Rattle.sgb_graph.proofs.Inserting.{from_some, from_refused, from_end, from_n}
+use Rattle.sgb_graph.proofs.InsertionRuns.{from_some, from_refused, from_end, from_n}
 use Rattle.sgb_induced.specs.Private.Run.{between}
-use Rattle.sgb_induced.proofs.Expanding.{begin_at}
+use Rattle.sgb_induced.proofs.RunInsertions.{begin_at}
 use Rattle.sgb_induced.proofs.expand.insert_between.Goals as goal
 
 pub loop-x-init : goal.loop-x-init

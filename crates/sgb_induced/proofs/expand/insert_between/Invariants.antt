@@ -1,5 +1,5 @@
 use Rattle.std.specs.List.{flat_map}
-use Rattle.sgb_graph.proofs.Inserting.{LeftFrom}
+use Rattle.sgb_graph.proofs.InsertionRuns.{LeftFrom}
 use Rattle.sgb_induced.specs.Private.Run.{from_one, numbers}
 use Rattle.sgb_induced.proofs.expand.insert_between.Given as goal
 

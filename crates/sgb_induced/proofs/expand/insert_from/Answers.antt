@@ -3,9 +3,9 @@ use Rattle.std.specs.Int.{w64}
 use Rattle.std.proofs.lemmas.Int.{to_z-of_z}
 use Rattle.std.proofs.lemmas.Result.{err_from_is_err_and}
 use Rattle.sgb_graph.specs.Builder.{grown, insertion}
-use Rattle.sgb_graph.proofs.Inserting.{RefusesInsertions, from_some, from_none, from_refused, from_end, from_n}
+use Rattle.sgb_graph.proofs.InsertionRuns.{RefusesInsertions, from_some, from_none, from_refused, from_end, from_n}
 use Rattle.sgb_induced.specs.Induced.{is_wanted}
-use Rattle.sgb_induced.proofs.Expanding.{begin_filtered, made_at_one, skips}
+use Rattle.sgb_induced.proofs.RunInsertions.{begin_filtered, made_at_one, skips}
 use Rattle.sgb_induced.proofs.expand.insert_from.Goals as goal
 
 pub loop-y-init : goal.loop-y-init

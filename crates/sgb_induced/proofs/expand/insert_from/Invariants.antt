@@ -1,8 +1,8 @@
 use Rattle.sgb_graph.specs.Builder.{insertion}
-use Rattle.sgb_graph.proofs.Inserting.{LeftFrom}
+use Rattle.sgb_graph.proofs.InsertionRuns.{LeftFrom}
 use Rattle.sgb_induced.specs.Induced.{is_wanted}
 use Rattle.sgb_induced.specs.Private.Run.{from_one}
-use Rattle.sgb_induced.proofs.Expanding.{where_passing}
+use Rattle.sgb_induced.proofs.RunInsertions.{where_passing}
 use Rattle.sgb_induced.proofs.expand.insert_from.Given as goal
 
 abbrev pub invariant-loop-y : goal.invariant-loop-y

@@ -1,9 +1,9 @@
 use Rattle.std.proofs.Common.{get_or, ap, subst, ◌∙◌, arith}
 use Rattle.std.proofs.lemmas.Result.{err_from_is_err_and}
 use Rattle.sgb_graph.specs.Builder.{grown}
-use Rattle.sgb_graph.proofs.Inserting.{RefusesInsertions, of_end, of_n}
+use Rattle.sgb_graph.proofs.InsertionRuns.{RefusesInsertions, of_end, of_n}
 use Rattle.sgb_induced.specs.declared.run.Run.{Run}
-use Rattle.sgb_induced.proofs.Expanding.{at_some, at_refused, expanded_is, no_run, within_at}
+use Rattle.sgb_induced.proofs.RunInsertions.{at_some, at_refused, expanded_is, no_run, within_at}
 use Rattle.sgb_induced.proofs.expand.insert_runs.Goals as goal
 
 pub insert_between-requires-clause-from : goal.insert_between-requires-clause-from

@@ -1,5 +1,5 @@
 use Rattle.std.specs.List.{flat_map}
-use Rattle.sgb_graph.proofs.Inserting.{LeftOf}
+use Rattle.sgb_graph.proofs.InsertionRuns.{LeftOf}
 use Rattle.sgb_induced.specs.Private.Run.{expanded}
 use Rattle.sgb_induced.proofs.expand.insert_runs.Given as goal
 

@@ -1,4 +1,4 @@
-use Rattle.sgb_induced.proofs.Firsts.{least_is}
+use Rattle.sgb_induced.proofs.FirstInsertions.{least_is}
 use Rattle.sgb_induced.proofs.facts.least_law.Goals as goal
 
 pub returns : goal.returns

@@ -1,6 +1,6 @@
 use Rattle.std.proofs.Common.{ap, ◌∙◌, rules}
 use Rattle.sgb_induced.specs.Fate.{fate_of}
-use Rattle.sgb_induced.proofs.Fating.{z_read}
+use Rattle.sgb_induced.proofs.Roles.{z_read}
 use Rattle.sgb_induced.proofs.fate.fate_at.Goals as goal
 
 pub returns : goal.returns

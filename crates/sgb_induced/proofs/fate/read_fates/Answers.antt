@@ -1,7 +1,7 @@
 use Rattle.std.proofs.Common.{unwrap_or, ap, ◌∙◌}
 use Rattle.sgb_induced.specs.declared.fate.Fate.TheVariants.{Copies}
 use Rattle.sgb_induced.specs.Fate.{fate_at}
-use Rattle.sgb_induced.proofs.Fating.{map_range_push}
+use Rattle.sgb_induced.proofs.Roles.{map_range_push}
 use Rattle.sgb_induced.proofs.fate.read_fates.Goals as goal
 
 pub loop-v-preserved : goal.loop-v-preserved

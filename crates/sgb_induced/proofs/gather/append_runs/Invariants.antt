@@ -1,7 +1,10 @@
-use Rattle.std.proofs.Common.{◌≡◌, ◌++◌, map, take}
-use Rattle.std.specs.List.{filter}
-use Rattle.sgb_induced.specs.Private.Run.{is_run, run_at}
+use Rattle.std.proofs.Common.{All, IsSome}
+use Rattle.sgb_graph.specs.Graph.{arc_at}
+use Rattle.sgb_induced.proofs.ArcRuns.{Appends}
 use Rattle.sgb_induced.proofs.gather.append_runs.Given as goal
 
-abbrev pub invariant-loop-spoke : goal.invariant-loop-spoke
-invariant-loop-spoke l = l.runs.items ≡ l.initial.runs.items ++ map (run_at l.images l.v) (filter (is_run l.directed l.images l.v) (take l.spoke-index l.spokes))
+abbrev pub invariant-loop-number : goal.invariant-loop-number
+invariant-loop-number l = record {
+  appends : Appends l.directed l.graph l.images l.fn.vertex.0 l.initial.runs.items l.runs.items l.number-iterator;
+  live : All (λ k. IsSome (arc_at l.graph k)) l.number-iterator;
+}

@@ -1,8 +1,8 @@
 use Rattle.std.proofs.Common.{◌+◌, sym, subst, take, ◌∙◌, arith}
 use Rattle.sgb_induced.specs.Image.{leader}
 use Rattle.sgb_induced.specs.Private.Run.{IsLed}
-use Rattle.sgb_induced.proofs.Fating.{map_range_push}
-use Rattle.sgb_induced.proofs.Leading.{led_copies, led_class, leader_of_copies, leader_of_led}
+use Rattle.sgb_induced.proofs.Roles.{map_range_push}
+use Rattle.sgb_induced.proofs.Leaders.{led_copies, led_class, leader_of_copies, leader_of_led}
 use Rattle.sgb_induced.proofs.image.find_leaders.Goals.{in-Copies, in-Class+in_ok-leader-in-Class}
 use Rattle.sgb_induced.proofs.image.find_leaders.Goals as goal
 

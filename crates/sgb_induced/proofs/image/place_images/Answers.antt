@@ -3,8 +3,8 @@ use Rattle.std.proofs.lemmas.List.FromFn.{length-map-range_with_len}
 use Rattle.sgb_induced.specs.declared.image.Image.{Image}
 use Rattle.sgb_induced.specs.Image.{leader}
 use Rattle.sgb_induced.specs.Private.Run.{image_at, image_of}
-use Rattle.sgb_induced.proofs.Fating.{map_range_push}
-use Rattle.sgb_induced.proofs.Placing.{count_following, count_leading, following_image, leader_read, leading_image, too_many}
+use Rattle.sgb_induced.proofs.Roles.{map_range_push}
+use Rattle.sgb_induced.proofs.ImagePlaces.{count_following, count_leading, following_image, leader_read, leading_image, too_many}
 use Rattle.sgb_induced.proofs.image.place_images.Goals.{then-leader-v+else-count-next+in_ok-push, else-leader-v+in_ok-push-2}
 use Rattle.sgb_induced.proofs.image.place_images.Goals as goal
 

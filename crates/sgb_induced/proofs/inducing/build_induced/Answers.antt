@@ -3,13 +3,13 @@ use Rattle.std.specs.List.{range_with_len}
 use Rattle.std.proofs.lemmas.Result.{err_from_is_err_and}
 use Rattle.sgb_graph.specs.Builder.{grown}
 use Rattle.sgb_graph.specs.Graph.{IsGraph, n_of}
-use Rattle.sgb_plan.proofs.Planning.{begun, made, refused_insertions}
-use Rattle.sgb_graph.proofs.Inserting.{RefusesInsertions}
+use Rattle.sgb_plan.proofs.Plans.{begun, made, refused_insertions}
+use Rattle.sgb_graph.proofs.InsertionRuns.{RefusesInsertions}
 use Rattle.sgb_induced.specs.Fate.{fates_of}
 use Rattle.sgb_induced.specs.Induced.{induced_plan}
 use Rattle.sgb_induced.specs.Private.Run.{image_of, runs_of}
-use Rattle.sgb_induced.proofs.Naming.{long_enough}
-use Rattle.sgb_induced.proofs.Planned.{begins, few_all, inserted_all, known_all, n-named_all, named_all, refused_images, refused_named, too_many_all, within_all}
+use Rattle.sgb_induced.proofs.CopyNames.{long_enough}
+use Rattle.sgb_induced.proofs.Plans.{begins, few_all, inserted_all, known_all, n-named_all, named_all, refused_images, refused_named, too_many_all, within_all}
 use Rattle.sgb_induced.proofs.inducing.build_induced.Goals as goal
 
 pub place_images-requires : goal.place_images-requires

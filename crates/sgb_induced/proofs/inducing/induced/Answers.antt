@@ -1,10 +1,10 @@
 use Rattle.std.proofs.Common.{length, Err, refl, ap, ◌∙◌, arith}
 use Rattle.sgb_graph.specs.declared.refusal.Refusal.TheVariants.{BadSpecs}
-use Rattle.sgb_plan.proofs.Refusing.{never_answered, planned, refused}
+use Rattle.sgb_plan.proofs.PlanRefusals.{never_answered, planned, refused}
 use Rattle.sgb_induced.specs.Image.{have_names}
 use Rattle.sgb_induced.specs.Induced.{induced_plan, refusal_of_induced}
-use Rattle.sgb_induced.proofs.Fating.{names_kept}
-use Rattle.sgb_induced.proofs.Planned.{judged, long, no_room}
+use Rattle.sgb_induced.proofs.Roles.{names_kept}
+use Rattle.sgb_induced.proofs.Plans.{judged, long, no_room}
 use Rattle.sgb_induced.proofs.inducing.induced.Goals as goal
 
 pub returns-then-bytes-gt40-clause-made : goal.returns-then-bytes-gt40-clause-made

@@ -3,8 +3,8 @@ use Rattle.sgb_graph.specs.Graph.{n_of}
 use Rattle.sgb_induced.specs.declared.fate.Fate.TheVariants.{Copies}
 use Rattle.sgb_induced.specs.Fate.{fates_of, has_fate}
 use Rattle.sgb_induced.specs.Image.{has_name}
-use Rattle.sgb_induced.proofs.Fating.{fates_refused, names_refused}
-use Rattle.sgb_induced.proofs.Naming.{name_fits}
+use Rattle.sgb_induced.proofs.Roles.{fates_refused, names_refused}
+use Rattle.sgb_induced.proofs.CopyNames.{name_fits}
 use Rattle.sgb_induced.proofs.Ranges.{all_range_more, all_range_fails}
 use Rattle.sgb_induced.proofs.name.check_fates.Goals as goal
 

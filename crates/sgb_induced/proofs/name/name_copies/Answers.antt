@@ -3,9 +3,9 @@ use Rattle.std.proofs.lemmas.Result.{err_from_is_err_and}
 use Rattle.sgb_graph.specs.New.{six_zeros}
 use Rattle.sgb_graph.specs.Text.{IsText}
 use Rattle.sgb_plan.specs.Plan.{with_named}
-use Rattle.sgb_plan.proofs.Planning.{pushed, push_refused, names_from_some, names_from_refused, names_from_end}
+use Rattle.sgb_plan.proofs.Plans.{pushed, push_refused, names_from_some, names_from_refused, names_from_end}
 use Rattle.sgb_induced.specs.Image.{copy_name}
-use Rattle.sgb_induced.proofs.Naming.{copies_start, name_is_text}
+use Rattle.sgb_induced.proofs.CopyNames.{copies_start, name_is_text}
 use Rattle.sgb_induced.proofs.name.name_copies.Goals as goal
 
 pub loop-j-init : goal.loop-j-init

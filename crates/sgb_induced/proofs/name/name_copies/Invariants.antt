@@ -1,6 +1,6 @@
 use Rattle.std.proofs.Common.{◌+◌, map}
 use Rattle.std.specs.List.{range_with_len}
-use Rattle.sgb_plan.proofs.Planning.{NamesFrom}
+use Rattle.sgb_plan.proofs.Plans.{NamesFrom}
 use Rattle.sgb_induced.specs.Image.{copy}
 use Rattle.sgb_induced.proofs.name.name_copies.Given as goal
 

@@ -3,12 +3,12 @@ use Rattle.std.proofs.lemmas.List.FromFn.{length-map-range_with_len}
 use Rattle.std.proofs.lemmas.Result.{err_from_is_err_and}
 use Rattle.sgb_graph.specs.Graph.{n_of}
 use Rattle.sgb_plan.specs.Plan.{with_named}
-use Rattle.sgb_plan.proofs.Planning.{RefusesNames}
+use Rattle.sgb_plan.proofs.Plans.{RefusesNames}
 use Rattle.sgb_induced.specs.Fate.{fates_of}
 use Rattle.sgb_induced.specs.Image.{named_at}
 use Rattle.sgb_induced.specs.Private.Run.{image_of}
-use Rattle.sgb_induced.proofs.Naming.{runs_some, runs_none, runs_refused, runs_end, runs_start}
-use Rattle.sgb_induced.proofs.Placing.{named_here, none_here, short_here}
+use Rattle.sgb_induced.proofs.CopyNames.{runs_some, runs_none, runs_refused, runs_end, runs_start}
+use Rattle.sgb_induced.proofs.ImagePlaces.{named_here, none_here, short_here}
 use Rattle.sgb_induced.proofs.name.name_vertices.Goals as goal
 
 pub loop-v-init : goal.loop-v-init

@@ -4,7 +4,7 @@ use Rattle.std.proofs.lemmas.List.Elements.{All-tail}
 use Rattle.sgb_graph.specs.Graph.{n_of, arc_at}
 use Rattle.sgb_graph.specs.Operand.{spokes}
 use Rattle.sgb_combine.specs.Gunion.{is_candidate}
-use Rattle.sgb_combine.proofs.Meeting.{holds_from, holds_one, holds_next, passing_walk, passing_past, from_nothing}
+use Rattle.sgb_combine.proofs.WalkedSpokes.{holds_from, holds_one, holds_next, passing_walk, passing_past, from_nothing}
 use Rattle.sgb_combine.proofs.both.Both.read.Goals as goal
 
 pub returns-then-vertex-n-clause-mine : goal.returns-then-vertex-n-clause-mine

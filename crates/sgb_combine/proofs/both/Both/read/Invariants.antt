@@ -3,7 +3,7 @@ use Rattle.std.specs.List.{filter}
 use Rattle.sgb_graph.specs.Graph.{arc_at}
 use Rattle.sgb_graph.specs.Operand.{spokes}
 use Rattle.sgb_combine.specs.Gunion.{is_candidate}
-use Rattle.sgb_combine.proofs.Meeting.{Holds}
+use Rattle.sgb_combine.proofs.WalkedSpokes.{Holds}
 use Rattle.sgb_combine.proofs.both.Both.read.Given as goal
 
 abbrev pub invariant-loop-number : goal.invariant-loop-number

@@ -1,6 +1,6 @@
 use Rattle.std.proofs.Common.{sym, ap, ◌∙◌}
 use Rattle.sgb_graph.specs.declared.spoke.Spoke.{Spoke}
-use Rattle.sgb_combine.proofs.Least.{added, marked_lowered, marked_set, lowered_is}
+use Rattle.sgb_combine.proofs.LeastLengths.{added, marked_lowered, marked_set, lowered_is}
 use Rattle.sgb_combine.proofs.lowest.Lowest.add.Goals as goal
 
 pub invariant_of-self : goal.invariant_of-self

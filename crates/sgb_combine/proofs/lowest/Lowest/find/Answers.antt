@@ -1,4 +1,4 @@
-use Rattle.sgb_combine.proofs.Joined.{found_at, leading_none}
+use Rattle.sgb_combine.proofs.SpokeLookup.{found_at, leading_none}
 use Rattle.sgb_combine.proofs.lowest.Lowest.find.Goals as goal
 
 pub returns-in-Some : goal.returns-in-Some

@@ -1,7 +1,7 @@
 use Rattle.std.proofs.Common.{◌∙◌, sym, ap, arith, refl}
 use Rattle.sgb_combine.specs.Lowest.{add_or_lower}
-use Rattle.sgb_combine.proofs.Least.{lowest_more, lowest_none}
-use Rattle.sgb_combine.proofs.Reached.{spoke_in, no_spoke}
+use Rattle.sgb_combine.proofs.LeastLengths.{lowest_more, lowest_none}
+use Rattle.sgb_combine.proofs.SpokeBounds.{spoke_in, no_spoke}
 use Rattle.sgb_combine.proofs.lowest.Lowest.keep.Goals as goal
 
 pub loop-spoke-init : goal.loop-spoke-init

@@ -1,5 +1,5 @@
 use Rattle.std.proofs.Common.{◌∙◌}
-use Rattle.sgb_combine.proofs.Joined.{stands_leads}
+use Rattle.sgb_combine.proofs.SpokeLookup.{stands_leads}
 use Rattle.sgb_combine.proofs.lowest.Lowest.leads_to.Goals as goal
 
 pub returns : goal.returns

@@ -1,7 +1,7 @@
 use Rattle.std.proofs.Common.{◌≡◌, [], ◌∷◌, ◌++◌, length, ap, ◌∙◌, arith}
 use Rattle.sgb_graph.specs.Operand.{spokes}
 use Rattle.sgb_combine.specs.Private.Rows.{row_of}
-use Rattle.sgb_combine.proofs.Rowed.{row_kept, rows_more}
+use Rattle.sgb_combine.proofs.GraphRows.{row_kept, rows_more}
 use Rattle.sgb_combine.proofs.rows.Rows.read.Goals as goal
 
 pub loop-v-preserved : goal.loop-v-preserved
