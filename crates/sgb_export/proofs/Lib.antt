@@ -1,2 +1,2 @@
-mod Linking
-mod Naming
+mod ExportedArcs
+mod NameIndexes

@@ -1,14 +1,5 @@
 ghost use Rattle.std.specs.Prelude.{◌≡◌, ◌<◌, ◌≤◌, ◌^◌, ◌↔◌, IsSome, IfSome, IsTrue, length};
-ghost use Rattle.sgb_flip.specs.Generator.{
-  AreSmall,
-  Generator,
-  IsGenerator,
-  IsUniform,
-  after,
-  drawn,
-  seeded,
-  uniform,
-};
+ghost use Rattle.sgb_flip.specs.Generator.{AreSmall, Generator, IsGenerator, IsUniform, after, drawn, seeded, uniform};
 
 use crate::cycle::{cycle, cycle_by, uncycle, uncycle_by};
 use crate::seeding::{fill, number_of};

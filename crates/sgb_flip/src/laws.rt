@@ -1,17 +1,7 @@
 //! Laws about the definitions that the contracts cite. Each function does nothing: its clauses are
 //! the law.
 ghost use Rattle.std.specs.Prelude.{◌≡◌, ◌<◌, ◌≤◌, ◌+◌, ◌-◌, ◌^◌, ℕ, List, length, slice_index};
-ghost use Rattle.sgb_flip.specs.Generator.{
-  Generator,
-  HasNoUniform,
-  IsGenerator,
-  IsSeeding,
-  IsUniform,
-  after,
-  drawn,
-  seed_words,
-  uniform,
-};
+ghost use Rattle.sgb_flip.specs.Generator.{Generator, HasNoUniform, IsGenerator, IsSeeding, IsUniform, after, drawn, seed_words, uniform};
 ghost use Rattle.sgb_flip.specs.Sequence.{IsSequence, term, terms_after};
 
 /// `term words` is the sequence that the words begin, and the only one.

@@ -1,12 +1,12 @@
-mod Eaches
-mod Fronts
-mod Insides
+mod ItemSequences
+mod Prefixes
+mod QuotedRuns
 mod Lines
 mod Naturals
 mod Runs
 mod SpelledItems
 pub mod SpelledRecords
-mod Spelling
-mod Stars
-mod Weights
+mod RecordParts
+mod StarLines
+mod LineWeights
 mod Words

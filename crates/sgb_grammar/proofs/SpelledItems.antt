@@ -11,8 +11,8 @@ use Rattle.sgb_grammar.specs.Number.{count_at, number_at}
 use Rattle.sgb_grammar.specs.String.{text_at}
 use Rattle.sgb_grammar.specs.Field.{comma_at, index_at, some_arc, some_tip, some_integer, some_vertex, some_arc_value, some_text, link_at, tip_at, vertex_value_at, arc_value_at, value_at, field_at, fields_at}
 use Rattle.sgb_grammar.specs.Spelled.{Spelling, ◌>>◌, Comma, Index, Link, TipIs, IntegerValue, VertexValue, ArcValue, TextValue, Value, Absent, Field, Each}
-use Rattle.sgb_grammar.proofs.Eaches.{each_some}
-use Rattle.sgb_grammar.proofs.Spelling.{some_same, bound, mapped, behind_is, text_spelled, text_read, count_spelled, count_read, number_spelled, number_read}
+use Rattle.sgb_grammar.proofs.ItemSequences.{each_some}
+use Rattle.sgb_grammar.proofs.RecordParts.{some_same, bound, mapped, behind_is, text_spelled, text_read, count_spelled, count_read, number_spelled, number_read}
 
 -- ---- commas
 

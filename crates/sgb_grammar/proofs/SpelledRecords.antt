@@ -24,9 +24,9 @@ use Rattle.sgb_grammar.specs.Header.{letters_at, counts_at, ends_line, header_at
 use Rattle.sgb_grammar.specs.Saved.{SavedOf, own_in, vertices_in, arcs_in, records_in, check_line_in, saved_in, shown, Holds}
 use Rattle.sgb_grammar.specs.Spelled.{Count, OwnRecord, VertexRecord, ArcRecord, Letters, LineEnd, FirstLine, AllRecords, CheckLine, SavedText, WholeText, HasNoFirstLine, SpellsNothing, IsOnlyLine, IsOnlyText}
 use Rattle.sgb_grammar.proofs.Words.{after_is, after-sound}
-use Rattle.sgb_grammar.proofs.Fronts.{records_stand}
+use Rattle.sgb_grammar.proofs.Prefixes.{records_stand}
 use Rattle.sgb_grammar.proofs.Lines.{letters_some}
-use Rattle.sgb_grammar.proofs.Spelling.{some_same, bound, kept, text_spelled, text_read, count_spelled, count_read, number_spelled, number_read}
+use Rattle.sgb_grammar.proofs.RecordParts.{some_same, bound, kept, text_spelled, text_read, count_spelled, count_read, number_spelled, number_read}
 use Rattle.sgb_grammar.proofs.SpelledItems.{comma_spelled, comma_read, link_spelled, link_read, tip_spelled, tip_read, fields_spelled, fields_read, each_spelled, each_read}
 
 -- ---- records

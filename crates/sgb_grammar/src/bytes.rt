@@ -5,7 +5,7 @@ ghost use Rattle.sgb_grammar.specs.Private.Reading.{Passes};
 
 use crate::Fault;
 
-/// The first byte and what follows it.
+/// Returns the first byte and what follows it.
 #[inline]
 pub(crate) fn next(bytes: &[u8]) -> Option<(u8, &[u8])>
     ensures { MatchOption result (bytes.now ≡ []) (λ p. bytes.now ≡ p.0 ∷ p.1.now) }
@@ -16,7 +16,7 @@ pub(crate) fn next(bytes: &[u8]) -> Option<(u8, &[u8])>
     }
 }
 
-/// What follows the word, where the bytes begin with it.
+/// Returns what follows the word, if the bytes begin with it.
 #[inline]
 pub(crate) fn after<'a>(word: &[u8], bytes: &'a [u8]) -> Result<&'a [u8], Fault>
     ensures { Passes result (after word.now bytes.now) }

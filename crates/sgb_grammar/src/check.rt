@@ -31,8 +31,8 @@ static CODES: [u8; 256] = [
     95, 95, 95, 95, 95, 95, 95, 95, 95, 95, 95, 95, 95, 95, 95, 95,
 ];
 
-/// The check number of what stands between the first line and the check line: the sum of each byte's code, doubled
-/// for each byte behind it, modulo 2^30 - 83. Lines that begin with `*` do not count.
+/// Returns the check number of what stands between the first line and the check line: the sum of each byte's code,
+/// doubled for each byte behind it, modulo 2^30 - 83. Lines that begin with `*` do not count.
 pub fn check_number(body: &[u8]) -> u64
     ensures value { result ≡ check_of body.now }
     ensures small { result < 2 ^ 30 - 83 }
@@ -47,7 +47,7 @@ pub fn check_number(body: &[u8]) -> u64
     sum
 }
 
-// The sum, doubled for each byte of the line, with what the line weighs.
+// Returns the sum, doubled for each byte of the line, plus the weight of the line.
 fn weigh(sum: u64, line: &[u8]) -> u64
     requires { sum < 2 ^ 30 - 83 }
     ensures value { result ≡ (sum * 2 ^ length line.now + weighed line.now) % (2 ^ 30 - 83) }
@@ -62,8 +62,8 @@ fn weigh(sum: u64, line: &[u8]) -> u64
     weigh_block(value, rest) % PRIME
 }
 
-// The sum, doubled for each byte of the block, with what the block weighs: not reduced, since it has a place in 64 bits.
-// Always inlined, as what it calls: where the block is a whole one, the count of its bytes is then known.
+// Returns the sum, doubled for each byte of the block, plus the weight of the block: not reduced, since it fits in 64 bits.
+// Always inlined, as what it calls: if the block is a whole one, the count of its bytes is then known.
 #[inline(always)]
 fn weigh_block(sum: u64, block: &[u8]) -> u64
     requires sum { sum < 2 ^ 30 - 83 }
@@ -73,7 +73,7 @@ fn weigh_block(sum: u64, block: &[u8]) -> u64
     (sum << block.len()) + weigh_alone(block)
 }
 
-// What a block weighs by itself: a processor that adds it up need not know the sum of those before it yet.
+// Returns the weight of a block by itself, which a processor can add up before it knows the sum of those before it.
 #[inline(always)]
 fn weigh_alone(block: &[u8]) -> u64
     requires { length block.now ≤ 32 }
@@ -93,8 +93,8 @@ fn code_of(byte: u8) -> u8
     CODES[byte as usize]
 }
 
-// The lines up to the first that begins with a star, and that line with what follows it. Where the very first line begins
-// with one, no bytes, and what follows that line.
+// Returns the lines up to the first that begins with a star, and that line with what follows it; or no bytes and what
+// follows the first line, if that line begins with a star.
 fn split_counted(bytes: &[u8]) -> (&[u8], &[u8])
     requires { 0 < length bytes.now }
     ensures lines { covered bytes.now ≡ result.0.now ++ covered result.1.now }
@@ -110,7 +110,7 @@ fn split_counted(bytes: &[u8]) -> (&[u8], &[u8])
     }
 }
 
-// The first line with its newline, and what follows it.
+// Returns the first line with its newline, and what follows it.
 fn split_line(bytes: &[u8]) -> (&[u8], &[u8])
     requires { 0 < length bytes.now }
     ensures lines { lines_of bytes.now ≡ result.0.now ∷ lines_of result.1.now }

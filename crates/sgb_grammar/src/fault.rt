@@ -1,12 +1,12 @@
-//! Why bytes are not read.
+//! Why bytes cannot be read.
 use std::alloc::{AllocError, AllocFailed};
 
-/// Why bytes are not read.
+/// Why bytes cannot be read.
 #[derive(Clone, Copy, Debug, PartialEq, Eq)]
 pub enum Fault {
-    /// No memory for what they spell.
+    /// What they spell could not be allocated.
     NoRoom,
-    /// They are not well spelled.
+    /// They do not follow the grammar.
     Syntax,
 }
 

@@ -1,6 +1,5 @@
 //! Tips, links and the fields of a record.
-ghost use Rattle.std.specs.Prelude.{◌≡◌, ◌==◌, ◌<◌, ◌^◌, length, IfOk};
-ghost use Rattle.std.specs.List.{list_all};
+ghost use Rattle.std.specs.Prelude.{◌≡◌, length};
 ghost use Rattle.sgb_grammar.specs.Reading.{Spells};
 ghost use Rattle.sgb_grammar.specs.Private.Reading.{Passes, Reads, Fills};
 ghost use Rattle.sgb_grammar.specs.Field.{comma_at, index_at, link_at, tip_at, vertex_value_at, arc_value_at, value_at, field_at, fields_at, after_break};
@@ -12,7 +11,7 @@ use crate::strings::{TEXT_LIMIT, text};
 use sgb_graph::{ArcNo, Tip, Util, VertexNo};
 use std::alloc::Global;
 
-/// What follows a comma, behind which the line may end.
+/// Returns what follows a comma, after which the line may end.
 #[tactic(auto, unfolding(crate::specs::Field::comma_at))]
 pub(crate) fn comma(bytes: &[u8]) -> Result<&[u8], Fault>
     ensures { Passes result (comma_at bytes.now) }
@@ -32,7 +31,7 @@ fn behind_break(bytes: &[u8]) -> &[u8]
     }
 }
 
-/// The arc that follows: `0`, or `A` and its number.
+/// Reads a link: `0`, or `A` and the number of an arc.
 #[tactic(auto, unfolding(crate::specs::Field::link_at))]
 pub(crate) fn link(bytes: &[u8]) -> Result<(Option<ArcNo>, &[u8]), Fault>
     ensures { Spells result (link_at bytes.now) }
@@ -47,7 +46,7 @@ pub(crate) fn link(bytes: &[u8]) -> Result<(Option<ArcNo>, &[u8]), Fault>
     }
 }
 
-/// Where an arc leads: `0`, `1`, or `V` and the number of a vertex.
+/// Reads a tip: `0`, `1`, or `V` and the number of a vertex.
 #[tactic(auto, unfolding(crate::specs::Field::tip_at))]
 pub(crate) fn tip(bytes: &[u8]) -> Result<(Tip, &[u8]), Fault>
     ensures { Spells result (tip_at bytes.now) }
@@ -63,16 +62,9 @@ pub(crate) fn tip(bytes: &[u8]) -> Result<(Tip, &[u8]), Fault>
     }
 }
 
-/// No field has one of these letters: each is `Z`.
-#[inline]
-pub(crate) fn is_none_written(letters: &[u8]) -> bool
-    ensures { result ≡ list_all (λ l. l == 90) letters.now }
-{
-    letters.iter().all(|letter| *letter == b'Z')
-}
-
-/// The fields of these letters, each left at its place in `fields`, and what follows them. After a fault some of them
-/// are left there.
+/// Reads the fields of these letters into `fields`, and returns what follows them. After a fault some of them are
+/// written.
+#[inline(always)]
 pub(crate) fn fields<'a>(
     alloc: Global,
     letters: &[u8],
@@ -152,7 +144,7 @@ fn arc_value(bytes: &[u8]) -> Result<(Util, &[u8]), Fault>
     }
 }
 
-// The number behind `V` or `A`. One that has no place in 32 bits becomes the greatest that has.
+// Reads the number behind `V` or `A`. A number beyond `u32` saturates to `u32::MAX`, which is never a valid index.
 #[tactic(auto, unfolding(crate::specs::Field::index_at))]
 fn index(digits: &[u8]) -> Result<(u32, &[u8]), Fault>
     ensures { Spells result (index_at digits.now) }

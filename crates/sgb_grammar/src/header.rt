@@ -17,7 +17,7 @@ pub struct Header {
     pub arcs: u64,
 }
 
-/// The first line, and what follows it: its newline, where there is one. Takes no memory.
+/// Reads the first line. What follows it is its newline, if there is one. Does not allocate.
 pub fn read_header(bytes: &[u8]) -> Result<(Header, &[u8]), Fault>
     ensures ok { IfOk result (λ p. FirstLine p.0 bytes.now p.1.now) }
     ensures only { IfOk result (λ p. IsOnlyLine bytes.now p.0 p.1.now) }
@@ -51,7 +51,7 @@ fn first_line(bytes: &[u8]) -> Result<(Header, &[u8]), Fault>
     }
 }
 
-/// The line ends here, or the text does.
+/// Whether the line or the text ends here.
 pub(crate) fn ends_line(bytes: &[u8]) -> bool
     ensures { result ≡ ends_line bytes.now }
 {

@@ -1,4 +1,5 @@
-//! The grammar of a saved text: what its bytes spell, read from the front.
+//! The grammar of a saved text: what its bytes spell, read from the front. Most readers return a value with the bytes
+//! that follow it.
 #![tactic(auto)]
 
 mod bytes;

@@ -10,13 +10,13 @@ ghost use Rattle.sgb_grammar.specs.Number.{digits_in, digits_at, count_at, numbe
 use crate::Fault;
 use crate::bytes::after;
 
-/// The least number that has no place in an `i64`.
+/// The least number beyond `i64`.
 const BOUND: u64 = 1 << 63;
 
-/// A number of so many digits has a place in a `u64`.
+/// A number of so many digits fits in a `u64`.
 const FITTING: usize = 19;
 
-/// Digits that spell a number below 2^63, and what follows them.
+/// Reads digits that spell a number below 2^63.
 #[tactic(auto, unfolding(crate::specs::Number::count_at))]
 pub(crate) fn count(bytes: &[u8]) -> Result<(u64, &[u8]), Fault>
     ensures read { Spells result (count_at bytes.now) }
@@ -34,7 +34,7 @@ pub(crate) fn count(bytes: &[u8]) -> Result<(u64, &[u8]), Fault>
     }
 }
 
-/// Digits, and a minus before them or none, that spell a number of an `i64`, and what follows them.
+/// Reads digits, with a minus before them or none, that spell an `i64`.
 #[tactic(auto, unfolding(crate::specs::Number::number_at))]
 pub(crate) fn number(bytes: &[u8]) -> Result<(i64, &[u8]), Fault>
     ensures read { Spells result (number_at bytes.now) }
@@ -62,7 +62,7 @@ fn positive(bytes: &[u8]) -> Result<(i64, &[u8]), Fault>
     }
 }
 
-// The digits stand behind a minus.
+// Reads digits that stand behind a minus.
 fn negative(digits: &[u8]) -> Result<(i64, &[u8]), Fault>
     ensures read { Spells result (option_and_then negative_of (digits_at digits.now)) }
     ensures range { IfOk result (λ p. FitsSigned w64 p.0) }
@@ -81,7 +81,7 @@ fn negative(digits: &[u8]) -> Result<(i64, &[u8]), Fault>
     }
 }
 
-// The number that the first digits spell, where there are some; one above 64 bits becomes the greatest.
+// Reads the digits at the front, if there are any. A number beyond `u64` saturates.
 fn magnitude(bytes: &[u8]) -> Option<(u64, &[u8])>
     ensures { Capped result (digits_at bytes.now) }
 {
@@ -93,7 +93,7 @@ fn magnitude(bytes: &[u8]) -> Option<(u64, &[u8])>
     Some((value, rest))
 }
 
-// How many digits there are at the front, and the number that they spell, at most 2^64 - 1.
+// Returns how many digits there are at the front, and the number that they spell, at most 2^64 - 1.
 fn digits_of(bytes: &[u8]) -> (usize, u64)
     ensures count { result.0 ≡ digits_in bytes.now }
     ensures within { result.0 ≤ length bytes.now }
@@ -109,7 +109,7 @@ fn digits_of(bytes: &[u8]) -> (usize, u64)
     (bytes.len(), value)
 }
 
-// The number that so many digits spell, with one digit behind them, at most 2^64 - 1. Few digits need no look at its size.
+// Appends a digit to the number that `count` digits spell; at most 2^64 - 1. Few digits need no check of the size.
 #[inline]
 fn with_digit(value: u64, count: usize, digit: u64) -> u64
     requires value { value < 10 ^ count }

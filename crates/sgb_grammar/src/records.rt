@@ -1,12 +1,11 @@
 //! The records of a saved text.
 ghost use Rattle.std.specs.Prelude.{◌≡◌, length, replicate};
 ghost use Rattle.sgb_grammar.specs.Private.Reading.{Reads};
-ghost use Rattle.sgb_grammar.specs.Field.{fields_at};
 ghost use Rattle.sgb_grammar.specs.Record.{own_at, vertex_at, arc_at, vertices_at, arcs_at};
 
 use crate::Fault;
 use crate::bytes::after;
-use crate::fields::{comma, fields, is_none_written, link, tip};
+use crate::fields::{comma, fields, link, tip};
 use crate::numbers::{count, number};
 use crate::strings::{label, text};
 use sgb_graph::{ArcPart, Items, Text, Util, VertexPart};
@@ -28,7 +27,7 @@ pub(crate) struct Own {
     pub(crate) fields: [Util; 6],
 }
 
-/// The graph's own record, and what follows it. Its count of arcs is read and not kept.
+/// Reads the graph's own record. Its count of arcs is read and not kept.
 #[tactic(auto, unfolding(crate::specs::Record::own_at))]
 pub(crate) fn own_record<'a>(
     alloc: Global,
@@ -41,7 +40,8 @@ pub(crate) fn own_record<'a>(
     let (id, rest) = text(alloc, ID_LIMIT, bytes)?;
     let (n, rest) = count(comma(rest)?)?;
     let (_, rest) = number(comma(rest)?)?;
-    let (values, rest) = six_fields(alloc, letters, rest)?;
+    let mut values = zeros();
+    let rest = fields(alloc, letters, &mut values, rest)?;
     let rest = after(b"\n", rest)?;
     Ok((
         Own {
@@ -53,7 +53,7 @@ pub(crate) fn own_record<'a>(
     ))
 }
 
-/// The records of so many vertices, and what follows them.
+/// Reads the records of `count` vertices.
 pub(crate) fn vertices<'a>(
     alloc: Global,
     letters: &[u8],
@@ -80,7 +80,7 @@ pub(crate) fn vertices<'a>(
     Ok((parts, rest))
 }
 
-/// The records of so many arcs, and what follows them.
+/// Reads the records of `count` arcs.
 pub(crate) fn arcs<'a>(
     alloc: Global,
     letters: &[u8],
@@ -118,7 +118,8 @@ fn vertex<'a>(
 {
     let (name, rest) = label(alloc, bytes)?;
     let (first, rest) = link(comma(rest)?)?;
-    let (values, rest) = six_fields(alloc, letters, rest)?;
+    let mut values = zeros();
+    let rest = fields(alloc, letters, &mut values, rest)?;
     let rest = after(b"\n", rest)?;
     Ok((
         VertexPart {
@@ -138,7 +139,8 @@ fn arc<'a>(alloc: Global, letters: &[u8], bytes: &'a [u8]) -> Result<(ArcPart, &
     let (to, rest) = tip(bytes)?;
     let (next, rest) = link(comma(rest)?)?;
     let (len, rest) = number(comma(rest)?)?;
-    let (values, rest) = two_fields(alloc, letters, rest)?;
+    let mut values = [Util::Zero, Util::Zero];
+    let rest = fields(alloc, letters, &mut values, rest)?;
     let rest = after(b"\n", rest)?;
     Ok((
         ArcPart {
@@ -151,42 +153,7 @@ fn arc<'a>(alloc: Global, letters: &[u8], bytes: &'a [u8]) -> Result<(ArcPart, &
     ))
 }
 
-// The six fields of a vertex or of the graph, and what follows them.
-#[inline]
-fn six_fields<'a>(
-    alloc: Global,
-    letters: &[u8],
-    bytes: &'a [u8],
-) -> Result<([Util; 6], &'a [u8]), Fault>
-    requires { length letters.now ≡ 6 }
-    ensures { Reads result (fields_at letters.now bytes.now) }
-{
-    if is_none_written(letters) {
-        return Ok((zeros(), bytes));
-    }
-    let mut values = zeros();
-    let rest = fields(alloc, letters, &mut values, bytes)?;
-    Ok((values, rest))
-}
-
-// The two fields of an arc, and what follows them.
-#[inline]
-fn two_fields<'a>(
-    alloc: Global,
-    letters: &[u8],
-    bytes: &'a [u8],
-) -> Result<([Util; 2], &'a [u8]), Fault>
-    requires { length letters.now ≡ 2 }
-    ensures { Reads result (fields_at letters.now bytes.now) }
-{
-    if is_none_written(letters) {
-        return Ok(([Util::Zero, Util::Zero], bytes));
-    }
-    let mut values = [Util::Zero, Util::Zero];
-    let rest = fields(alloc, letters, &mut values, bytes)?;
-    Ok((values, rest))
-}
-
+// The six fields of a vertex or of the graph before they are read.
 fn zeros() -> [Util; 6]
     ensures { result ≡ replicate 6 Util.Zero }
 {

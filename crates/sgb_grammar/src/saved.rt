@@ -31,8 +31,8 @@ struct Records {
     arcs: Items<ArcPart>,
 }
 
-/// Reads what follows a first line. Takes memory for the records and their texts, no more for records than the bytes
-/// can fill, whatever the first line says.
+/// Reads what follows a first line. Allocates the records and their texts, and no more records than the bytes can hold,
+/// whatever the first line says.
 pub fn read_saved<'a>(alloc: Global, header: &Header, bytes: &'a [u8]) -> Result<Saved<'a>, Fault>
     ensures ok { IfOk result (λ s. SavedText header.now (shown s) bytes.now) }
     ensures only { IfOk result (λ s. IsOnlyText header.now (shown s) bytes.now) }
@@ -129,7 +129,7 @@ fn check_line(bytes: &[u8]) -> Result<i64, Fault>
     Ok(number)
 }
 
-// The letters of the graph's own fields.
+// Returns the letters of the graph's own fields.
 fn own_letters(header: &Header) -> &[u8]
     ensures letters { result.now ≡ graph_letters header.now.types }
     ensures six { length result.now ≡ 6 }

@@ -18,7 +18,7 @@ pub(crate) const TEXT_LIMIT: usize = 4095;
 /// Room for two lines of a text. Few have more.
 const ROOM: usize = 160;
 
-/// A run of a text. Its bytes are looked at when they become one.
+/// A run of a text, whose bytes are not validated yet.
 #[derive(Clone, Copy)]
 enum Piece<'a> {
     /// The text ends with it; what follows the closing quote.
@@ -36,8 +36,7 @@ enum Ending<'a> {
     Line(&'a [u8]),
 }
 
-/// A name between quotes, and what follows it. One that stands on one line is copied out of it, and takes no memory
-/// where it is short.
+/// Reads a label between quotes. One that stands on one line is copied from there, without an allocation if it is short.
 #[tactic(auto, unfolding(crate::specs::String::text_at))]
 pub(crate) fn label(alloc: Global, bytes: &[u8]) -> Result<(Label, &[u8]), Fault>
     ensures { Reads result (text_at 4095 bytes.now) }
@@ -52,7 +51,7 @@ pub(crate) fn label(alloc: Global, bytes: &[u8]) -> Result<(Label, &[u8]), Fault
     }
 }
 
-// The label of these bytes, where they are one.
+// Makes a label of these bytes, if they are one.
 fn short_label<'a>(alloc: Global, bytes: &[u8], rest: &'a [u8]) -> Result<(Label, &'a [u8]), Fault>
     ensures { Reads result (text_within 4095 (bytes.now, rest.now)) }
 {
@@ -63,8 +62,8 @@ fn short_label<'a>(alloc: Global, bytes: &[u8], rest: &'a [u8]) -> Result<(Label
     }
 }
 
-/// A text of at most `limit` bytes between quotes, and what follows it.
-#[tactic(auto, using(crate::proofs::Insides::text_unjoined), unfolding(crate::specs::String::text_at))]
+/// Reads a text of at most `limit` bytes between quotes.
+#[tactic(auto, using(crate::proofs::QuotedRuns::text_unjoined), unfolding(crate::specs::String::text_at))]
 pub(crate) fn text(alloc: Global, limit: usize, bytes: &[u8]) -> Result<(Text, &[u8]), Fault>
     requires { limit ≤ 4095 }
     ensures { Reads result (text_at limit bytes.now) }
@@ -80,7 +79,7 @@ pub(crate) fn text(alloc: Global, limit: usize, bytes: &[u8]) -> Result<(Text, &
     }
 }
 
-// The text of these bytes, where they are one and not too many.
+// Makes a text of these bytes, if they are one and not too many.
 fn short_text<'a>(
     alloc: Global,
     limit: usize,
@@ -100,7 +99,7 @@ fn short_text<'a>(
     }
 }
 
-// What stands up to the closing quote, joined where lines end.
+// Reads up to the closing quote, and joins what stands on several lines.
 fn gather(alloc: Global, bytes: &[u8]) -> Result<(Vec<u8>, &[u8]), Fault>
     ensures ok { IfOk result (λ p. joined_at false bytes.now ≡ Some (p.0.items, p.1.now)) }
     ensures err { IfErr result (λ e. Fails e (joined_at false bytes.now)) }
@@ -126,7 +125,7 @@ fn gather(alloc: Global, bytes: &[u8]) -> Result<(Vec<u8>, &[u8]), Fault>
     }
 }
 
-// The first run, where a closing quote or a line's end follows it.
+// Returns the first run, if a closing quote or a line's end follows it.
 fn split_piece(bytes: &[u8]) -> Option<Piece<'_>>
     ensures { Splits result bytes.now }
 {
@@ -138,7 +137,7 @@ fn split_piece(bytes: &[u8]) -> Option<Piece<'_>>
     }
 }
 
-// What the quote or backslash at the front ends.
+// Returns what the quote or backslash at the front ends.
 fn split_ending(bytes: &[u8]) -> Option<Ending<'_>>
     requires { goes_on (slice_index_or bytes.now 0 34) ≡ false }
     ensures { Ends result bytes.now }
@@ -155,7 +154,7 @@ fn split_ending(bytes: &[u8]) -> Option<Ending<'_>>
     }
 }
 
-// How many bytes there are before the first quote or backslash.
+// Counts the bytes before the first quote or backslash.
 fn count_to_mark(bytes: &[u8]) -> usize
     ensures count { result ≡ prefix_len goes_on bytes.now }
     ensures within { result ≤ length bytes.now }

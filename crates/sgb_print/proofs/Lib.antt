@@ -1,2 +1,2 @@
-pub mod Printing
-mod Showing
+pub mod TextPieces
+mod GraphPieces

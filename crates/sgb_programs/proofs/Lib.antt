@@ -1,5 +1,5 @@
 mod Queens
-mod Reading
+mod FileReads
 mod Standard
-mod Telling
+mod CheckOutput
 mod Written

@@ -14,15 +14,14 @@ use Rattle.sgb_script.specs.declared.refusal.ShellRefusal.{ShellRefusal}
 use Rattle.sgb_script.specs.declared.refusal.ShellRefusal.TheVariants as refusals
 use Rattle.sgb_text.specs.Clean.{clean_of}
 use Rattle.sgb_text.specs.Save.{text_of}
-use Rattle.sgb_plan.specs.declared.part.Seed.TheVariants as seeds
 use Rattle.sgb_graph.specs.declared.refusal.Refusal.{Refusal}
 use Rattle.sgb_script.specs.declared.command.Command.TheVariants.{One}
 use Rattle.sgb_script.specs.declared.command.Maker.{Maker}
-use Rattle.sgb_script.specs.declared.command.Maker.TheVariants as makers
 use Rattle.sgb_script.specs.declared.command.Single.TheVariants.{Make}
 use Rattle.sgb_script.specs.declared.command.Single.TheVariants as singles
 use Rattle.sgb_session.specs.Command.{step}
-use Rattle.sgb_session.specs.State.{State, StepOutcome, empty, entering}
+use Rattle.sgb_session.specs.Make.{graph_made}
+use Rattle.sgb_session.specs.State.{State, StepOutcome, empty, entering, unless, refusal_of_making}
 use Rattle.sgb_session.specs.State.{step as single_step}
 use Rattle.sgb_session.specs.declared.reply.Delta.{Delta}
 use Rattle.sgb_session.specs.declared.reply.Delta.TheVariants as deltas
@@ -128,21 +127,13 @@ entered name m (Ok g) s e q h =
     let table : s.table ≡ record { name = name; graph = g } ∷ [] = cc in omega (arith, ap length table)
 entered name m (Err r) s e q h = absurd cc
 
+unless_entered : (o : Option ShellRefusal) (name : List ℕ) (m : Maker) (made : Result GraphOf Refusal) (s : State) (e : SingleDelta) (q : SingleReply)
+    → unless o (entering empty name m made) ≡ Accepted s e q → 0 < length s.table
+unless_entered None name m made s e q h = entered name m made s e q h
+unless_entered (Some r) name m made s e q h = absurd cc
+
 filled : (c : Single) (s : State) (e : SingleDelta) (q : SingleReply) → is_standard c ≡ true → single_step empty c ≡ Accepted s e q → 0 < length s.table
-filled (Make name (makers.Empty n)) s e q standard h = entered name (makers.Empty n) _ s e q h
-filled (Make name (makers.Board spec)) s e q standard h = entered name (makers.Board spec) _ s e q h
-filled (Make name (makers.Simplex spec)) s e q standard h = entered name (makers.Simplex spec) _ s e q h
-filled (Make name (makers.Subsets spec)) s e q standard h = entered name (makers.Subsets spec) _ s e q h
-filled (Make name (makers.Perms spec)) s e q standard h = entered name (makers.Perms spec) _ s e q h
-filled (Make name (makers.Binary spec)) s e q standard h = entered name (makers.Binary spec) _ s e q h
-filled (Make name (makers.Random spec (seeds.Number n))) s e q standard h = entered name (makers.Random spec (seeds.Number n)) _ s e q h
-filled (Make name (makers.Random spec seeds.Current)) s e q standard h = entered name (makers.Random spec seeds.Current) _ s e q h
-filled (Make name (makers.Complement g spec)) s e q standard h = absurd cc
-filled (Make name (makers.Gunion g k spec)) s e q standard h = absurd cc
-filled (Make name (makers.Intersection g k directed)) s e q standard h = absurd cc
-filled (Make name (makers.Product g k spec)) s e q standard h = absurd cc
-filled (Make name (makers.Induced g t spec)) s e q standard h = absurd cc
-filled (Make name (makers.Load t rule)) s e q standard h = absurd cc
+filled (Make name m) s e q standard h = unless_entered (refusal_of_making empty name m) name m (graph_made empty.generator empty.table m) s e q h
 filled (singles.Seed n) s e q standard h = absurd cc
 filled singles.Next s e q standard h = absurd cc
 filled (singles.Unif m) s e q standard h = absurd cc

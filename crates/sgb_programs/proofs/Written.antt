@@ -8,7 +8,7 @@ use Rattle.sgb_print.specs.Meter.{WriterUse}
 use Rattle.sgb_print.specs.Print.{Prints}
 use Rattle.sgb_print.specs.declared.fault.RunFault.{RunFault}
 use Rattle.sgb_print.specs.declared.fault.RunFault.TheVariants as faults
-use Rattle.sgb_print.proofs.Printing.{prints_done, prints_failed}
+use Rattle.sgb_print.proofs.TextPieces.{prints_done, prints_failed}
 use Rattle.sgb_text.specs.declared.restoring.CheckRule.{CheckRule}
 use Rattle.sgb_text.specs.Read.{read_as}
 use Rattle.sgb_export.specs.declared.fault.ExportFault.{ExportFault}

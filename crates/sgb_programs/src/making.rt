@@ -54,10 +54,8 @@ pub fn make_metered<W: Write>(
             Ok(()) => Ok(Ok(())),
             Err(_) => Err(RunFault::Write),
         },
-        Err(refusal) => match refusal {
-            ShellRefusal::NoRoom => Err(RunFault::NoRoom),
-            _ => Ok(Err(refusal)),
-        },
+        Err(ShellRefusal::NoRoom) => Err(RunFault::NoRoom),
+        Err(refusal) => Ok(Err(refusal)),
     }
 }
 
@@ -127,17 +125,10 @@ fn text_after(alloc: Global, single: Single) -> Result<Items<u8>, ShellRefusal>
 fn is_standard(single: &Single) -> bool
     ensures { result ≡ is_standard single.now }
 {
-    let Single::Make(_, maker) = single else {
-        return false;
-    };
-    match maker {
-        Maker::Empty(_) => true,
-        Maker::Board(_) => true,
-        Maker::Simplex(_) => true,
-        Maker::Subsets(_) => true,
-        Maker::Perms(_) => true,
-        Maker::Binary(_) => true,
-        Maker::Random(_, _) => true,
+    match single {
+        Single::Make(_, Maker::Empty(_) | Maker::Board(_) | Maker::Simplex(_)) => true,
+        Single::Make(_, Maker::Subsets(_) | Maker::Perms(_) | Maker::Binary(_)) => true,
+        Single::Make(_, Maker::Random(_, _)) => true,
         _ => false,
     }
 }

@@ -27,7 +27,8 @@ pub fn queen<W: Write>(alloc: Global, writer: W) -> Finished<(), W>
 /// Writes the queen's moves on a board of 3 by 4, which are the rook's and the bishop's: the id and the counts of their
 /// graph, and each square with its moves, each with its target and length. The program `queen` of the GraphBase.
 ///
-/// Fails with `NoRoom` if the graphs cannot be allocated, and then writes nothing; with `Write` if a write fails.
+/// Fails with `NoRoom` if the graphs cannot be allocated, and then writes nothing; with `Write` if a write fails. Nothing
+/// else refuses the graphs of the definition, which a test shows.
 pub fn queen_metered<W: Write>(alloc: Global, writer: &mut MeteredWriter<W>) -> Result<(), RunFault>
     ensures shows { ShowsQueen writer.old writer.new result }
 {

@@ -14,10 +14,10 @@ use Rattle.sgb_graph.specs.Parts.{BuildsOf, IsVertexOf, IsArcOf, any_arc_part, v
 use Rattle.sgb_graph.specs.Read.{first_of}
 use Rattle.sgb_graph.proofs.Graphs.{listed_live, made_of_live}
 use Rattle.sgb_text.specs.Save.{next_link, hole}
-use Rattle.sgb_text.proofs.Cleaning.{get_or_map}
+use Rattle.sgb_text.proofs.CleanGraphs.{get_or_map}
 use Rattle.sgb_text.proofs.Links.{next_along, occurs_along}
-use Rattle.sgb_text.proofs.FieldReading.{raws, stored_raws}
-use Rattle.sgb_text.proofs.RecordReading.{vertex_part_of, arc_part_of}
+use Rattle.sgb_text.proofs.FieldItems.{raws, stored_raws}
+use Rattle.sgb_text.proofs.RecordLayout.{vertex_part_of, arc_part_of}
 use Rattle.sgb_text.proofs.Sound.{own_fields, vertex_fields, arc_fields}
 
 -- the part that is read of an arc number

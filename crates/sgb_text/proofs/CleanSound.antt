@@ -12,7 +12,7 @@ use Rattle.sgb_graph.specs.declared.field.Util.TheVariants.{Zero, Int, Vertex, A
 use Rattle.sgb_graph.specs.Graph.{GraphOf, VertexOf, ArcOf, IsGraph, IsVertex, IsArc, IsValue, IsTip, n_of, arc_at, has_arc, occurrences, listings}
 use Rattle.sgb_graph.specs.Honest.{vertex_letters, arc_letters, graph_letters, is_allowed, are_allowed, is_honest, is_honest_vertex, is_honest_entry}
 use Rattle.sgb_text.specs.Clean.{cleaned, clean_fields, clean_vertex, clean_arc, clean_of, dirt_in, dirt_in_entry, dirt_of}
-use Rattle.sgb_text.proofs.Cleaning.{some_map, n_clean, made_clean, arc_clean}
+use Rattle.sgb_text.proofs.CleanGraphs.{some_map, n_clean, made_clean, arc_clean}
 use Rattle.sgb_text.proofs.Fields.{dirt_first}
 
 all_nil : {X : Type 0} (P : X → Type 0) → All P []

@@ -19,8 +19,8 @@ use Rattle.sgb_text.specs.Clean.{clean_of, clean_vertex, clean_arc, dirt_in, dir
 use Rattle.sgb_text.specs.Save.{tip_text, link_text, arc_items, entry_items, hole, next_link, arc_record, field_items}
 use Rattle.sgb_text.specs.Private.Page.{PageOf, with_line, with_record}
 use Rattle.sgb_text.proofs.Fields.{clean_items, get_or_any}
-use Rattle.sgb_text.proofs.Cleaning.{arc_clean, vertex_clean, n_clean, next_clean, zeros_clean, zeros_spotless}
-use Rattle.sgb_text.proofs.Listing.{record_line}
+use Rattle.sgb_text.proofs.CleanGraphs.{arc_clean, vertex_clean, n_clean, next_clean, zeros_clean, zeros_spotless}
+use Rattle.sgb_text.proofs.RecordLists.{record_line}
 
 pub when_if : {T E : Type 0} {P Q : T → Type 0} (r : Result T E) → ((x : T) → P x → Q x) → IfOk r P → IfOk r Q
 when_if (Ok x) f h = f x h

@@ -1,18 +1,18 @@
-mod Bodies
+mod TextBody
 mod Builds
 mod CleanSound
-mod Cleaning
+mod CleanGraphs
 mod Cuts
 mod Digits
 mod Entries
 mod Exactness
-mod FieldReading
+mod FieldItems
 mod Fields
 mod Links
-mod Listing
+mod RecordLists
 mod Quotes
 pub mod ReadAs
-mod Reading
-mod RecordReading
+mod ItemLayout
+mod RecordLayout
 mod Sound
-mod Whole
+mod WholeTexts

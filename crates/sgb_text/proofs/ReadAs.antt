@@ -4,7 +4,7 @@ use Rattle.sgb_graph.specs.Graph.{GraphOf}
 use Rattle.sgb_graph.specs.declared.refusal.Refusal.{Refusal}
 use Rattle.sgb_graph.specs.declared.refusal.Refusal.TheVariants.{NoRoom, TooLarge, BadOperand, CheckWrong, Syntax, BadSpecs, LengthRange, Stuck}
 use Rattle.sgb_graph.specs.Linked.{graph_of_parts}
-use Rattle.sgb_graph.proofs.Linking.{built_some, some_built}
+use Rattle.sgb_graph.proofs.LinkedParts.{built_some, some_built}
 use Rattle.sgb_grammar.specs.declared.header.Header.{Header}
 use Rattle.sgb_grammar.specs.Header.{header_at}
 use Rattle.sgb_grammar.specs.Saved.{SavedOf, saved_in}

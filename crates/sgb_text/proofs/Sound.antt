@@ -17,8 +17,8 @@ use Rattle.sgb_graph.specs.Read.{first_of}
 use Rattle.sgb_graph.proofs.Counts.{occurs_yes, occurs_more}
 use Rattle.sgb_graph.proofs.Graphs.{listed_live}
 use Rattle.sgb_text.specs.Save.{following, next_link}
-use Rattle.sgb_text.proofs.FieldReading.{IsGood, IsGoodLink, IsGoodTip}
-use Rattle.sgb_text.proofs.RecordReading.{Fields}
+use Rattle.sgb_text.proofs.FieldItems.{IsGood, IsGoodLink, IsGoodTip}
+use Rattle.sgb_text.proofs.RecordLayout.{Fields}
 
 -- ---- letters
 all_take : (n : ℕ) (ls : List ℕ) → list_all is_letter ls ≡ true → list_all is_letter (take n ls) ≡ true

@@ -30,7 +30,7 @@ impl Model for Page {
 }
 
 impl Page {
-    /// No text. Takes no memory.
+    /// Returns an empty page. Does not allocate.
     pub(crate) fn new(alloc: Global) -> Page
         ensures text { result.text ≡ [] }
         ensures column { result.column ≡ 0 }
@@ -41,14 +41,14 @@ impl Page {
         }
     }
 
-    /// The bytes written so far.
+    /// Returns the bytes written so far.
     pub(crate) fn text(&self) -> &[u8]
         ensures { result.now ≡ self.now.text }
     {
         self.text.as_slice()
     }
 
-    /// The text itself.
+    /// Returns the text, and gives up the page.
     pub(crate) fn into_text(self) -> Vec<u8>
         ensures { result.items ≡ self.text }
     {
@@ -56,14 +56,14 @@ impl Page {
         text
     }
 
-    /// Takes room for so many bytes more.
+    /// Reserves room for so many bytes more.
     pub(crate) fn reserve(&mut self, count: usize) -> Result<(), AllocError>
         ensures { self.new ≡ self.old }
     {
         self.text.reserve(count)
     }
 
-    /// Writes bytes behind which a line begins.
+    /// Writes bytes, after which a line begins.
     pub(crate) fn line(&mut self, bytes: &[u8]) -> Result<(), AllocError>
         ensures { OnOk result (self.new ≡ with_line self.old bytes.now) }
     {
@@ -72,7 +72,7 @@ impl Page {
         Ok(())
     }
 
-    /// Writes an item, which comes in three parts: a mark, its bytes, and what ends it.
+    /// Writes an item in three parts: a mark, its bytes, and what ends it.
     #[inline(always)]
     pub(crate) fn item(&mut self, mark: &[u8], bytes: &[u8], end: &[u8]) -> Result<(), AllocError>
         requires mark { length mark.now ≤ 1 }
@@ -89,7 +89,7 @@ impl Page {
         }
     }
 
-    // A new line, where this one has no room for so many bytes more.
+    // Begins a new line if this one has no room for so many bytes more.
     #[inline]
     fn make_room(&mut self, width: usize) -> Result<(), AllocError>
         requires { width ≤ 5000 }
@@ -101,7 +101,7 @@ impl Page {
         Ok(())
     }
 
-    // An item for which the line has room.
+    // Writes an item for which the line has room.
     #[inline(always)]
     fn put_short(&mut self, mark: &[u8], bytes: &[u8], end: &[u8]) -> Result<(), AllocError>
         requires { self.old.column + length (mark.now ++ (bytes.now ++ end.now)) ≤ 79 }
@@ -114,7 +114,7 @@ impl Page {
         Ok(())
     }
 
-    // An item that is longer than a line.
+    // Writes an item that is longer than a line.
     #[cold]
     #[inline(never)]
     fn put_long(&mut self, mark: &[u8], bytes: &[u8], end: &[u8]) -> Result<(), AllocError>
@@ -133,8 +133,8 @@ impl Page {
     }
 }
 
-// Adds bytes, of which there are mostly one or none.
-#[inline]
+// Appends bytes, mostly one or none.
+#[inline(always)]
 fn append(text: &mut Vec<u8>, bytes: &[u8]) -> Result<(), AllocError>
     ensures { OnOk result (text.new.items ≡ text.old.items ++ bytes.now) }
 {
@@ -148,7 +148,7 @@ fn append(text: &mut Vec<u8>, bytes: &[u8]) -> Result<(), AllocError>
     }
 }
 
-// What follows the first line of a long item, in lines of its own; the answer is how many bytes the last of them has.
+// Writes the rest of a long item in lines of its own. Returns how many bytes the last of them has.
 fn put_rest(text: &mut Vec<u8>, bytes: &[u8], end: &[u8]) -> Result<usize, AllocError>
     requires bytes { length bytes.now ≤ 4095 }
     requires end { length end.now ≤ 2 }

@@ -15,7 +15,7 @@ use crate::values::{
 use sgb_graph::{ArcNo, ArcView, Graph, Tip, Util, VertexNo};
 use std::alloc::AllocError;
 
-/// Writes the graph's own record. Answers how many of its values are written as Zero.
+/// Writes the graph's own record. Returns how many of its values are written as Zero.
 pub(crate) fn put_own(page: &mut Page, graph: &Graph) -> Result<u64, AllocError>
     requires { page.old.column ≡ 0 }
     ensures record { OnOk result (page.new ≡ with_record page.old (own_items (clean_of graph.now))) }
@@ -31,7 +31,7 @@ pub(crate) fn put_own(page: &mut Page, graph: &Graph) -> Result<u64, AllocError>
     put_fields(page, letters, graph.graph_fields())
 }
 
-/// Writes the records of the vertices. Answers how many of their values are written as Zero.
+/// Writes the records of the vertices. Returns how many of their values are written as Zero.
 pub(crate) fn put_vertices(page: &mut Page, graph: &Graph) -> Result<u64, AllocError>
     requires { page.old.column ≡ 0 }
     ensures records { OnOk result (page.new ≡ with_line page.old (flat_map (vertex_record graph.now.types) (clean_of graph.now).vertices)) }
@@ -45,7 +45,7 @@ pub(crate) fn put_vertices(page: &mut Page, graph: &Graph) -> Result<u64, AllocE
     Ok(cleaned)
 }
 
-/// Writes the records of the arc numbers. Answers how many of their values are written as Zero.
+/// Writes the records of the arc numbers. Returns how many of their values are written as Zero.
 pub(crate) fn put_arcs(page: &mut Page, graph: &Graph) -> Result<u64, AllocError>
     requires { page.old.column ≡ 0 }
     ensures records { OnOk result (page.new ≡ with_line page.old (flat_map (arc_record (clean_of graph.now)) (range_with_len 0 (made_of graph.now)))) }
@@ -102,7 +102,7 @@ fn put_arc(page: &mut Page, graph: &Graph, number: ArcNo) -> Result<u64, AllocEr
     }
 }
 
-// An arc's record, or what stands for a hole.
+// Writes an arc's record, or what stands for a hole.
 fn put_entry(
     page: &mut Page,
     letters: &[u8],
@@ -123,7 +123,7 @@ fn put_entry(
     put_fields(page, letters, values)
 }
 
-// The fields of these letters, and the end of the record.
+// Writes the fields of these letters, and the end of the record.
 fn put_fields(page: &mut Page, letters: &[u8], values: &[Util]) -> Result<u64, AllocError>
     requires { length values.now ≡ length letters.now }
     ensures record { OnOk result (page.new ≡ with_record page.old (field_items letters.now (clean_fields letters.now values.now))) }
@@ -140,14 +140,14 @@ fn put_fields(page: &mut Page, letters: &[u8], values: &[Util]) -> Result<u64, A
     Ok(cleaned)
 }
 
-// How many values are written as Zero: this one, where its letter does not allow it.
+// Counts the value if it is written as Zero since its letter does not allow it.
 fn dirt_in(letter: u8, value: &Util) -> u64
     ensures { result ≡ (if is_allowed letter value.now then 0 else 1) }
 {
     if value.is_allowed(letter) { 0 } else { 1 }
 }
 
-// The field of this letter, with those of other letters behind it.
+// Writes the field of this letter; `behind` has the letters after it.
 fn put_field(page: &mut Page, letter: u8, value: &Util, behind: &[u8]) -> Result<(), AllocError>
     ensures { OnOk result (page.new ≡ with_field page.old letter (cleaned letter value.now) (list_any (λ l. not (l == 90)) behind.now)) }
 {

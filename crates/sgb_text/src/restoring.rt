@@ -17,11 +17,11 @@ pub enum CheckRule {
     Any,
 }
 
-/// The graph that a text spells.
+/// Returns the graph that a text spells.
 ///
-/// Refused `Syntax` where the first line is bad, or no graph is spelled; `TooLarge` where a count in a good first line
-/// is above the limits; and last, `CheckWrong`, where the rule asks for a check number and the text names another. Takes
-/// memory for the records, for their texts and for the graph.
+/// Fails with `Syntax` if the first line is bad or the text spells no graph; with `TooLarge` if a count in a good first
+/// line is above the limits; and last, with `CheckWrong` if the rule asks for a check number and the text names another.
+/// Allocates the records, their texts and the graph; `NoRoom` if that fails.
 pub fn restore(alloc: Global, text: &[u8], rule: CheckRule) -> Result<Graph, Refusal>
     ensures ok { IfOk result (λ g. Accepted rule text.now g) }
     ensures err { IfErr result (λ e. Refused rule text.now e) }
@@ -68,7 +68,7 @@ fn is_within_limits(header: &Header) -> bool
     header.vertices <= 65_535 && header.arcs <= 1_000_000
 }
 
-// The rule allows this number under this body.
+// Whether the rule allows this number under this body.
 fn passes(rule: CheckRule, number: i64, body: &[u8]) -> bool
     ensures { result ≡ passes rule number body.now }
 {
@@ -78,7 +78,7 @@ fn passes(rule: CheckRule, number: i64, body: &[u8]) -> bool
     }
 }
 
-/// The law of restoring: a text that is accepted spells one graph, and nothing but want of memory refuses it.
+/// The law of restoring: a text that is accepted spells one graph, and only a failed allocation refuses it.
 pub fn answers_are_exact()
     ensures graph { IsReadAsOne }
     ensures refusals { IsRefusedForRoom }

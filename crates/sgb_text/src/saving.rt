@@ -23,8 +23,8 @@ pub struct Saved {
     pub cleaned: u64,
 }
 
-/// The text of a graph, where values that their letters do not allow are written as Zero, and counted. The graph stays
-/// as it is. Refused for want of memory alone.
+/// Returns the text of a graph, in which values that their letters do not allow are written as Zero, and their count.
+/// Fails only if the text cannot be allocated.
 pub fn save(alloc: Global, graph: &Graph) -> Result<Saved, AllocError>
     ensures text { IfOk result (λ s. s.text ≡ text_of (clean_of graph.now)) }
     ensures cleaned { IfOk result (λ s. s.cleaned ≡ dirt_of graph.now) }
@@ -43,12 +43,12 @@ pub fn save(alloc: Global, graph: &Graph) -> Result<Saved, AllocError>
     })
 }
 
-// No text of the graph is shorter.
+// Returns a length that no text of the graph falls below.
 fn shortest_text(graph: &Graph) -> usize {
     64 + 5 * graph.n() as usize + 6 * graph.made() as usize
 }
 
-// The first line.
+// Writes the first line.
 fn put_header(page: &mut Page, graph: &Graph) -> Result<(), AllocError>
     ensures { OnOk result (page.new ≡ with_line page.old (header_of (clean_of graph.now) ++ 10 ∷ [])) }
 {
@@ -69,7 +69,7 @@ fn put_sizes(page: &mut Page, n: u32, made: u32) -> Result<(), AllocError>
     page.line(b"A)\n")
 }
 
-// All records. Answers how many values are written as Zero.
+// Writes all records. Returns how many values are written as Zero.
 fn put_body(page: &mut Page, graph: &Graph) -> Result<u64, AllocError>
     requires { page.old.column ≡ 0 }
     ensures records { OnOk result (page.new ≡ with_line page.old (body_of (clean_of graph.now))) }
@@ -83,7 +83,7 @@ fn put_body(page: &mut Page, graph: &Graph) -> Result<u64, AllocError>
     Ok(own + vertices + arcs)
 }
 
-// The last line.
+// Writes the last line.
 fn put_check(page: &mut Page, number: u64) -> Result<(), AllocError>
     ensures { OnOk result (page.new ≡ with_line page.old (check_line number)) }
 {
@@ -102,7 +102,7 @@ pub fn cleaning_law()
 {}
 
 /// The law of saving: what is saved of a sound graph is read back as the cleaned graph, and as nothing else, under both
-/// rules, and is refused for want of memory alone. The text of an honest graph is read back as that very graph.
+/// rules, and only a failed allocation refuses it. The text of an honest graph is read back as that very graph.
 pub fn texts_read_back()
     ensures cleaned { (g : GraphOf) (rule : CheckRule) → IsGraph g → IsReadBack rule (clean_of g) }
     ensures honest { (g : GraphOf) (rule : CheckRule) → IsGraph g → is_honest g ≡ true → IsReadBack rule g }

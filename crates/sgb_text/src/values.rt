@@ -25,8 +25,7 @@ pub(crate) fn put_text(page: &mut Page, bytes: &[u8], more: bool) -> Result<(), 
 pub(crate) fn put_count(page: &mut Page, count: u32, more: bool) -> Result<(), AllocError>
     ensures { OnOk result (page.new ≡ with_item page.old (comma_if more (decimal count))) }
 {
-    let mut digits = Buffer::new();
-    page.item(b"", digits.format(count).as_bytes(), comma(more))
+    put_numbered(page, b"", count, more)
 }
 
 /// Writes a number.
@@ -58,7 +57,7 @@ pub(crate) fn put_tip(page: &mut Page, tip: Tip, more: bool) -> Result<(), Alloc
     }
 }
 
-/// Writes a value under its letter, and Zero in place of one that the letter does not allow.
+/// Writes a value under its letter, or Zero if the letter does not allow it.
 pub(crate) fn put_value(
     page: &mut Page,
     letter: u8,
@@ -79,7 +78,7 @@ pub(crate) fn put_value(
     }
 }
 
-/// A field is written where its letter is not `Z`: whether one of these is.
+/// Whether a field of these letters is written: those of the letter `Z` are not.
 pub(crate) fn is_any_written(letters: &[u8]) -> bool
     ensures { result ≡ list_any (λ l. not (l == 90)) letters.now }
 {
@@ -96,7 +95,7 @@ fn put_zero(page: &mut Page, letter: u8, more: bool) -> Result<(), AllocError>
     }
 }
 
-// `V` or `A` with its number.
+// Writes a number behind `V`, `A` or nothing.
 fn put_numbered(page: &mut Page, mark: &[u8], number: u32, more: bool) -> Result<(), AllocError>
     requires { length mark.now ≤ 1 }
     ensures { OnOk result (page.new ≡ with_item page.old (comma_if more (mark.now ++ decimal number))) }
@@ -112,7 +111,7 @@ fn comma(more: bool) -> &'static [u8]
     if more { b"," } else { b"" }
 }
 
-// What ends a text.
+// Returns what ends a text.
 fn closing(more: bool) -> &'static [u8]
     ensures value { result.now ≡ (if more then 34 ∷ 44 ∷ [] else 34 ∷ []) }
     ensures short { length result.now ≤ 2 }

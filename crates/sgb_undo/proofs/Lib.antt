@@ -1,3 +1,3 @@
-pub mod Keeping
-pub mod Performing
-pub mod Turns
+pub mod JournalLists
+pub mod GroupSteps
+pub mod EventSteps

@@ -1,6 +1,6 @@
 use Rattle.std.proofs.Common.{ap, arith, length, length-append}
 use Rattle.sgb_graph.specs.Graph.{n_of}
-use Rattle.sgb_print.proofs.Printing.{number_and_rest, no_number}
+use Rattle.sgb_print.proofs.TextPieces.{number_and_rest, no_number}
 use Rattle.sgb_export.specs.Links.{links, links_at}
 use Rattle.sgb_export.proofs.count.count_links.Goals as goal
 

@@ -1,7 +1,7 @@
 use Rattle.std.proofs.Common.{◌<◌, length, All, IsSome, ap, sym, subst, ◌∙◌, arith}
 use Rattle.std.proofs.lemmas.List.Elements.{All-tail}
 use Rattle.sgb_graph.specs.Graph.{arc_at, made_of}
-use Rattle.sgb_export.proofs.Linking.{written, written_start, written_skip, written_one, few_at}
+use Rattle.sgb_export.proofs.ExportedArcs.{written, written_start, written_skip, written_one, few_at}
 use Rattle.sgb_export.proofs.count.count_links_at.Goals as goal
 
 pub loop-number-init : goal.loop-number-init

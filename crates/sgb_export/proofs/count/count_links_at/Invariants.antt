@@ -1,7 +1,7 @@
 use Rattle.std.proofs.Common.{◌≡◌, ◌≤◌, ◌<◌, ◌+◌, length, All, IsSome}
 use Rattle.sgb_graph.specs.Graph.{arc_at, made_of}
 use Rattle.sgb_export.specs.Links.{links_at}
-use Rattle.sgb_export.proofs.Linking.{written}
+use Rattle.sgb_export.proofs.ExportedArcs.{written}
 use Rattle.sgb_export.proofs.count.count_links_at.Given as goal
 
 abbrev pub invariant-loop-number : goal.invariant-loop-number

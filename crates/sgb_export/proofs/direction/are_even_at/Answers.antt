@@ -3,7 +3,7 @@ use Rattle.std.specs.List.{list_all}
 use Rattle.std.proofs.lemmas.List.Elements.{All-tail}
 use Rattle.sgb_graph.specs.Graph.{arc_at, made_of}
 use Rattle.sgb_export.specs.Links.{is_even}
-use Rattle.sgb_export.proofs.Linking.{written, written_start, even_skip, even_not}
+use Rattle.sgb_export.proofs.ExportedArcs.{written, written_start, even_skip, even_not}
 use Rattle.sgb_export.proofs.direction.are_even_at.Goals as goal
 
 pub loop-number-init : goal.loop-number-init

@@ -2,7 +2,7 @@ use Rattle.std.proofs.Common.{◌≡◌, ◌<◌, false, All, IsSome}
 use Rattle.std.specs.List.{list_all}
 use Rattle.sgb_graph.specs.Graph.{arc_at, made_of}
 use Rattle.sgb_export.specs.Links.{is_even, are_even_at}
-use Rattle.sgb_export.proofs.Linking.{written}
+use Rattle.sgb_export.proofs.ExportedArcs.{written}
 use Rattle.sgb_export.proofs.direction.are_even_at.Given as goal
 
 abbrev pub invariant-loop-number : goal.invariant-loop-number

@@ -1,5 +1,5 @@
 use Rattle.std.proofs.Common.{refl}
-use Rattle.sgb_print.proofs.Printing.{writes_none, prints_all, writes_piece, fails_piece, item_and_rest, no_rest}
+use Rattle.sgb_print.proofs.TextPieces.{writes_none, prints_all, writes_piece, fails_piece, item_and_rest, no_rest}
 use Rattle.sgb_export.specs.Graphml.{entity, escaped}
 use Rattle.sgb_export.proofs.graphml.put_escaped.Goals as goal
 

@@ -1,6 +1,6 @@
 use Rattle.std.proofs.Common.{drop}
 use Rattle.std.specs.List.{flat_map}
-use Rattle.sgb_print.proofs.Printing.{Writes}
+use Rattle.sgb_print.proofs.TextPieces.{Writes}
 use Rattle.sgb_export.specs.Graphml.{entity, escaped}
 use Rattle.sgb_export.proofs.graphml.put_escaped.Given as goal
 

@@ -2,7 +2,7 @@ use Rattle.std.proofs.Common.{◌∙◌, sym, arith}
 use Rattle.sgb_graph.specs.Graph.{n_of}
 use Rattle.sgb_graph.proofs.PairedLemmas.{below_all_more, below_all_not}
 use Rattle.sgb_export.specs.Edges.{is_new}
-use Rattle.sgb_export.proofs.Naming.{new_is, name_more, not_true}
+use Rattle.sgb_export.proofs.NameIndexes.{new_is, name_more, not_true}
 use Rattle.sgb_export.proofs.names.are_distinct.Goals as goal
 
 pub returns-then-not-is_new-clause-ok : goal.returns-then-not-is_new-clause-ok

@@ -2,7 +2,7 @@ use Rattle.std.proofs.Common.{◌≡◌, true, map}
 use Rattle.std.specs.List.{list_all, range_with_len}
 use Rattle.sgb_graph.specs.Graph.{label_of}
 use Rattle.sgb_export.specs.Edges.{is_new}
-use Rattle.sgb_export.proofs.Naming.{shown}
+use Rattle.sgb_export.proofs.NameIndexes.{shown}
 use Rattle.sgb_export.proofs.names.are_distinct.Given as goal
 
 abbrev pub invariant-loop-v : goal.invariant-loop-v

@@ -1,8 +1,8 @@
 use Rattle.std.proofs.Common.{arith}
 use Rattle.sgb_graph.specs.Graph.{n_of}
-use Rattle.sgb_print.proofs.Printing.{writes_none, prints_all, writes_piece, fails_piece, no_number}
+use Rattle.sgb_print.proofs.TextPieces.{writes_none, prints_all, writes_piece, fails_piece, no_number}
 use Rattle.sgb_export.specs.Links.{links, links_at}
-use Rattle.sgb_export.proofs.Linking.{lines_at, lines_none}
+use Rattle.sgb_export.proofs.ExportedArcs.{lines_at, lines_none}
 use Rattle.sgb_export.proofs.write.put_links.Goals as goal
 
 pub loop-v-init : goal.loop-v-init

@@ -1,7 +1,7 @@
 use Rattle.std.proofs.Common.{◌≤◌, ◌*◌, drop}
 use Rattle.std.specs.List.{flat_map, range_with_len}
 use Rattle.sgb_graph.specs.Graph.{n_of}
-use Rattle.sgb_print.proofs.Printing.{Writes}
+use Rattle.sgb_print.proofs.TextPieces.{Writes}
 use Rattle.sgb_export.specs.Links.{links, links_at}
 use Rattle.sgb_export.specs.Text.{links_text}
 use Rattle.sgb_export.proofs.write.put_links.Given as goal

@@ -1,8 +1,8 @@
 use Rattle.std.proofs.Common.{◌<◌, ◌+◌, length, All, IsSome, ap, sym, subst, ◌∙◌, arith}
 use Rattle.std.proofs.lemmas.List.Elements.{All-tail}
 use Rattle.sgb_graph.specs.Graph.{arc_at, made_of}
-use Rattle.sgb_print.proofs.Printing.{writes_none, prints_all, writes_piece, fails_piece}
-use Rattle.sgb_export.proofs.Linking.{written, written_start, written_skip, written_one, few_at, lines_one, lines_none}
+use Rattle.sgb_print.proofs.TextPieces.{writes_none, prints_all, writes_piece, fails_piece}
+use Rattle.sgb_export.proofs.ExportedArcs.{written, written_start, written_skip, written_one, few_at, lines_one, lines_none}
 use Rattle.sgb_export.proofs.write.put_links_at.Goals as goal
 
 pub loop-number-init : goal.loop-number-init

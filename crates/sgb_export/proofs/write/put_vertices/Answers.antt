@@ -1,6 +1,6 @@
 use Rattle.std.proofs.Common.{arith}
 use Rattle.sgb_graph.specs.Graph.{n_of}
-use Rattle.sgb_print.proofs.Printing.{prints_all, writes_piece, fails_piece, number_and_rest, no_number}
+use Rattle.sgb_print.proofs.TextPieces.{prints_all, writes_piece, fails_piece, number_and_rest, no_number}
 use Rattle.sgb_export.specs.Text.{vertex_text}
 use Rattle.sgb_export.proofs.write.put_vertices.Goals as goal
 

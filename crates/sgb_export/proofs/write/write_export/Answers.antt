@@ -1,4 +1,4 @@
-use Rattle.sgb_print.proofs.Printing.{fails_early, prints_behind}
+use Rattle.sgb_print.proofs.TextPieces.{fails_early, prints_behind}
 use Rattle.sgb_export.specs.Text.{export_text}
 use Rattle.sgb_export.proofs.write.write_export.Goals as goal
 

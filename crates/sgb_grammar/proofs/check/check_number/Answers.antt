@@ -1,7 +1,7 @@
 use Rattle.std.proofs.Common.{◌+◌, ◌-◌, ◌*◌, ◌%◌, ◌^◌, length, sym, ap, ◌∙◌, arith}
 use Rattle.std.proofs.lemmas.Bool.{eqb-true}
 use Rattle.sgb_grammar.specs.Check.{covered, weighed}
-use Rattle.sgb_grammar.proofs.Weights.{covered_nothing, line_weighs, nothing_weighs, check_start, nil_from_length}
+use Rattle.sgb_grammar.proofs.LineWeights.{covered_nothing, line_weighs, nothing_weighs, check_start, nil_from_length}
 use Rattle.sgb_grammar.proofs.check.check_number.Goals as goal
 
 pub lines-init : goal.lines-init

@@ -1,7 +1,7 @@
 use Rattle.std.proofs.Common.{◌≡◌, true, refl, arith}
 use Rattle.sgb_grammar.specs.declared.check.TheConstants.{CODES}
 use Rattle.sgb_grammar.specs.Check.{code_of}
-use Rattle.sgb_grammar.proofs.Weights.{same_codes, code_in}
+use Rattle.sgb_grammar.proofs.LineWeights.{same_codes, code_in}
 use Rattle.sgb_grammar.proofs.check.code_of.Goals as goal
 
 the_table : same_codes CODES 256 ≡ true

@@ -1,4 +1,4 @@
-use Rattle.sgb_grammar.proofs.Stars.{all_count, lines_before_star, behind_star}
+use Rattle.sgb_grammar.proofs.StarLines.{all_count, lines_before_star, behind_star}
 use Rattle.sgb_grammar.proofs.check.split_counted.Goals as goal
 
 pub returns-then-bytes-eq42-clause-lines : goal.returns-then-bytes-eq42-clause-lines

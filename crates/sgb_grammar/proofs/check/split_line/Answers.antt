@@ -1,7 +1,7 @@
 use Rattle.std.proofs.Common.{◌<◌, ◌==◌, not, length, arith}
 use Rattle.std.specs.List.{prefix_len}
 use Rattle.sgb_grammar.specs.Check.{lines_of}
-use Rattle.sgb_grammar.proofs.Weights.{line_ends, last_line}
+use Rattle.sgb_grammar.proofs.LineWeights.{line_ends, last_line}
 use Rattle.sgb_grammar.proofs.check.split_line.Goals as goal
 
 pub returns-then-end-bytes-clause-lines : goal.returns-then-end-bytes-clause-lines

@@ -1,6 +1,6 @@
-use Rattle.std.proofs.Common.{◌+◌, ◌-◌, ◌*◌, ◌%◌, ◌^◌, length, refl, sym, ap, ◌∙◌, arith}
+use Rattle.std.proofs.Common.{◌-◌, ◌%◌, ◌^◌, refl, sym, ap, ◌∙◌, arith}
 use Rattle.std.proofs.Math.Nat.{mod-lt}
-use Rattle.sgb_grammar.proofs.Weights.{block_weighs}
+use Rattle.sgb_grammar.proofs.LineWeights.{block_weighs}
 use Rattle.sgb_grammar.proofs.check.weigh.Goals as goal
 
 pub pieces-init : goal.pieces-init

@@ -1,7 +1,7 @@
 use Rattle.std.proofs.Common.{ap, ◌∙◌, arith}
 use Rattle.std.proofs.lemmas.List.{take_all}
 use Rattle.sgb_grammar.specs.Check.{weighed}
-use Rattle.sgb_grammar.proofs.Weights.{byte_adds, byte_fits, block_fits, nothing_alone}
+use Rattle.sgb_grammar.proofs.LineWeights.{byte_adds, byte_fits, block_fits, nothing_alone}
 use Rattle.sgb_grammar.proofs.check.weigh_alone.Goals as goal
 
 pub bytes-init : goal.bytes-init

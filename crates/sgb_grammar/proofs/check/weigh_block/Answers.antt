@@ -1,5 +1,5 @@
 use Rattle.std.proofs.Common.{◌+◌, ◌*◌, ◌^◌, length, ap, ◌∙◌, arith}
-use Rattle.sgb_grammar.proofs.Weights.{sum_fits, sum_moved}
+use Rattle.sgb_grammar.proofs.LineWeights.{sum_fits, sum_moved}
 use Rattle.sgb_grammar.proofs.check.weigh_block.Goals as goal
 
 pub overflow_add-result : goal.overflow_add-result

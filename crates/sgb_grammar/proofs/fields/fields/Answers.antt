@@ -1,7 +1,7 @@
 use Rattle.std.proofs.Common.{◌∙◌, arith}
 use Rattle.std.proofs.Math.ListN.{length-set}
 use Rattle.sgb_grammar.specs.Field.{field_at}
-use Rattle.sgb_grammar.proofs.Eaches.{kind_more, kind_stops, kind_all, fails_along}
+use Rattle.sgb_grammar.proofs.ItemSequences.{kind_more, kind_stops, kind_all, fails_along}
 use Rattle.sgb_grammar.proofs.fields.fields.Goals as goal
 
 pub returns-in-Err : goal.returns-in-Err

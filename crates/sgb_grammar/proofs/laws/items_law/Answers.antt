@@ -1,4 +1,4 @@
-use Rattle.sgb_grammar.proofs.Spelling.{text_spelled, text_read, count_spelled, count_read, number_spelled, number_read}
+use Rattle.sgb_grammar.proofs.RecordParts.{text_spelled, text_read, count_spelled, count_read, number_spelled, number_read}
 use Rattle.sgb_grammar.proofs.SpelledItems.{link_spelled, link_read, tip_spelled, tip_read, fields_spelled, fields_read}
 use Rattle.sgb_grammar.proofs.laws.items_law.Goals as goal
 

@@ -1,4 +1,4 @@
-use Rattle.std.proofs.Common.{◌+◌, ◌*◌, ◌^◌, ◌<◌, arith}
+use Rattle.std.proofs.Common.{arith}
 use Rattle.sgb_grammar.proofs.Naturals.{few_digits}
 use Rattle.sgb_grammar.proofs.numbers.with_digit.Goals as goal
 

@@ -1,7 +1,7 @@
 use Rattle.std.proofs.Common.{◌≡◌, ◌∙◌, ◌-◌, ◌+◌, [], ◌∷◌, ◌++◌, replicate, sym, ap, arith}
 use Rattle.sgb_grammar.specs.Reading.{behind, each_at}
 use Rattle.sgb_grammar.specs.Record.{arc_at}
-use Rattle.sgb_grammar.proofs.Eaches.{each_more, each_stops, each_all, fails_along, when_ok}
+use Rattle.sgb_grammar.proofs.ItemSequences.{each_more, each_stops, each_all, fails_along, when_ok}
 use Rattle.sgb_grammar.proofs.records.arcs.Goals as goal
 
 pub returns-in-Err : goal.returns-in-Err

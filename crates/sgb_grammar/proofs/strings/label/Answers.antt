@@ -1,6 +1,6 @@
 use Rattle.std.proofs.Common.{sym, subst}
 use Rattle.sgb_grammar.specs.Private.Reading.{Reads}
-use Rattle.sgb_grammar.proofs.Insides.{text_joined}
+use Rattle.sgb_grammar.proofs.QuotedRuns.{text_joined}
 use Rattle.sgb_grammar.proofs.strings.label.Goals as goal
 
 pub returns-in-Some-Last : goal.returns-in-Some-Last

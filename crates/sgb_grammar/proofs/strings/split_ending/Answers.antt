@@ -1,4 +1,4 @@
-use Rattle.sgb_grammar.proofs.Insides.{ends_nowhere, ends_with_quote, is_backslash, ends_with_backslash, ends_with_escape, ends_with_line}
+use Rattle.sgb_grammar.proofs.QuotedRuns.{ends_nowhere, ends_with_quote, is_backslash, ends_with_backslash, ends_with_escape, ends_with_line}
 use Rattle.sgb_grammar.proofs.strings.split_ending.Goals as goal
 
 pub returns-in_err-first : goal.returns-in_err-first

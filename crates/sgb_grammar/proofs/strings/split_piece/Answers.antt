@@ -1,5 +1,5 @@
 use Rattle.std.proofs.Common.{arith}
-use Rattle.sgb_grammar.proofs.Insides.{stops, last_piece, broken_piece, no_piece}
+use Rattle.sgb_grammar.proofs.QuotedRuns.{stops, last_piece, broken_piece, no_piece}
 use Rattle.sgb_grammar.proofs.strings.split_piece.Goals as goal
 
 pub split_ending-requires : goal.split_ending-requires

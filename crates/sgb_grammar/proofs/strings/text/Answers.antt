@@ -1,6 +1,6 @@
 use Rattle.std.proofs.Common.{refl, sym, subst, inr}
 use Rattle.sgb_grammar.specs.Private.Reading.{Reads}
-use Rattle.sgb_grammar.proofs.Insides.{text_joined, text_unjoined}
+use Rattle.sgb_grammar.proofs.QuotedRuns.{text_joined, text_unjoined}
 use Rattle.sgb_grammar.proofs.strings.text.Goals as goal
 
 pub returns-in-Some-Last : goal.returns-in-Some-Last

@@ -1,4 +1,4 @@
-use Rattle.sgb_print.proofs.Printing.{write_took}
+use Rattle.sgb_print.proofs.TextPieces.{write_took}
 use Rattle.sgb_print.proofs.print.put.Goals as goal
 
 pub loop-rest-preserved : goal.loop-rest-preserved

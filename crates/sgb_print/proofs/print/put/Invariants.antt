@@ -1,5 +1,5 @@
 use Rattle.std.proofs.Common.{length}
-use Rattle.sgb_print.proofs.Printing.{Writes}
+use Rattle.sgb_print.proofs.TextPieces.{Writes}
 use Rattle.sgb_print.proofs.print.put.Given as goal
 
 abbrev pub invariant-loop-rest : goal.invariant-loop-rest

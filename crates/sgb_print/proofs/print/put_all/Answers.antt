@@ -1,5 +1,5 @@
 use Rattle.std.proofs.Common.{refl}
-use Rattle.sgb_print.proofs.Printing.{writes_piece, fails_piece, item_and_rest}
+use Rattle.sgb_print.proofs.TextPieces.{writes_piece, fails_piece, item_and_rest}
 use Rattle.sgb_print.proofs.print.put_all.Goals as goal
 
 pub returns-in_err-put : goal.returns-in_err-put

@@ -1,6 +1,6 @@
 use Rattle.std.proofs.Common.{drop}
 use Rattle.std.specs.List.{flat_map}
-use Rattle.sgb_print.proofs.Printing.{Writes}
+use Rattle.sgb_print.proofs.TextPieces.{Writes}
 use Rattle.sgb_print.proofs.print.put_all.Given as goal
 
 abbrev pub invariant-loop-piece : goal.invariant-loop-piece

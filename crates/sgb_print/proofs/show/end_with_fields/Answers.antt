@@ -1,6 +1,6 @@
 use Rattle.std.proofs.Common.{refl}
 use Rattle.sgb_print.specs.Show.{field_text}
-use Rattle.sgb_print.proofs.Printing.{prints_all, prints_behind, fails_early, writes_piece, fails_piece, item_and_rest, no_rest}
+use Rattle.sgb_print.proofs.TextPieces.{prints_all, prints_behind, fails_early, writes_piece, fails_piece, item_and_rest, no_rest}
 use Rattle.sgb_print.proofs.show.end_with_fields.Goals as goal
 
 pub returns-in_err-print_field : goal.returns-in_err-print_field

@@ -1,7 +1,7 @@
 use Rattle.std.proofs.Common.{drop}
 use Rattle.std.specs.List.{flat_map}
 use Rattle.sgb_print.specs.Show.{field_text}
-use Rattle.sgb_print.proofs.Printing.{Writes}
+use Rattle.sgb_print.proofs.TextPieces.{Writes}
 use Rattle.sgb_print.proofs.show.end_with_fields.Given as goal
 
 abbrev pub invariant-loop-name : goal.invariant-loop-name

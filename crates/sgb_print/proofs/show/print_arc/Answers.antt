@@ -1,7 +1,7 @@
 use Rattle.std.proofs.Common.{sym, ◌∙◌, append-nil}
 use Rattle.sgb_graph.specs.Edit.{entry_at, util_at}
-use Rattle.sgb_print.proofs.Printing.{prints_behind, fails_early}
-use Rattle.sgb_print.proofs.Showing.{zeros_end}
+use Rattle.sgb_print.proofs.TextPieces.{prints_behind, fails_early}
+use Rattle.sgb_print.proofs.GraphPieces.{zeros_end}
 use Rattle.sgb_print.proofs.show.print_arc.Goals as goal
 
 pub returns-then-are_zeros : goal.returns-then-are_zeros

@@ -2,7 +2,7 @@ use Rattle.std.proofs.Common.{◌<◌, All, IsSome, ap, subst}
 use Rattle.std.proofs.lemmas.List.Elements.{All-tail}
 use Rattle.sgb_graph.specs.Graph.{arc_at, made_of}
 use Rattle.sgb_print.specs.Show.{arcs_text}
-use Rattle.sgb_print.proofs.Printing.{writes_piece, fails_piece}
+use Rattle.sgb_print.proofs.TextPieces.{writes_piece, fails_piece}
 use Rattle.sgb_print.proofs.show.print_arcs.Goals as goal
 
 pub loop-number-preserved : goal.loop-number-preserved

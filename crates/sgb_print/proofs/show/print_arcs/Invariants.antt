@@ -1,7 +1,7 @@
 use Rattle.std.proofs.Common.{◌<◌, All, IsSome}
 use Rattle.sgb_graph.specs.Graph.{arcs_of, arc_at, made_of}
 use Rattle.sgb_print.specs.Show.{arcs_text}
-use Rattle.sgb_print.proofs.Printing.{Writes}
+use Rattle.sgb_print.proofs.TextPieces.{Writes}
 use Rattle.sgb_print.proofs.show.print_arcs.Given as goal
 
 abbrev pub invariant-loop-number : goal.invariant-loop-number

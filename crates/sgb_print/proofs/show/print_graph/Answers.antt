@@ -1,5 +1,5 @@
 use Rattle.sgb_print.specs.Show.{graph_text}
-use Rattle.sgb_print.proofs.Printing.{fails_early, prints_behind}
+use Rattle.sgb_print.proofs.TextPieces.{fails_early, prints_behind}
 use Rattle.sgb_print.proofs.show.print_graph.Goals as goal
 
 pub returns-in_err-print_header : goal.returns-in_err-print_header

@@ -1,7 +1,7 @@
 use Rattle.std.proofs.Common.{sym, ◌∙◌}
 use Rattle.sgb_graph.specs.Edit.{util_at}
-use Rattle.sgb_print.proofs.Printing.{prints_none, prints_same, prints_behind, fails_early}
-use Rattle.sgb_print.proofs.Showing.{without_fields, with_fields}
+use Rattle.sgb_print.proofs.TextPieces.{prints_none, prints_same, prints_behind, fails_early}
+use Rattle.sgb_print.proofs.GraphPieces.{without_fields, with_fields}
 use Rattle.sgb_print.proofs.show.print_graph_fields.Goals as goal
 
 pub returns-then-are_zeros : goal.returns-then-are_zeros

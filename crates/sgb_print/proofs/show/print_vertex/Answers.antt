@@ -1,4 +1,4 @@
-use Rattle.sgb_print.proofs.Printing.{fails_early, prints_behind}
+use Rattle.sgb_print.proofs.TextPieces.{fails_early, prints_behind}
 use Rattle.sgb_print.proofs.show.print_vertex.Goals as goal
 
 pub returns-in_err-print_vertex_line : goal.returns-in_err-print_vertex_line

@@ -1,5 +1,5 @@
 use Rattle.sgb_graph.specs.Edit.{util_at}
-use Rattle.sgb_print.proofs.Printing.{fails_early, prints_behind}
+use Rattle.sgb_print.proofs.TextPieces.{fails_early, prints_behind}
 use Rattle.sgb_print.proofs.show.print_vertex_line.Goals as goal
 
 pub returns-in_err-print_vertex_head : goal.returns-in_err-print_vertex_head

@@ -1,7 +1,7 @@
 use Rattle.std.proofs.Common.{arith}
 use Rattle.sgb_graph.specs.Graph.{n_of}
 use Rattle.sgb_print.specs.Show.{vertex_text}
-use Rattle.sgb_print.proofs.Printing.{prints_all, writes_piece, fails_piece, number_and_rest, no_number}
+use Rattle.sgb_print.proofs.TextPieces.{prints_all, writes_piece, fails_piece, number_and_rest, no_number}
 use Rattle.sgb_print.proofs.show.print_vertices.Goals as goal
 
 pub returns-in_err-print_vertex : goal.returns-in_err-print_vertex

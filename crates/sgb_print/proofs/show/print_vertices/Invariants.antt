@@ -2,7 +2,7 @@ use Rattle.std.proofs.Common.{drop}
 use Rattle.std.specs.List.{flat_map, range_with_len}
 use Rattle.sgb_graph.specs.Graph.{n_of}
 use Rattle.sgb_print.specs.Show.{vertex_text}
-use Rattle.sgb_print.proofs.Printing.{Writes}
+use Rattle.sgb_print.proofs.TextPieces.{Writes}
 use Rattle.sgb_print.proofs.show.print_vertices.Given as goal
 
 abbrev pub invariant-loop-v : goal.invariant-loop-v

@@ -1,7 +1,7 @@
 use Rattle.std.proofs.Common.{ap}
-use Rattle.sgb_print.proofs.Printing.{prints_failed, prints_same}
+use Rattle.sgb_print.proofs.TextPieces.{prints_failed, prints_same}
 use Rattle.sgb_programs.specs.Checked.{told_of}
-use Rattle.sgb_programs.proofs.Telling.{refused_by}
+use Rattle.sgb_programs.proofs.CheckOutput.{refused_by}
 use Rattle.sgb_programs.proofs.checking.check_metered.Goals as goal
 
 pub returns : goal.returns

@@ -2,8 +2,8 @@ use Rattle.std.proofs.Common.{◌≡◌, ◌∙◌, ◌+◌, ◌++◌, [], ◌�
 use Rattle.std.proofs.KnownBytes.{Consumes-trans}
 use Rattle.std.proofs.lemmas.List.{length-take-le}
 use Rattle.std.specs.Io.KnownBytes.{Consumes}
-use Rattle.sgb_print.proofs.Printing.{or-false}
-use Rattle.sgb_programs.proofs.Reading.{one_byte}
+use Rattle.sgb_print.proofs.TextPieces.{or-false}
+use Rattle.sgb_programs.proofs.FileReads.{one_byte}
 use Rattle.sgb_programs.proofs.file.read_file.Goals as goal
 
 pub returns-then-is_err : goal.returns-then-is_err

@@ -1,4 +1,4 @@
-use Rattle.sgb_programs.proofs.Reading.{Reading}
+use Rattle.sgb_programs.proofs.FileReads.{Reading}
 use Rattle.sgb_programs.proofs.file.read_file.Given as goal
 
 abbrev pub invariant-loop-room : goal.invariant-loop-room

@@ -1,7 +1,7 @@
 use Rattle.std.proofs.Common.{◌<◌, All, IsSome, ap, subst}
 use Rattle.std.proofs.lemmas.List.Elements.{All-tail}
 use Rattle.sgb_graph.specs.Graph.{arc_at, made_of}
-use Rattle.sgb_print.proofs.Printing.{writes_piece, fails_piece}
+use Rattle.sgb_print.proofs.TextPieces.{writes_piece, fails_piece}
 use Rattle.sgb_programs.specs.Queen.{moves_text}
 use Rattle.sgb_programs.proofs.moves.print_moves.Goals as goal
 

@@ -1,6 +1,6 @@
 use Rattle.std.proofs.Common.{◌<◌, All, IsSome}
 use Rattle.sgb_graph.specs.Graph.{arcs_of, arc_at, made_of}
-use Rattle.sgb_print.proofs.Printing.{Writes}
+use Rattle.sgb_print.proofs.TextPieces.{Writes}
 use Rattle.sgb_programs.specs.Queen.{moves_text}
 use Rattle.sgb_programs.proofs.moves.print_moves.Given as goal
 

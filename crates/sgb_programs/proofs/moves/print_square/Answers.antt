@@ -1,4 +1,4 @@
-use Rattle.sgb_print.proofs.Printing.{fails_early, prints_behind}
+use Rattle.sgb_print.proofs.TextPieces.{fails_early, prints_behind}
 use Rattle.sgb_programs.proofs.moves.print_square.Goals as goal
 
 pub returns-in_err-put_all : goal.returns-in_err-put_all

@@ -1,4 +1,4 @@
-use Rattle.sgb_print.proofs.Printing.{prints_failed}
+use Rattle.sgb_print.proofs.TextPieces.{prints_failed}
 use Rattle.sgb_programs.proofs.Queens.{queen_prints}
 use Rattle.sgb_programs.proofs.moves.queen_metered.Goals as goal
 

@@ -1,7 +1,7 @@
 use Rattle.std.proofs.Common.{◌≡◌, ◌∙◌, ap, refl, length, take, drop, arith, is_some}
 use Rattle.sgb_graph.specs.Edit.{entry_at}
 use Rattle.sgb_graph.specs.Honest.{arc_letters}
-use Rattle.sgb_text.proofs.Listing.{when_ok}
+use Rattle.sgb_text.proofs.RecordLists.{when_ok}
 use Rattle.sgb_text.proofs.Links.{next_is}
 use Rattle.sgb_text.proofs.Entries.{when_if, entry_there, entry_absent, len_is, live_record, hole_record, live_dirt}
 use Rattle.sgb_text.proofs.records.put_arc.Goals as goal

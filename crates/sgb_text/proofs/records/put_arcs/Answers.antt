@@ -5,7 +5,7 @@ use Rattle.sgb_graph.specs.Graph.{made_of}
 use Rattle.sgb_text.specs.Clean.{clean_of, dirt_in_entry}
 use Rattle.sgb_text.specs.Save.{arc_record}
 use Rattle.sgb_text.specs.Private.Page.{with_line}
-use Rattle.sgb_text.proofs.Listing.{lists_one, listed_page}
+use Rattle.sgb_text.proofs.RecordLists.{lists_one, listed_page}
 use Rattle.sgb_text.proofs.records.put_arcs.Goals as goal
 
 pub arcs-preserved : goal.arcs-preserved

@@ -2,7 +2,7 @@ use Rattle.std.proofs.Common.{refl, ap, w64}
 use Rattle.std.specs.Fmt.{signed_decimal}
 use Rattle.std.proofs.lemmas.Int.{to_z-of_z}
 use Rattle.sgb_text.specs.Save.{link_text, tip_text}
-use Rattle.sgb_text.proofs.Listing.{record_of_three, when_ok}
+use Rattle.sgb_text.proofs.RecordLists.{record_of_three, when_ok}
 use Rattle.sgb_text.proofs.records.put_entry.Goals as goal
 
 pub returns-clause-record : goal.returns-clause-record

@@ -4,8 +4,8 @@ use Rattle.sgb_graph.specs.Graph.{n_of, m_of}
 use Rattle.sgb_graph.specs.Honest.{graph_letters}
 use Rattle.sgb_text.specs.Save.{quoted}
 use Rattle.sgb_text.specs.Private.Page.{with_record}
-use Rattle.sgb_text.proofs.Listing.{record_of_three, when_ok}
-use Rattle.sgb_text.proofs.Cleaning.{own_clean}
+use Rattle.sgb_text.proofs.RecordLists.{record_of_three, when_ok}
+use Rattle.sgb_text.proofs.CleanGraphs.{own_clean}
 use Rattle.sgb_text.proofs.records.put_own.Goals as goal
 
 pub returns-clause-record : goal.returns-clause-record

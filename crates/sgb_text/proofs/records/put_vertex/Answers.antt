@@ -4,7 +4,7 @@ use Rattle.sgb_graph.specs.Honest.{vertex_letters}
 use Rattle.sgb_graph.specs.Read.{first_of}
 use Rattle.sgb_text.specs.Clean.{clean_vertex}
 use Rattle.sgb_text.specs.Save.{quoted, link_text, vertex_items, vertex_record}
-use Rattle.sgb_text.proofs.Listing.{record_of_two, record_line, when_ok}
+use Rattle.sgb_text.proofs.RecordLists.{record_of_two, record_line, when_ok}
 use Rattle.sgb_text.proofs.Entries.{first_read, vertex_six}
 use Rattle.sgb_text.proofs.records.put_vertex.Goals as goal
 

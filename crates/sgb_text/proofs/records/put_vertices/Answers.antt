@@ -4,8 +4,8 @@ use Rattle.sgb_graph.specs.Honest.{vertex_letters}
 use Rattle.sgb_text.specs.Clean.{clean_of, dirt_in}
 use Rattle.sgb_text.specs.Save.{vertex_record}
 use Rattle.sgb_text.specs.Private.Page.{with_line}
-use Rattle.sgb_text.proofs.Cleaning.{n_clean}
-use Rattle.sgb_text.proofs.Listing.{lists_one, listed_page}
+use Rattle.sgb_text.proofs.CleanGraphs.{n_clean}
+use Rattle.sgb_text.proofs.RecordLists.{lists_one, listed_page}
 use Rattle.sgb_text.proofs.Entries.{first_vertex}
 use Rattle.sgb_text.proofs.records.put_vertices.Goals as goal
 

@@ -1,7 +1,7 @@
 use Rattle.sgb_graph.specs.Honest.{vertex_letters}
 use Rattle.sgb_text.specs.Clean.{clean_of, dirt_in}
 use Rattle.sgb_text.specs.Save.{vertex_record}
-use Rattle.sgb_text.proofs.Listing.{Listing}
+use Rattle.sgb_text.proofs.RecordLists.{Listing}
 use Rattle.sgb_text.proofs.records.put_vertices.Given as goal
 
 abbrev pub invariant-vertices : goal.invariant-vertices

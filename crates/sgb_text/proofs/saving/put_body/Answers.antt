@@ -1,4 +1,4 @@
-use Rattle.sgb_text.proofs.Bodies.{body_pages, dirt_parts}
+use Rattle.sgb_text.proofs.TextBody.{body_pages, dirt_parts}
 use Rattle.sgb_text.proofs.saving.put_body.Goals as goal
 
 pub returns-clause-records : goal.returns-clause-records

@@ -1,6 +1,6 @@
 use Rattle.std.proofs.Common.{◌∙◌}
-use Rattle.sgb_text.proofs.Cleaning.{header_clean}
-use Rattle.sgb_text.proofs.Listing.{when_ok}
+use Rattle.sgb_text.proofs.CleanGraphs.{header_clean}
+use Rattle.sgb_text.proofs.RecordLists.{when_ok}
 use Rattle.sgb_text.proofs.saving.put_header.Goals as goal
 
 pub returns : goal.returns

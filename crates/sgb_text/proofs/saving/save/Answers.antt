@@ -1,6 +1,6 @@
 use Rattle.std.proofs.Common.{◌∙◌, ap, drop, length}
 use Rattle.sgb_text.specs.Clean.{clean_of}
-use Rattle.sgb_text.proofs.Bodies.{body_behind, text_pages}
+use Rattle.sgb_text.proofs.TextBody.{body_behind, text_pages}
 use Rattle.sgb_text.proofs.saving.save.Goals as goal
 
 pub returns-clause-text : goal.returns-clause-text

@@ -1,6 +1,6 @@
 use Rattle.sgb_text.specs.Clean.{clean_of}
 use Rattle.sgb_text.proofs.CleanSound.{clean_is_sound, clean_is_honest}
-use Rattle.sgb_text.proofs.Whole.{reads_back}
+use Rattle.sgb_text.proofs.WholeTexts.{reads_back}
 use Rattle.sgb_text.proofs.saving.texts_read_back.Goals as goal
 
 pub returns-clause-cleaned : goal.returns-clause-cleaned

@@ -1,4 +1,4 @@
-use Rattle.sgb_undo.proofs.Performing.{fold-all, deltas_of-all}
+use Rattle.sgb_undo.proofs.GroupSteps.{fold-all, deltas_of-all}
 use Rattle.sgb_undo.proofs.group.group_law.Goals as goal
 
 pub returns-clause-value : goal.returns-clause-value

@@ -1,5 +1,5 @@
 use Rattle.std.proofs.Common.{rules, ◌≡◌, ◌<◌, true, sym, arith, length}
-use Rattle.sgb_undo.proofs.Performing.{IsPerformed-more, refused-more}
+use Rattle.sgb_undo.proofs.GroupSteps.{IsPerformed-more, refused-more}
 use Rattle.sgb_undo.proofs.group.perform_each.Goals as goal
 
 pub returns-in_err-delta-clause-refused : goal.returns-in_err-delta-clause-refused

@@ -1,5 +1,5 @@
 use Rattle.std.proofs.Common.{◌∙◌}
-use Rattle.sgb_undo.proofs.Performing.{revertible-last, revertible-front, start_of-last}
+use Rattle.sgb_undo.proofs.GroupSteps.{revertible-last, revertible-front, start_of-last}
 use Rattle.sgb_undo.proofs.group.revert_all.Goals as goal
 
 pub revert-requires : goal.revert-requires

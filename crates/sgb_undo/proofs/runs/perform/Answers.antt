@@ -2,7 +2,7 @@ use Rattle.std.proofs.Common.{◌≡◌, true, sym, subst}
 use Rattle.std.specs.Bool.{OnTrue}
 use Rattle.std.proofs.lemmas.Result.{on_ok_weaker}
 use Rattle.sgb_undo.specs.Events.{lists_of, after}
-use Rattle.sgb_undo.proofs.Turns.{OnTrue-is_ok, lists_of-undo, apply-may, undo-may, redo-may, right-sound}
+use Rattle.sgb_undo.proofs.EventSteps.{OnTrue-is_ok, lists_of-undo, apply-may, undo-may, redo-may, right-sound}
 use Rattle.sgb_undo.proofs.runs.perform.Goals as goal
 
 pub returns-in-Undo-clause-accepted : goal.returns-in-Undo-clause-accepted

@@ -1,6 +1,6 @@
 use Rattle.std.proofs.Common.{arith}
 use Rattle.std.specs.Vec.Iter.{into_iter_items}
-use Rattle.sgb_undo.proofs.Turns.{lists-turn, answered-turn, length-turn, rest-turn, start-turn}
+use Rattle.sgb_undo.proofs.EventSteps.{lists-turn, answered-turn, length-turn, rest-turn, start-turn}
 use Rattle.sgb_undo.proofs.runs.perform_all.Goals as goal
 
 pub loop-event-preserved : goal.loop-event-preserved

@@ -1,6 +1,6 @@
 use Rattle.std.proofs.Common.{◌≡◌, ◌<◌, [], ◌∷◌, ◌++◌, refl, sym, ap, ◌∙◌, arith, rules, length, take, vec_len, vec_capacity}
 use Rattle.sgb_undo.specs.Private.Kept.{places}
-use Rattle.sgb_undo.proofs.Keeping.{Answers, commands-apply, IsJournal-seen, IsJournal-same, length-deltas, length-standing, IsSound-apply, Applies-sound, places-same}
+use Rattle.sgb_undo.proofs.JournalLists.{Answers, commands-apply, IsJournal-seen, IsJournal-same, length-deltas, length-standing, IsSound-apply, Applies-sound, places-same}
 use Rattle.sgb_undo.proofs.journal.Journal.apply.Given.{Over}
 use Rattle.sgb_undo.proofs.journal.Journal.apply.Goals as goal
 use Rattle.sgb_undo.proofs.journal.Journal.apply.Goals.{After-push_reserved-in-Ok}

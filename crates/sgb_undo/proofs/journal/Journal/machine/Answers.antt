@@ -1,4 +1,4 @@
-use Rattle.sgb_undo.proofs.Keeping.{IsJournal-seen}
+use Rattle.sgb_undo.proofs.JournalLists.{IsJournal-seen}
 use Rattle.sgb_undo.proofs.journal.Journal.machine.Goals as goal
 
 pub returns-clause-sound : goal.returns-clause-sound

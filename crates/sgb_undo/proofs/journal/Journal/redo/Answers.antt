@@ -1,6 +1,6 @@
 use Rattle.std.proofs.Common.{◌≡◌, ◌<◌, refl, sym, ap, ◌∙◌, arith, length, get_or, vec_len, vec_capacity, inl, inr}
 use Rattle.sgb_undo.specs.Private.Kept.{places}
-use Rattle.sgb_undo.proofs.Keeping.{Answers, IsJournal-seen, IsJournal-same, length-deltas, undone-some, undone-accepted, FirstMayWant-waits, IsSound-redo, Redoes-sound}
+use Rattle.sgb_undo.proofs.JournalLists.{Answers, IsJournal-seen, IsJournal-same, length-deltas, undone-some, undone-accepted, FirstMayWant-waits, IsSound-redo, Redoes-sound}
 use Rattle.sgb_undo.proofs.journal.Journal.redo.Given.{Over}
 use Rattle.sgb_undo.proofs.journal.Journal.redo.Goals as goal
 use Rattle.sgb_undo.proofs.journal.Journal.redo.Goals.{After-push_reserved, In-Err}

@@ -1,5 +1,5 @@
 use Rattle.std.proofs.Common.{sym, ◌∙◌}
-use Rattle.sgb_undo.proofs.Keeping.{IsJournal-seen, length-standing}
+use Rattle.sgb_undo.proofs.JournalLists.{IsJournal-seen, length-standing}
 use Rattle.sgb_undo.proofs.journal.Journal.standing.Goals as goal
 
 pub returns-clause-value : goal.returns-clause-value

@@ -1,6 +1,6 @@
 use Rattle.std.proofs.Common.{ap, refl, vec_capacity}
 use Rattle.sgb_undo.specs.Private.Kept.{places}
-use Rattle.sgb_undo.proofs.Keeping.{IsJournal-seen, can_revert-last, IsSound-undo, Undoes-sound}
+use Rattle.sgb_undo.proofs.JournalLists.{IsJournal-seen, can_revert-last, IsSound-undo, Undoes-sound}
 use Rattle.sgb_undo.proofs.journal.Journal.undo.Goals as goal
 use Rattle.sgb_undo.proofs.journal.Journal.undo.Goals.{After-revert}
 

@@ -1,5 +1,5 @@
 use Rattle.std.proofs.Common.{arith}
-use Rattle.sgb_undo.proofs.Keeping.{IsJournal-seen, length-deltas, length-undone}
+use Rattle.sgb_undo.proofs.JournalLists.{IsJournal-seen, length-deltas, length-undone}
 use Rattle.sgb_undo.proofs.journal.Journal.undone.Goals as goal
 
 pub overflow_sub-result : goal.overflow_sub-result

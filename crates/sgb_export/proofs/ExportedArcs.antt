@@ -9,7 +9,7 @@ use Rattle.sgb_export.specs.declared.link.Link.{Link}
 use Rattle.sgb_export.specs.declared.format.Format.{Format}
 use Rattle.sgb_export.specs.Links.{link, is_written, links_at, is_even}
 use Rattle.sgb_export.specs.Text.{link_text, links_text}
-use Rattle.sgb_print.proofs.Printing.{number_and_rest}
+use Rattle.sgb_print.proofs.TextPieces.{number_and_rest}
 
 -- what is written of the numbers of a list
 abbrev pub written : Bool → GraphOf → ℕ → List ℕ → List Link

@@ -13,7 +13,7 @@ use Rattle.sgb_grammar.specs.Number.{digits_in, digits_at, count_of, count_at, p
 use Rattle.sgb_grammar.specs.String.{inside_at, within, text_at}
 use Rattle.sgb_grammar.specs.Spelled.{Inside, ended, byte, broken, Quoted, Digits, Count, Number}
 use Rattle.sgb_grammar.proofs.Words.{after_is, after-sound}
-use Rattle.sgb_grammar.proofs.Insides.{text_byte, text_is, short}
+use Rattle.sgb_grammar.proofs.QuotedRuns.{text_byte, text_is, short}
 
 -- ---- what an option came from
 

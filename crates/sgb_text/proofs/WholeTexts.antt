@@ -25,9 +25,9 @@ use Rattle.sgb_text.specs.Restore.{Accepted, passes, IsReadAsOne, IsRefusedForRo
 use Rattle.sgb_text.specs.Layout.{laid}
 use Rattle.sgb_text.specs.Save.{own_items, vertex_record, arc_record, next_link, entry_items, hole, header_of, body_of, check_line, text_of, IsReadBack}
 use Rattle.sgb_text.proofs.Digits.{count_spelled, number_spelled}
-use Rattle.sgb_text.proofs.Reading.{then_read}
-use Rattle.sgb_text.proofs.FieldReading.{raws}
-use Rattle.sgb_text.proofs.RecordReading.{Fields, vertex_part_of, vertex_read, arc_read, own_read, each_read, IsRecord}
+use Rattle.sgb_text.proofs.ItemLayout.{then_read}
+use Rattle.sgb_text.proofs.FieldItems.{raws}
+use Rattle.sgb_text.proofs.RecordLayout.{Fields, vertex_part_of, vertex_read, arc_read, own_read, each_read, IsRecord}
 use Rattle.sgb_text.proofs.Sound.{own_fields, vertex_fields, vertex_sound, arc_fields, arc_sound, arc_tip, first_good, next_good, hole_fields}
 use Rattle.sgb_text.proofs.Builds.{entry_part, number_part, arc_parts, vertex_parts, builds}
 use Rattle.sgb_text.proofs.Fields.{get_or_any}

@@ -19,8 +19,8 @@ use Rattle.sgb_grammar.specs.Field.{comma_at, link_at, tip_at, fields_at}
 use Rattle.sgb_grammar.specs.Record.{newline_at, own_at, vertex_at as vertex_in_text, arc_at as arc_in_text}
 use Rattle.sgb_text.specs.Layout.{column_behind, laid}
 use Rattle.sgb_text.specs.Save.{quoted, link_text, tip_text, field_items, own_items, arc_items, vertex_record}
-use Rattle.sgb_text.proofs.Reading.{item_of, from_item, behind_item, then_read, text_item, count_item, number_item, comma_item, first_item, starts_count, starts_number}
-use Rattle.sgb_text.proofs.FieldReading.{IsGood, IsGoodLink, IsGoodTip, raws, fields_read, link_item, tip_item, link_starts}
+use Rattle.sgb_text.proofs.ItemLayout.{item_of, from_item, behind_item, then_read, text_item, count_item, number_item, comma_item, first_item, starts_count, starts_number}
+use Rattle.sgb_text.proofs.FieldItems.{IsGood, IsGoodLink, IsGoodTip, raws, fields_read, link_item, tip_item, link_starts}
 
 -- fields that are read as they stand
 pub record Fields (ls : List ℕ) (us : List Util) : Type 0 where

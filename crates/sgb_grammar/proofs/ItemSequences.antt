@@ -1,16 +1,12 @@
 -- Items read one by one.
-use Rattle.std.proofs.Common.{◌≡◌, ℕ, suc, ◌+◌, ◌-◌, ◌<◌, ◌≤◌, List, [], ◌∷◌, ◌++◌, take, drop, length, get_or, replicate, Option, Some, None, refl, sym, ap, ◌∙◌, arith, set, inl, inr, Result, Ok, Err, true, false, ◌==◌}
+use Rattle.std.proofs.Common.{◌≡◌, ℕ, suc, ◌+◌, ◌-◌, ◌<◌, ◌≤◌, List, [], ◌∷◌, ◌++◌, take, drop, length, get_or, replicate, Option, Some, None, refl, sym, ap, ◌∙◌, arith, set, inl, inr, Result, Ok, Err, false}
 use Rattle.std.specs.Result.{is_err, OnOk}
-use Rattle.std.specs.List.{list_all}
-use Rattle.std.proofs.lemmas.Bool.{and_parts, eqb-true, true≢false}
+use Rattle.std.proofs.lemmas.Bool.{true≢false}
 use Rattle.std.proofs.Math.Seq.{drop-cons, take-suc-set}
 use Rattle.std.proofs.lemmas.List.{append-nil, drop_all, take_all}
 use Rattle.sgb_grammar.specs.declared.fault.Fault.{Fault}
-use Rattle.sgb_graph.specs.declared.field.Util.{Util}
-use Rattle.sgb_graph.specs.declared.field.Util.TheVariants.{Zero}
-use Rattle.sgb_grammar.specs.Field.{field_at, fields_at}
 use Rattle.sgb_grammar.specs.Reading.{behind, each_at, Fails}
-use Rattle.sgb_grammar.proofs.Insides.{behind_both}
+use Rattle.sgb_grammar.proofs.QuotedRuns.{behind_both}
 
 pub each_some : {A B : Type 0} (item : A → List ℕ → Option (B × List ℕ)) (k : A) (ks : List A) (bs rest : List ℕ) (x : B) → item k bs ≡ Some (x, rest) → each_at item (k ∷ ks) bs ≡ behind (x ∷ []) (each_at item ks rest)
 unfolding each_at
@@ -77,23 +73,6 @@ kind_all item ks i bs ys h l =
     ap (λ js. behind (take i ys) (each_at item js bs)) (drop_all i ks h)
     ∙ ap (λ zs. behind zs (each_at item [] bs)) (take_all i ys l)
     ∙ each_end item bs ys
-
--- ---- fields of which none is written
-
-zero_behind : (bs : List ℕ) (xs : List Util) → behind (Zero ∷ []) (Some (xs, bs)) ≡ Some (Zero ∷ xs, bs)
-zero_behind bs xs = refl
-
-unwritten_first : (bs : List ℕ) → field_at 90 bs ≡ Some (Zero, bs)
-unfolding field_at
-unwritten_first bs = refl
-
-pub unwritten : (letters bs : List ℕ) → list_all (λ l. l == 90) letters ≡ true → fields_at letters bs ≡ Some (replicate (length letters) Zero, bs)
-unfolding each_at
-unwritten [] bs e = refl
-unwritten (l ∷ ls) bs e =
-    let both = and_parts (l == 90) (list_all (λ k. k == 90) ls) e in
-    let first : field_at l bs ≡ Some (Zero, bs) = ap (λ k. field_at k bs) (eqb-true l 90 both.0) ∙ unwritten_first bs in
-    each_some field_at l ls bs bs Zero first ∙ ap (behind (Zero ∷ [])) (unwritten ls bs both.1)
 
 -- ---- a fault of a part is one of the whole
 

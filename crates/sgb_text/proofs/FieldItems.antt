@@ -22,7 +22,7 @@ use Rattle.sgb_grammar.specs.Field.{index_at, link_at, tip_at, vertex_value_at, 
 use Rattle.sgb_text.specs.Layout.{column_behind}
 use Rattle.sgb_text.specs.Save.{quoted, link_text, tip_text, value_text, field_item, field_items}
 use Rattle.sgb_text.proofs.Digits.{index_spelled, decimal_short}
-use Rattle.sgb_text.proofs.Reading.{item_of, from_item, behind_item, IsRead, then_read, read_as, short_item, number_item, text_item, comma_item, Starts, starts_quoted, starts_number}
+use Rattle.sgb_text.proofs.ItemLayout.{item_of, from_item, behind_item, IsRead, then_read, read_as, short_item, number_item, text_item, comma_item, Starts, starts_quoted, starts_number}
 
 -- a value whose text fits: what it names has a place in 32 bits
 abbrev pub IsGood : Util → Type 0

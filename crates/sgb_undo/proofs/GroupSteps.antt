@@ -5,7 +5,7 @@ use Rattle.sgb_undo.specs.Outcome.{Outcome, Accepted, Refused, on_accepted}
 use Rattle.sgb_undo.specs.Replay.{fold, deltas_of, start_of}
 use Rattle.sgb_undo.specs.Group.{led_by, followed, step_all, any_may_want, CanRevertAll}
 use Rattle.sgb_undo.specs.Private.Performed.{IsPerformed}
-use Rattle.sgb_undo.proofs.Keeping.{start_of-push}
+use Rattle.sgb_undo.proofs.JournalLists.{start_of-push}
 
 or_true : (b : Bool) → (b || true) ≡ true
 or_true true = refl

@@ -9,8 +9,8 @@ use Rattle.sgb_text.specs.Layout.{laid}
 use Rattle.sgb_text.specs.Clean.{clean_of, dirt_in, dirt_in_entry, dirt_of}
 use Rattle.sgb_text.specs.Save.{own_items, vertex_record, arc_record, header_of, body_of, check_line, text_of}
 use Rattle.sgb_text.specs.Private.Page.{PageOf, with_line, with_record}
-use Rattle.sgb_text.proofs.Cleaning.{made_clean, types_clean}
-use Rattle.sgb_text.proofs.Listing.{record_line}
+use Rattle.sgb_text.proofs.CleanGraphs.{made_clean, types_clean}
+use Rattle.sgb_text.proofs.RecordLists.{record_line}
 
 four_pieces : (a b c d e f : List ℕ) → ((((a ++ b) ++ c) ++ d) ++ e) ++ f ≡ a ++ (b ++ (c ++ (d ++ (e ++ f))))
 four_pieces a b c d e f = simp append_assoc
