@@ -1,5 +1,5 @@
 mod CommandLemmas
 mod Digits
 mod Names
-mod Splitting
+mod WordSplits
 mod Texts

@@ -6,7 +6,7 @@ use Rattle.std.proofs.lemmas.List.Folds.{list_all-append}
 use Rattle.sgb_graph.specs.Text.{IsText, is_text_byte}
 use Rattle.sgb_script.specs.Words.{is_quotable}
 use Rattle.sgb_script.specs.Line.{is_printable_byte}
-use Rattle.sgb_script.proofs.Splitting.{take-one_more}
+use Rattle.sgb_script.proofs.WordSplits.{take-one_more}
 
 parts : (n : ℕ) (xs : List ℕ) → list_all is_printable_byte xs ≡ true → (list_all is_printable_byte (take n xs) ≡ true) × (list_all is_printable_byte (drop n xs) ≡ true)
 parts n xs all =

@@ -40,7 +40,6 @@ impl<'a> Words<'a> {
         }
     }
 
-    /// The name of a graph.
     pub(crate) fn name(&mut self) -> Result<Name, ShellRefusal>
         ensures { Takes the_name self.old result self.new }
     {
@@ -68,14 +67,12 @@ impl<'a> Words<'a> {
         bits(self.plain()?).ok_or(ShellRefusal::ScriptSyntax)
     }
 
-    /// The number of a vertex.
     pub(crate) fn vertex(&mut self) -> Result<VertexNo, ShellRefusal>
         ensures { Takes the_vertex self.old result self.new }
     {
         Ok(VertexNo(in_32_bits(self.number()?)))
     }
 
-    /// The number of an arc.
     pub(crate) fn arc(&mut self) -> Result<ArcNo, ShellRefusal>
         ensures { Takes the_arc self.old result self.new }
     {

@@ -11,47 +11,38 @@ use crate::words::Words;
 use sgb_combine::LengthsSpec;
 use std::alloc::Global;
 
-#[inline(never)]
 pub(crate) fn arc(words: &mut Words<'_>) -> Result<Line, ShellRefusal>
     ensures { Reads (option_and_then (line_of_command (codes "arc")) words.old) result }
 {
     let graph = words.name()?;
     let edit = Edit::Arc(words.vertex()?, words.vertex()?, words.number()?);
-    words.end()?;
-    Ok(Line::Change(Single::Edit(graph, edit)))
+    words.finish(Line::Change(Single::Edit(graph, edit)))
 }
 
-#[inline(never)]
 pub(crate) fn edge(words: &mut Words<'_>) -> Result<Line, ShellRefusal>
     ensures { Reads (option_and_then (line_of_command (codes "edge")) words.old) result }
 {
     let graph = words.name()?;
     let edit = Edit::Edge(words.vertex()?, words.vertex()?, words.number()?);
-    words.end()?;
-    Ok(Line::Change(Single::Edit(graph, edit)))
+    words.finish(Line::Change(Single::Edit(graph, edit)))
 }
 
-#[inline(never)]
 pub(crate) fn cut(words: &mut Words<'_>) -> Result<Line, ShellRefusal>
     ensures { Reads (option_and_then (line_of_command (codes "cut")) words.old) result }
 {
     let graph = words.name()?;
     let arc = words.arc()?;
-    words.end()?;
-    Ok(Line::Change(Single::Edit(graph, Edit::Cut(arc))))
+    words.finish(Line::Change(Single::Edit(graph, Edit::Cut(arc))))
 }
 
-#[inline(never)]
 pub(crate) fn len(words: &mut Words<'_>) -> Result<Line, ShellRefusal>
     ensures { Reads (option_and_then (line_of_command (codes "len")) words.old) result }
 {
     let graph = words.name()?;
     let edit = Edit::Len(words.arc()?, words.number()?);
-    words.end()?;
-    Ok(Line::Change(Single::Edit(graph, edit)))
+    words.finish(Line::Change(Single::Edit(graph, edit)))
 }
 
-#[inline(never)]
 pub(crate) fn set(alloc: Global, words: &mut Words<'_>) -> Result<Line, ShellRefusal>
     ensures { Reads (option_and_then (line_of_command (codes "set")) words.old) result }
 {
@@ -64,17 +55,14 @@ pub(crate) fn set(alloc: Global, words: &mut Words<'_>) -> Result<Line, ShellRef
     Ok(Line::Change(Single::Edit(graph, edit)))
 }
 
-#[inline(never)]
 pub(crate) fn types(words: &mut Words<'_>) -> Result<Line, ShellRefusal>
     ensures { Reads (option_and_then (line_of_command (codes "types")) words.old) result }
 {
     let graph = words.name()?;
     let types = words.letters()?;
-    words.end()?;
-    Ok(Line::Change(Single::Edit(graph, Edit::Types(types))))
+    words.finish(Line::Change(Single::Edit(graph, Edit::Types(types))))
 }
 
-#[inline(never)]
 pub(crate) fn label(alloc: Global, words: &mut Words<'_>) -> Result<Line, ShellRefusal>
     ensures { Reads (option_and_then (line_of_command (codes "label")) words.old) result }
 {
@@ -86,7 +74,6 @@ pub(crate) fn label(alloc: Global, words: &mut Words<'_>) -> Result<Line, ShellR
     Ok(Line::Change(Single::Edit(graph, edit)))
 }
 
-#[inline(never)]
 pub(crate) fn id(alloc: Global, words: &mut Words<'_>) -> Result<Line, ShellRefusal>
     ensures { Reads (option_and_then (line_of_command (codes "id")) words.old) result }
 {
@@ -97,7 +84,6 @@ pub(crate) fn id(alloc: Global, words: &mut Words<'_>) -> Result<Line, ShellRefu
     Ok(Line::Change(Single::Edit(graph, edit)))
 }
 
-#[inline(never)]
 pub(crate) fn lengths(words: &mut Words<'_>) -> Result<Line, ShellRefusal>
     ensures { Reads (option_and_then (line_of_command (codes "lengths")) words.old) result }
 {
@@ -108,15 +94,12 @@ pub(crate) fn lengths(words: &mut Words<'_>) -> Result<Line, ShellRefusal>
         max: words.number()?,
     };
     let seed = words.seed()?;
-    words.end()?;
-    Ok(Line::Change(Single::Lengths(graph, spec, seed)))
+    words.finish(Line::Change(Single::Lengths(graph, spec, seed)))
 }
 
-#[inline(never)]
 pub(crate) fn drop_graph(words: &mut Words<'_>) -> Result<Line, ShellRefusal>
     ensures { Reads (option_and_then (line_of_command (codes "drop")) words.old) result }
 {
     let graph = words.name()?;
-    words.end()?;
-    Ok(Line::Change(Single::Drop(graph)))
+    words.finish(Line::Change(Single::Drop(graph)))
 }

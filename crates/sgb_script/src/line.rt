@@ -12,7 +12,6 @@ use crate::refusal::ShellRefusal;
 use crate::words::Words;
 use crate::{edits, makers};
 use std::alloc::Global;
-use std::str::from_utf8;
 
 /// The most bytes of a line, not counting its newline.
 pub const LINE_LIMIT: usize = 8192;
@@ -49,125 +48,92 @@ fn line_of_words(alloc: Global, words: &mut Words<'_>) -> Result<Line, ShellRefu
     if words.is_empty() {
         return Ok(Line::Nothing);
     }
-    match from_utf8(words.plain()?) {
-        Ok(command) => line_of_command(alloc, command, words),
-        Err(_) => Err(ShellRefusal::ScriptSyntax),
-    }
+    let command = words.plain()?;
+    line_of_command(alloc, command, words)
 }
 
 // The line of this command, with the words behind it.
 #[inline(always)]
 fn line_of_command(
     alloc: Global,
-    command: &str,
+    command: &[u8],
     words: &mut Words<'_>,
 ) -> Result<Line, ShellRefusal>
     ensures { Reads (option_and_then (line_of_command command.now) words.old) result }
 {
     match command {
-        "seed" => seed(words),
-        "next" => {
-            words.end()?;
-            Ok(Line::Change(Single::Next))
-        }
-        "unif" => unif(words),
-        "gen" => {
-            words.end()?;
-            Ok(Line::Query(Query::Gen))
-        }
-        "undo" => {
-            words.end()?;
-            Ok(Line::Undo)
-        }
-        "redo" => {
-            words.end()?;
-            Ok(Line::Redo)
-        }
-        "group" => {
-            words.end()?;
-            Ok(Line::Group)
-        }
-        "end" => {
-            words.end()?;
-            Ok(Line::End)
-        }
-        "graph" => makers::empty(words),
-        "arc" => edits::arc(words),
-        "edge" => edits::edge(words),
-        "cut" => edits::cut(words),
-        "len" => edits::len(words),
-        "set" => edits::set(alloc, words),
-        "types" => edits::types(words),
-        "label" => edits::label(alloc, words),
-        "id" => edits::id(alloc, words),
-        "drop" => edits::drop_graph(words),
-        "list" => {
-            words.end()?;
-            Ok(Line::Query(Query::List))
-        }
-        "show" => show(words),
-        "board" => makers::board(words),
-        "simplex" => makers::simplex(words),
-        "subsets" => makers::subsets(words),
-        "perms" => makers::perms(words),
-        "binary" => makers::binary(words),
-        "random" => makers::random(words),
-        "lengths" => edits::lengths(words),
-        "complement" => makers::complement(words),
-        "gunion" => makers::gunion(words),
-        "intersection" => makers::intersection(words),
-        "product" => makers::product(words),
-        "induced" => makers::induced(alloc, words),
-        "save" => save(words),
-        "load" => load(words),
+        _ if command == b"seed".as_slice() => seed(words),
+        _ if command == b"next".as_slice() => words.finish(Line::Change(Single::Next)),
+        _ if command == b"unif".as_slice() => unif(words),
+        _ if command == b"gen".as_slice() => words.finish(Line::Query(Query::Gen)),
+        _ if command == b"undo".as_slice() => words.finish(Line::Undo),
+        _ if command == b"redo".as_slice() => words.finish(Line::Redo),
+        _ if command == b"group".as_slice() => words.finish(Line::Group),
+        _ if command == b"end".as_slice() => words.finish(Line::End),
+        _ if command == b"graph".as_slice() => makers::empty(words),
+        _ if command == b"arc".as_slice() => edits::arc(words),
+        _ if command == b"edge".as_slice() => edits::edge(words),
+        _ if command == b"cut".as_slice() => edits::cut(words),
+        _ if command == b"len".as_slice() => edits::len(words),
+        _ if command == b"set".as_slice() => edits::set(alloc, words),
+        _ if command == b"types".as_slice() => edits::types(words),
+        _ if command == b"label".as_slice() => edits::label(alloc, words),
+        _ if command == b"id".as_slice() => edits::id(alloc, words),
+        _ if command == b"drop".as_slice() => edits::drop_graph(words),
+        _ if command == b"list".as_slice() => words.finish(Line::Query(Query::List)),
+        _ if command == b"show".as_slice() => show(words),
+        _ if command == b"board".as_slice() => makers::board(words),
+        _ if command == b"simplex".as_slice() => makers::simplex(words),
+        _ if command == b"subsets".as_slice() => makers::subsets(words),
+        _ if command == b"perms".as_slice() => makers::perms(words),
+        _ if command == b"binary".as_slice() => makers::binary(words),
+        _ if command == b"random".as_slice() => makers::random(words),
+        _ if command == b"lengths".as_slice() => edits::lengths(words),
+        _ if command == b"complement".as_slice() => makers::complement(words),
+        _ if command == b"gunion".as_slice() => makers::gunion(words),
+        _ if command == b"intersection".as_slice() => makers::intersection(words),
+        _ if command == b"product".as_slice() => makers::product(words),
+        _ if command == b"induced".as_slice() => makers::induced(alloc, words),
+        _ if command == b"save".as_slice() => save(words),
+        _ if command == b"load".as_slice() => load(words),
         _ => Err(ShellRefusal::ScriptSyntax),
     }
 }
 
-#[inline(never)]
 fn seed(words: &mut Words<'_>) -> Result<Line, ShellRefusal>
     ensures { Reads (option_and_then (line_of_command (codes "seed")) words.old) result }
 {
     let seed = words.number()?;
-    words.end()?;
-    Ok(Line::Change(Single::Seed(seed)))
+    words.finish(Line::Change(Single::Seed(seed)))
 }
 
-#[inline(never)]
 fn unif(words: &mut Words<'_>) -> Result<Line, ShellRefusal>
     ensures { Reads (option_and_then (line_of_command (codes "unif")) words.old) result }
 {
     let bound = words.number()?;
-    words.end()?;
-    Ok(Line::Change(Single::Unif(bound)))
+    words.finish(Line::Change(Single::Unif(bound)))
 }
 
-#[inline(never)]
 fn show(words: &mut Words<'_>) -> Result<Line, ShellRefusal>
     ensures { Reads (option_and_then (line_of_command (codes "show")) words.old) result }
 {
     let graph = words.name()?;
-    words.end()?;
-    Ok(Line::Query(Query::Show(graph)))
+    words.finish(Line::Query(Query::Show(graph)))
 }
 
-#[inline(never)]
 fn save(words: &mut Words<'_>) -> Result<Line, ShellRefusal>
     ensures { Reads (option_and_then (line_of_command (codes "save")) words.old) result }
 {
     let graph = words.name()?;
-    words.end()?;
-    Ok(Line::Query(Query::Save(graph)))
+    words.finish(Line::Query(Query::Save(graph)))
 }
 
-#[inline(never)]
 fn load(words: &mut Words<'_>) -> Result<Line, ShellRefusal>
     ensures { Reads (option_and_then (line_of_command (codes "load")) words.old) result }
 {
     let name = words.name()?;
     let rule = words.rule()?;
-    words.end()?;
-    Ok(Line::Load { name, rule })
+    words.finish(Line::Load { name, rule })
 }
 
 fn is_comment(line: &[u8]) -> bool

@@ -12,17 +12,14 @@ use sgb_combine::{ComplementSpec, GunionSpec, InducedSpec, ProductSpec};
 use sgb_make::{BinarySpec, BoardSpec, PermsSpec, RandomSpec, SimplexSpec, SubsetsSpec};
 use std::alloc::Global;
 
-#[inline(never)]
 pub(crate) fn empty(words: &mut Words<'_>) -> Result<Line, ShellRefusal>
     ensures { Reads (option_and_then (line_of_command (codes "graph")) words.old) result }
 {
     let name = words.name()?;
     let count = words.number()?;
-    words.end()?;
-    Ok(Line::Change(Single::Make(name, Maker::Empty(count))))
+    words.finish(Line::Change(Single::Make(name, Maker::Empty(count))))
 }
 
-#[inline(never)]
 pub(crate) fn board(words: &mut Words<'_>) -> Result<Line, ShellRefusal>
     ensures { Reads (option_and_then (line_of_command (codes "board")) words.old) result }
 {
@@ -36,11 +33,9 @@ pub(crate) fn board(words: &mut Words<'_>) -> Result<Line, ShellRefusal>
         wrap: words.number()?,
         directed: words.flag()?,
     };
-    words.end()?;
-    Ok(Line::Change(Single::Make(name, Maker::Board(spec))))
+    words.finish(Line::Change(Single::Make(name, Maker::Board(spec))))
 }
 
-#[inline(never)]
 pub(crate) fn simplex(words: &mut Words<'_>) -> Result<Line, ShellRefusal>
     ensures { Reads (option_and_then (line_of_command (codes "simplex")) words.old) result }
 {
@@ -54,11 +49,9 @@ pub(crate) fn simplex(words: &mut Words<'_>) -> Result<Line, ShellRefusal>
         n4: words.number()?,
         directed: words.flag()?,
     };
-    words.end()?;
-    Ok(Line::Change(Single::Make(name, Maker::Simplex(spec))))
+    words.finish(Line::Change(Single::Make(name, Maker::Simplex(spec))))
 }
 
-#[inline(never)]
 pub(crate) fn subsets(words: &mut Words<'_>) -> Result<Line, ShellRefusal>
     ensures { Reads (option_and_then (line_of_command (codes "subsets")) words.old) result }
 {
@@ -73,11 +66,9 @@ pub(crate) fn subsets(words: &mut Words<'_>) -> Result<Line, ShellRefusal>
         size_bits: words.bits()?,
         directed: words.flag()?,
     };
-    words.end()?;
-    Ok(Line::Change(Single::Make(name, Maker::Subsets(spec))))
+    words.finish(Line::Change(Single::Make(name, Maker::Subsets(spec))))
 }
 
-#[inline(never)]
 pub(crate) fn perms(words: &mut Words<'_>) -> Result<Line, ShellRefusal>
     ensures { Reads (option_and_then (line_of_command (codes "perms")) words.old) result }
 {
@@ -91,11 +82,9 @@ pub(crate) fn perms(words: &mut Words<'_>) -> Result<Line, ShellRefusal>
         max_inv: words.number()?,
         directed: words.flag()?,
     };
-    words.end()?;
-    Ok(Line::Change(Single::Make(name, Maker::Perms(spec))))
+    words.finish(Line::Change(Single::Make(name, Maker::Perms(spec))))
 }
 
-#[inline(never)]
 pub(crate) fn binary(words: &mut Words<'_>) -> Result<Line, ShellRefusal>
     ensures { Reads (option_and_then (line_of_command (codes "binary")) words.old) result }
 {
@@ -105,11 +94,9 @@ pub(crate) fn binary(words: &mut Words<'_>) -> Result<Line, ShellRefusal>
         max_height: words.number()?,
         directed: words.flag()?,
     };
-    words.end()?;
-    Ok(Line::Change(Single::Make(name, Maker::Binary(spec))))
+    words.finish(Line::Change(Single::Make(name, Maker::Binary(spec))))
 }
 
-#[inline(never)]
 pub(crate) fn random(words: &mut Words<'_>) -> Result<Line, ShellRefusal>
     ensures { Reads (option_and_then (line_of_command (codes "random")) words.old) result }
 {
@@ -124,11 +111,9 @@ pub(crate) fn random(words: &mut Words<'_>) -> Result<Line, ShellRefusal>
         max: words.number()?,
     };
     let seed = words.seed()?;
-    words.end()?;
-    Ok(Line::Change(Single::Make(name, Maker::Random(spec, seed))))
+    words.finish(Line::Change(Single::Make(name, Maker::Random(spec, seed))))
 }
 
-#[inline(never)]
 pub(crate) fn complement(words: &mut Words<'_>) -> Result<Line, ShellRefusal>
     ensures { Reads (option_and_then (line_of_command (codes "complement")) words.old) result }
 {
@@ -139,11 +124,9 @@ pub(crate) fn complement(words: &mut Words<'_>) -> Result<Line, ShellRefusal>
         loops: words.flag()?,
         directed: words.flag()?,
     };
-    words.end()?;
-    Ok(Line::Change(Single::Make(name, Maker::Complement(graph, spec))))
+    words.finish(Line::Change(Single::Make(name, Maker::Complement(graph, spec))))
 }
 
-#[inline(never)]
 pub(crate) fn gunion(words: &mut Words<'_>) -> Result<Line, ShellRefusal>
     ensures { Reads (option_and_then (line_of_command (codes "gunion")) words.old) result }
 {
@@ -154,21 +137,17 @@ pub(crate) fn gunion(words: &mut Words<'_>) -> Result<Line, ShellRefusal>
         multi: words.flag()?,
         directed: words.flag()?,
     };
-    words.end()?;
-    Ok(Line::Change(Single::Make(name, Maker::Gunion(graph, other, spec))))
+    words.finish(Line::Change(Single::Make(name, Maker::Gunion(graph, other, spec))))
 }
 
-#[inline(never)]
 pub(crate) fn intersection(words: &mut Words<'_>) -> Result<Line, ShellRefusal>
     ensures { Reads (option_and_then (line_of_command (codes "intersection")) words.old) result }
 {
     let name = words.name()?;
     let maker = Maker::Intersection(words.name()?, words.name()?, words.flag()?);
-    words.end()?;
-    Ok(Line::Change(Single::Make(name, maker)))
+    words.finish(Line::Change(Single::Make(name, maker)))
 }
 
-#[inline(never)]
 pub(crate) fn product(words: &mut Words<'_>) -> Result<Line, ShellRefusal>
     ensures { Reads (option_and_then (line_of_command (codes "product")) words.old) result }
 {
@@ -179,11 +158,9 @@ pub(crate) fn product(words: &mut Words<'_>) -> Result<Line, ShellRefusal>
         kind: words.number()?,
         directed: words.flag()?,
     };
-    words.end()?;
-    Ok(Line::Change(Single::Make(name, Maker::Product(graph, other, spec))))
+    words.finish(Line::Change(Single::Make(name, Maker::Product(graph, other, spec))))
 }
 
-#[inline(never)]
 pub(crate) fn induced(alloc: Global, words: &mut Words<'_>) -> Result<Line, ShellRefusal>
     ensures { Reads (option_and_then (line_of_command (codes "induced")) words.old) result }
 {

@@ -3,8 +3,9 @@ ghost use Rattle.std.specs.Prelude.{◌≡◌, ◌<◌, ◌≤◌, ◌==◌, ◌
 ghost use Rattle.std.specs.List.{prefix_len, list_any};
 ghost use Rattle.sgb_script.specs.Words.{words_of, is_quotable};
 ghost use Rattle.sgb_script.specs.Private.Texts.{IsPrintable, IsTextIfQuoted};
-ghost use Rattle.sgb_script.specs.Private.Words.{seen, Splits, TakesWord, Ends, is_nothing};
+ghost use Rattle.sgb_script.specs.Private.Words.{seen, Splits, TakesWord, Ends, Finishes, is_nothing};
 
+use crate::command::Line;
 use crate::refusal::ShellRefusal;
 use std::marker::Model;
 
@@ -45,7 +46,6 @@ impl<'a> Model for Words<'a> {
 }
 
 impl<'a> Words<'a> {
-    /// The words of `line`.
     pub(crate) fn new(line: &'a [u8]) -> Words<'a>
         requires { IsPrintable line.now }
         ensures { result ≡ words_of line.now }
@@ -68,6 +68,14 @@ impl<'a> Words<'a> {
         ensures { result ≡ is_nothing self.now }
     {
         count_spaces(self.rest) == self.rest.len()
+    }
+
+    /// This line, or refused `ScriptSyntax` if a word is left.
+    pub(crate) fn finish(&self, line: Line) -> Result<Line, ShellRefusal>
+        ensures { Finishes self.now line result }
+    {
+        self.end()?;
+        Ok(line)
     }
 
     /// Refused `ScriptSyntax` if a word is left.

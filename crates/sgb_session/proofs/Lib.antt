@@ -1,5 +1,5 @@
 mod Drawings
 mod Tables
-mod Sessions
-mod Makings
-mod Lengthenings
+mod EditSteps
+mod MakerSteps
+mod LengthSteps

@@ -9,7 +9,7 @@ use Rattle.sgb_graph.specs.declared.delta.GraphDelta.{GraphDelta}
 use Rattle.sgb_graph.specs.Graph.{GraphOf}
 use Rattle.sgb_graph.specs.Delta.{LeftBy}
 use Rattle.sgb_graph.specs.Reverted.{reverted}
-use Rattle.sgb_graph.proofs.Reverting.{reverted_is}
+use Rattle.sgb_graph.proofs.Reverts.{reverted_is}
 use Rattle.sgb_session.specs.declared.table.Entry.{Entry}
 use Rattle.sgb_session.specs.Table.{entry_in, with_graph}
 use Rattle.sgb_session.specs.Private.Making.{AtPlace, InSlot}

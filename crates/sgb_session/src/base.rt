@@ -7,7 +7,7 @@ ghost use Rattle.sgb_session.specs.Edits.{refusal_from};
 ghost use Rattle.sgb_session.specs.Private.Making.{Judges, Performs};
 ghost use Rattle.sgb_session.specs.State.{is_spent};
 
-use crate::making::{find_operands, goes_on, make_boxed};
+use crate::making::{goes_on, has_operands, make_boxed};
 use crate::mark::Mark;
 use crate::reply::{SingleDelta, SingleReply};
 use crate::table::{MOST_GRAPHS, Table};
@@ -57,7 +57,6 @@ impl Base {
         }
     }
 
-    // Seeds the generator.
     fn seed(&mut self, seed: i64) -> Result<(SingleDelta, SingleReply), ShellRefusal>
         ensures { Performs self.old self.new (commands.Seed seed) result }
     {
@@ -66,7 +65,6 @@ impl Base {
         Ok((SingleDelta::Seed(before), SingleReply::Done))
     }
 
-    // Draws one number.
     fn draw(&mut self) -> Result<(SingleDelta, SingleReply), ShellRefusal>
         ensures { Performs self.old self.new commands.Next result }
     {
@@ -77,7 +75,6 @@ impl Base {
         Ok((SingleDelta::Draws(1), SingleReply::Number(number)))
     }
 
-    // Draws a uniform number.
     fn draw_below(&mut self, bound: i64) -> Result<(SingleDelta, SingleReply), ShellRefusal>
         ensures { Performs self.old self.new (commands.Unif bound) result }
     {
@@ -102,14 +99,8 @@ impl Base {
     ) -> Result<(SingleDelta, SingleReply), ShellRefusal>
         ensures { Performs self.old self.new (commands.Make name maker.now) result }
     {
-        let operands = self.judge(&name, maker)?;
-        match make_boxed(
-            self.alloc,
-            &mut self.generator,
-            &self.table,
-            operands,
-            maker,
-        ) {
+        self.judge(&name, maker)?;
+        match make_boxed(self.alloc, &mut self.generator, &self.table, maker) {
             Ok((boxed, delta)) => {
                 let graph = boxed.get();
                 let reply = SingleReply::Made(name, graph.n(), graph.m());
@@ -120,14 +111,14 @@ impl Base {
         }
     }
 
-    // Where the graphs stand that a maker names, where it may make a graph of this name.
-    fn judge(&self, name: &Name, maker: &Maker) -> Result<(usize, usize), ShellRefusal>
+    // Whether a maker may make a graph of this name.
+    fn judge(&self, name: &Name, maker: &Maker) -> Result<(), ShellRefusal>
         ensures { Judges self.now name.now maker.now result }
     {
-        let Some(operands) = find_operands(&self.table, maker) else {
+        if !has_operands(&self.table, maker) {
             return Err(ShellRefusal::NoGraph);
-        };
-        if self.table.find(name).is_some() {
+        }
+        if self.table.has(name) {
             return Err(ShellRefusal::NameTaken);
         }
         if self.table.len() >= MOST_GRAPHS {
@@ -136,10 +127,9 @@ impl Base {
         if goes_on(maker) && self.generator.draws() >= MOST_DRAWS {
             return Err(ShellRefusal::TooLarge);
         }
-        Ok(operands)
+        Ok(())
     }
 
-    // Edits the graph of this name.
     fn edit(&mut self, name: &Name, edit: &Edit) -> Result<(SingleDelta, SingleReply), ShellRefusal>
         ensures { Performs self.old self.new (commands.Edit name.now edit.now) result }
     {

@@ -63,8 +63,7 @@ fn set_value(
 ) -> Result<(GraphDelta, SingleReply), Refusal>
     ensures { Makes (edit_may_want (Set place value.now)) graph.old graph.new (edited graph.old (Set place value.now)) result }
 {
-    let copy = copy_of_value(alloc, value)?;
-    done(graph.set_util(place, copy))
+    done(graph.set_util(place, copy_of_value(alloc, value)?))
 }
 
 fn set_label(
@@ -75,8 +74,7 @@ fn set_label(
 ) -> Result<(GraphDelta, SingleReply), Refusal>
     ensures { Makes (edit_may_want (Label vertex text.now)) graph.old graph.new (edited graph.old (Label vertex text.now)) result }
 {
-    let copy = copy_of_text(alloc, text)?;
-    done(graph.set_label(vertex, copy))
+    done(graph.set_label(vertex, copy_of_text(alloc, text)?))
 }
 
 fn set_id(
@@ -86,16 +84,14 @@ fn set_id(
 ) -> Result<(GraphDelta, SingleReply), Refusal>
     ensures { Makes (edit_may_want (Id text.now)) graph.old graph.new (edited graph.old (Id text.now)) result }
 {
-    let copy = copy_of_text(alloc, text)?;
-    done(graph.set_id(copy))
+    done(graph.set_id(copy_of_text(alloc, text)?))
 }
 
 // An edit that answers no number.
 fn done(outcome: Result<GraphDelta, Refusal>) -> Result<(GraphDelta, SingleReply), Refusal>
     ensures { result ≡ with_done outcome }
 {
-    let delta = outcome?;
-    Ok((delta, SingleReply::Done))
+    Ok((outcome?, SingleReply::Done))
 }
 
 fn copy_of_value(alloc: Global, value: &Util) -> Result<Util, Refusal>

@@ -1,11 +1,11 @@
 //! How each command makes a new graph.
-ghost use Rattle.std.specs.Prelude.{◌≡◌, ◌<◌, ◌^◌, ◌&&◌, [], ◌∷◌, false, true, is_ok, MatchOption, Some};
+ghost use Rattle.std.specs.Prelude.{◌≡◌, ◌<◌, ◌^◌, ◌&&◌, [], false, true, is_ok};
 ghost use Rattle.sgb_script.specs.declared.command.Maker.TheVariants.{Random};
 ghost use Rattle.sgb_session.specs.Drawing.{drawn_from};
-ghost use Rattle.sgb_session.specs.Make.{empty_graph, goes_on};
-ghost use Rattle.sgb_session.specs.Private.Making.{StandAt, Finds, AnswersGraph, MakesGraph, CanUnmake, unmade, with_made};
+ghost use Rattle.sgb_session.specs.Make.{empty_graph, goes_on, operands, recipe_of};
+ghost use Rattle.sgb_session.specs.Private.Making.{AnswersGraph, CanUnmake, Follows, MakesGraph, is_random, unmade};
 ghost use Rattle.sgb_session.specs.State.{is_spent};
-ghost use Rattle.sgb_session.specs.Table.{find, has_all};
+ghost use Rattle.sgb_session.specs.Table.{has_all};
 ghost use Rattle.sgb_text.specs.Read.{begins_well, read_as};
 
 use crate::boxed::Boxed;
@@ -15,40 +15,22 @@ use crate::table::Table;
 use sgb_combine::{complement, gunion, induced, intersection, product};
 use sgb_graph::{Graph, Items, MOST_VERTICES, Refusal};
 use sgb_make::{RandomSpec, Seed, binary, board, perms, simplex, subsets};
-use sgb_script::{Maker, Name};
+use sgb_script::Maker;
 use sgb_text::{CheckRule, restore};
 use std::alloc::Global;
 
-/// Where the graphs stand that a maker names, at most two. Each name is looked up once, in the order of the words; the
-/// place of a graph that is not asked for is 0.
-pub(crate) fn find_operands(table: &Table, maker: &Maker) -> Option<(usize, usize)>
-    ensures { Finds table.now maker.now result }
+/// Whether the table has each graph that a maker names.
+pub(crate) fn has_operands(table: &Table, maker: &Maker) -> bool
+    ensures { result ≡ has_all table.now (operands maker.now) }
 {
     match maker {
-        Maker::Complement(graph, _) => find_one(table, graph),
-        Maker::Gunion(first, second, _) => find_two(table, first, second),
-        Maker::Intersection(first, second, _) => find_two(table, first, second),
-        Maker::Product(first, second, _) => find_two(table, first, second),
-        Maker::Induced(graph, _, _) => find_one(table, graph),
-        _ => Some((0, 0)),
+        Maker::Complement(graph, _) => table.has(graph),
+        Maker::Gunion(first, second, _) => table.has(first) && table.has(second),
+        Maker::Intersection(first, second, _) => table.has(first) && table.has(second),
+        Maker::Product(first, second, _) => table.has(first) && table.has(second),
+        Maker::Induced(graph, _, _) => table.has(graph),
+        _ => true,
     }
-}
-
-fn find_one(table: &Table, name: &Name) -> Option<(usize, usize)>
-    ensures { MatchOption result (has_all table.now (name.now ∷ []) ≡ false)
-        (λ p. (has_all table.now (name.now ∷ []) ≡ true) × (find table.now name.now ≡ Some p.0)) }
-{
-    let place = table.find(name)?;
-    Some((place, 0))
-}
-
-fn find_two(table: &Table, first: &Name, second: &Name) -> Option<(usize, usize)>
-    ensures { MatchOption result (has_all table.now (first.now ∷ second.now ∷ []) ≡ false)
-        (λ p. (has_all table.now (first.now ∷ second.now ∷ []) ≡ true)
-        × (find table.now first.now ≡ Some p.0) × (find table.now second.now ≡ Some p.1)) }
-{
-    let place = table.find(first)?;
-    Some((place, table.find(second)?))
 }
 
 /// Whether a maker draws from the generator of the session, which goes on.
@@ -58,19 +40,18 @@ pub(crate) fn goes_on(maker: &Maker) -> bool
     matches!(maker, Maker::Random(_, Seed::Current))
 }
 
-/// Makes a graph, in a box. Its operands stand at these places.
+/// Makes a graph, in a box.
 pub(crate) fn make_boxed(
     alloc: Global,
     generator: &mut Mark,
     table: &Table,
-    operands: (usize, usize),
     maker: &Maker,
 ) -> Result<(Boxed<Graph>, SingleDelta), Refusal>
-    requires operands { StandAt table.now maker.now operands }
+    requires operands { has_all table.now (operands maker.now) ≡ true }
     requires fresh { (goes_on maker.now && is_spent generator.old) ≡ false }
     ensures { MakesGraph generator.old generator.new table.now maker.now result }
 {
-    let (graph, delta) = make_graph(alloc, generator, table, operands, maker)?;
+    let (graph, delta) = make_graph(alloc, generator, table, maker)?;
     match Boxed::new(alloc, graph) {
         Ok(boxed) => Ok((boxed, delta)),
         Err(_) => {
@@ -91,43 +72,50 @@ fn unmake(generator: &mut Mark, delta: SingleDelta)
     }
 }
 
-// Makes a graph.
 fn make_graph(
     alloc: Global,
     generator: &mut Mark,
     table: &Table,
-    operands: (usize, usize),
     maker: &Maker,
 ) -> Result<(Graph, SingleDelta), Refusal>
-    requires operands { StandAt table.now maker.now operands }
+    requires operands { has_all table.now (operands maker.now) ≡ true }
     requires fresh { (goes_on maker.now && is_spent generator.old) ≡ false }
     ensures { MakesGraph generator.old generator.new table.now maker.now result }
 {
     match maker {
-        Maker::Empty(n) => made(make_empty(alloc, *n)),
-        Maker::Board(spec) => made(board(alloc, spec)),
-        Maker::Simplex(spec) => made(simplex(alloc, spec)),
-        Maker::Subsets(spec) => made(subsets(alloc, spec)),
-        Maker::Perms(spec) => made(perms(alloc, spec)),
-        Maker::Binary(spec) => made(binary(alloc, spec)),
         Maker::Random(spec, seed) => make_random(alloc, generator, spec, *seed),
-        Maker::Complement(_, spec) => { made(complement(alloc, table.graph(operands.0), spec)) }
-        Maker::Gunion(_, _, spec) => {
-            let (first, second) = (table.graph(operands.0), table.graph(operands.1));
-            made(gunion(alloc, first, second, spec))
+        _ => Ok((make_still(alloc, table, maker)?, SingleDelta::Made)),
+    }
+}
+
+// Makes a graph without the generator.
+fn make_still(alloc: Global, table: &Table, maker: &Maker) -> Result<Graph, Refusal>
+    requires operands { has_all table.now (operands maker.now) ≡ true }
+    requires still { is_random maker.now ≡ false }
+    ensures { Follows table.now (recipe_of maker.now) result }
+{
+    match maker {
+        Maker::Empty(n) => make_empty(alloc, *n),
+        Maker::Board(spec) => board(alloc, spec),
+        Maker::Simplex(spec) => simplex(alloc, spec),
+        Maker::Subsets(spec) => subsets(alloc, spec),
+        Maker::Perms(spec) => perms(alloc, spec),
+        Maker::Binary(spec) => binary(alloc, spec),
+        Maker::Random(_, _) => unreachable!(),
+        Maker::Complement(graph, spec) => complement(alloc, table.named(graph), spec),
+        Maker::Gunion(first, second, spec) => {
+            gunion(alloc, table.named(first), table.named(second), spec)
         }
-        Maker::Intersection(_, _, directed) => {
-            let (first, second) = (table.graph(operands.0), table.graph(operands.1));
-            made(intersection(alloc, first, second, *directed))
+        Maker::Intersection(first, second, directed) => {
+            intersection(alloc, table.named(first), table.named(second), *directed)
         }
-        Maker::Product(_, _, spec) => {
-            let (first, second) = (table.graph(operands.0), table.graph(operands.1));
-            made(product(alloc, first, second, spec))
+        Maker::Product(first, second, spec) => {
+            product(alloc, table.named(first), table.named(second), spec)
         }
-        Maker::Induced(_, description, spec) => {
-            made(induced(alloc, table.graph(operands.0), description, spec))
+        Maker::Induced(graph, description, spec) => {
+            induced(alloc, table.named(graph), description, spec)
         }
-        Maker::Load(text, rule) => made(load(alloc, text, *rule)),
+        Maker::Load(text, rule) => load(alloc, text, *rule),
     }
 }
 
@@ -163,12 +151,4 @@ fn make_random(
 {
     let (graph, source) = generator.random(alloc, spec, seed)?;
     Ok((graph, SingleDelta::MadeBy(source)))
-}
-
-// A graph that leaves the generator alone.
-fn made(outcome: Result<Graph, Refusal>) -> Result<(Graph, SingleDelta), Refusal>
-    ensures { result ≡ with_made outcome }
-{
-    let graph = outcome?;
-    Ok((graph, SingleDelta::Made))
 }

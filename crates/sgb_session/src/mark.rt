@@ -213,7 +213,6 @@ impl Mark {
     }
 }
 
-// The seed modulo 2^31.
 fn number_of(seed: i64) -> u32
     ensures value { result ≡ seed_number seed }
     ensures small { result < 2 ^ 31 }

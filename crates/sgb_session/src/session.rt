@@ -123,10 +123,8 @@ impl Reversible for Session {
     {
         match command {
             Command::One(single) => {
-                match self.base.apply(single) {
-                    Ok((delta, reply)) => Ok((Delta::One(delta), Reply::One(reply))),
-                    Err(refusal) => Err(refusal),
-                }
+                let (delta, reply) = self.base.apply(single)?;
+                Ok((Delta::One(delta), Reply::One(reply)))
             }
             Command::Group(members) => {
                 match apply_all(self.alloc, &mut self.base, members.as_slice()) {

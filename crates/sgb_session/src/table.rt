@@ -1,5 +1,5 @@
 //! The named graphs of a session.
-ghost use Rattle.std.specs.Prelude.{◌≡◌, ◌<◌, ◌≤◌, ◌^◌, ◌-◌, ◌++◌, ◌∷◌, [], length, take, insert, remove, IsSome};
+ghost use Rattle.std.specs.Prelude.{◌≡◌, ◌<◌, ◌≤◌, ◌^◌, ◌-◌, ◌++◌, ◌∷◌, [], length, take, insert, remove, IsSome, is_some, true};
 ghost use Rattle.std.specs.List.{position};
 ghost use Rattle.std.specs.Str.{bytes_eq};
 ghost use Rattle.sgb_graph.specs.Graph.{GraphOf};
@@ -10,7 +10,7 @@ ghost use Rattle.sgb_session.specs.Drawing.{drawn_from};
 ghost use Rattle.sgb_session.specs.Private.Making.{AtPlace, InSlot, Edits};
 ghost use Rattle.sgb_session.specs.Private.Slots.{held, slot_in, slot_with_graph};
 ghost use Rattle.sgb_session.specs.Private.Working.{Lengthens};
-ghost use Rattle.sgb_session.specs.Table.{find, entry_in, graph_in, with_graph};
+ghost use Rattle.sgb_session.specs.Table.{find, entry_in, graph_in, graph_named, with_graph};
 
 use crate::boxed::Boxed;
 use crate::edit::make_edit;
@@ -54,7 +54,6 @@ impl Model for Table {
 }
 
 impl Table {
-    /// No graphs.
     pub(crate) fn new() -> Table
         ensures { result ≡ [] }
     {
@@ -63,7 +62,6 @@ impl Table {
         }
     }
 
-    /// How many graphs there are.
     pub(crate) fn len(&self) -> usize
         ensures value { result ≡ length self.now }
         ensures few { result ≤ 64 }
@@ -71,7 +69,6 @@ impl Table {
         self.entries.len()
     }
 
-    /// The graph at a place, with its name.
     pub(crate) fn entry(&self, place: usize) -> &Entry
         requires { place < length self.now }
         ensures { result.now ≡ entry_in self.now place }
@@ -82,7 +79,6 @@ impl Table {
         }
     }
 
-    /// The graph at a place.
     pub(crate) fn graph(&self, place: usize) -> &Graph
         requires { place < length self.now }
         ensures { result.now ≡ graph_in self.now place }
@@ -90,14 +86,28 @@ impl Table {
         self.entry(place).graph.get()
     }
 
-    /// Where the graph of this name stands.
     pub(crate) fn find(&self, name: &Name) -> Option<usize>
         ensures { result ≡ find self.now name.now }
     {
         find_slot(self.entries.as_slice(), name.bytes())
     }
 
-    /// Puts a graph last.
+    pub(crate) fn has(&self, name: &Name) -> bool
+        ensures { result ≡ is_some (find self.now name.now) }
+    {
+        self.find(name).is_some()
+    }
+
+    pub(crate) fn named(&self, name: &Name) -> &Graph
+        requires { is_some (find self.now name.now) ≡ true }
+        ensures { result.now ≡ graph_named self.now name.now }
+    {
+        match self.find(name) {
+            Some(place) => self.graph(place),
+            None => unreachable!(),
+        }
+    }
+
     pub(crate) fn push(&mut self, name: Name, graph: Boxed<Graph>)
         requires { length self.old < 64 }
         ensures { self.new ≡ self.old ++ record { name = name; graph = graph } ∷ [] }
@@ -105,7 +115,6 @@ impl Table {
         self.entries.push(Some(Entry { name, graph }));
     }
 
-    /// Takes the last graph away.
     pub(crate) fn pop(&mut self)
         requires { 0 < length self.old }
         ensures { self.new ≡ take (length self.old - 1) self.old }
@@ -136,7 +145,6 @@ impl Table {
         }
     }
 
-    /// Makes an edit of the graph at a place.
     pub(crate) fn edit(
         &mut self,
         alloc: Global,

@@ -8,8 +8,8 @@ use Rattle.sgb_print.specs.Meter.{WriterUse}
 use Rattle.sgb_shell.specs.Private.Holding.{IsFirstLine, HasNoNewline, held_line, is_above}
 use Rattle.sgb_shell.specs.Lines.{whole_lines, unfinished, lines}
 use Rattle.sgb_shell.specs.Private.Reaching.{ShellView, ReaderView, Reached, Stopped, StoppedAtEnd, Progress, Finishes, Concludes, TakesLine, ended_lines}
-use Rattle.sgb_shell.proofs.Reaching.{stopped-append, stopped-earlier, stopped_earlier}
-use Rattle.sgb_shell.proofs.Holding.{left_true, right_true}
+use Rattle.sgb_shell.proofs.Progress.{stopped-append, stopped-earlier, stopped_earlier}
+use Rattle.sgb_shell.proofs.LineBytes.{left_true, right_true}
 use Rattle.sgb_shell.proofs.LineEnds.{parts-split, whole-newline, unfinished-newline, whole-byte, unfinished-byte, length-whole_lines}
 
 -- ---- the end of the script

@@ -3,7 +3,7 @@ use Rattle.std.proofs.Common.{◌≡◌, ℕ, ◌+◌, ◌≤◌, false, ◌==�
 use Rattle.std.proofs.lemmas.Bool.{cases_Bool}
 use Rattle.std.specs.List.{onto_first}
 use Rattle.sgb_shell.specs.Lines.{all_but_last, last_part, parts, whole_lines, unfinished, lines}
-use Rattle.sgb_shell.proofs.Performing.{all_but_last-push}
+use Rattle.sgb_shell.proofs.CourseSteps.{all_but_last-push}
 
 last_part-push : (ps : List (List ℕ)) (p : List ℕ) → last_part (ps ++ p ∷ []) ≡ p
 last_part-push [] p = refl

@@ -1,9 +1,9 @@
 //! What a unit of a script is answered, and how that is printed.
 ghost use Rattle.sgb_print.specs.Print.{Prints};
-ghost use Rattle.std.specs.Prelude.{◌<◌, ◌++◌, codes, length};
+ghost use Rattle.std.specs.Prelude.{◌+◌, ◌<◌, ◌≤◌, ◌++◌, codes, length};
 ghost use Rattle.std.specs.Fmt.{decimal};
 ghost use Rattle.std.specs.List.{flat_map};
-ghost use Rattle.sgb_shell.specs.Answer.{answer_text, single_text, grouped_count_text, generator_text, refusal_text, count_text, list_text, entry_text, shown_text};
+ghost use Rattle.sgb_shell.specs.Answer.{answer_text, single_text, grouped_count_text, generator_text, refusal_text, list_text, entry_text, shown_text};
 ghost use Rattle.sgb_session.specs.Table.{entry_in};
 
 use itoa::Buffer;
@@ -62,34 +62,32 @@ fn print_single<W: Write>(writer: &mut MeteredWriter<W>, reply: &SingleReply) ->
 {
     match reply {
         SingleReply::Done => put(writer, b"ok\n"),
-        SingleReply::Number(number) => print_number(writer, *number),
+        SingleReply::Number(number) => print_counted(writer, b"", u64::from(*number), b"\n"),
         SingleReply::Made(name, vertices, arcs) => print_made(
             writer,
             name.bytes(),
             *vertices,
             *arcs,
         ),
-        SingleReply::Arc(number) => print_arc(writer, *number),
+        SingleReply::Arc(number) => print_counted(writer, b"A", u64::from(number.0), b"\n"),
         SingleReply::Edge(first, second) => print_edge(writer, *first, *second),
     }
 }
 
-fn print_number<W: Write>(writer: &mut MeteredWriter<W>, number: u32) -> Result<(), Failed>
-    ensures { Prints writer.old writer.new result (decimal number ++ codes "\n") }
+// A number between two texts.
+fn print_counted<W: Write>(
+    writer: &mut MeteredWriter<W>,
+    before: &[u8],
+    number: u64,
+    behind: &[u8],
+) -> Result<(), Failed>
+    requires { length before.now + length behind.now ≤ 76 }
+    ensures { Prints writer.old writer.new result (before.now ++ decimal number ++ behind.now) }
 {
     let mut page = Page::new();
-    page.prepend(b"\n");
-    page.prepend_number(number as u64);
-    page.print(writer)
-}
-
-fn print_arc<W: Write>(writer: &mut MeteredWriter<W>, number: ArcNo) -> Result<(), Failed>
-    ensures { Prints writer.old writer.new result (codes "A" ++ decimal number.0 ++ codes "\n") }
-{
-    let mut page = Page::new();
-    page.prepend(b"\n");
-    page.prepend_number(number.0 as u64);
-    page.prepend(b"A");
+    page.prepend(behind);
+    page.prepend_number(number);
+    page.prepend(before);
     page.print(writer)
 }
 
@@ -109,7 +107,6 @@ fn print_edge<W: Write>(
     page.print(writer)
 }
 
-// The replies of a group's members, and how many they are.
 fn print_group<W: Write>(
     writer: &mut MeteredWriter<W>,
     members: &[SingleReply],
@@ -117,7 +114,7 @@ fn print_group<W: Write>(
     ensures { Prints writer.old writer.new result (flat_map single_text members.now ++ grouped_count_text (length members.now)) }
 {
     print_replies(writer, members)?;
-    print_grouped_count(writer, members.len())
+    print_counted(writer, b"grouped ", members.len() as u64, b"\n")
 }
 
 fn print_replies<W: Write>(
@@ -130,16 +127,6 @@ fn print_replies<W: Write>(
         print_single(writer, reply)?;
     }
     Ok(())
-}
-
-fn print_grouped_count<W: Write>(writer: &mut MeteredWriter<W>, count: usize) -> Result<(), Failed>
-    ensures { Prints writer.old writer.new result (grouped_count_text count) }
-{
-    let mut digits = Buffer::new();
-    put_all(
-        writer,
-        &[b"grouped ", digits.format(count).as_bytes(), b"\n"],
-    )
 }
 
 fn print_generator<W: Write>(writer: &mut MeteredWriter<W>, session: &Session) -> Result<(), Failed>
@@ -195,19 +182,11 @@ fn print_refusal<W: Write>(
     )
 }
 
-// The number of graphs, and each graph as it was made.
 fn print_list<W: Write>(writer: &mut MeteredWriter<W>, session: &Session) -> Result<(), Failed>
     ensures { Prints writer.old writer.new result (list_text session.now) }
 {
-    print_count(writer, session.len())?;
+    print_counted(writer, b"", session.len() as u64, b" graphs\n")?;
     print_entries(writer, session)
-}
-
-fn print_count<W: Write>(writer: &mut MeteredWriter<W>, count: usize) -> Result<(), Failed>
-    ensures { Prints writer.old writer.new result (count_text count) }
-{
-    let mut digits = Buffer::new();
-    put_all(writer, &[digits.format(count).as_bytes(), b" graphs\n"])
 }
 
 fn print_entries<W: Write>(writer: &mut MeteredWriter<W>, session: &Session) -> Result<(), Failed>

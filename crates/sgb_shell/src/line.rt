@@ -16,7 +16,6 @@ pub(crate) enum ScriptLine<'a> {
 }
 
 impl<'a> ScriptLine<'a> {
-    /// Whether the line takes a text.
     pub(crate) fn takes_text(&self) -> bool
         ensures { (line : List ℕ) → IsLine line self.now → result ≡ takes_text line }
     {
@@ -36,7 +35,6 @@ impl<'a> ScriptLine<'a> {
         }
     }
 
-    /// Whether the line ends a group.
     pub(crate) fn is_end(&self) -> bool
         ensures { (line : List ℕ) → IsLine line self.now → result ≡ is_end line }
     {
@@ -46,7 +44,6 @@ impl<'a> ScriptLine<'a> {
         }
     }
 
-    /// Whether the line ends a text.
     pub(crate) fn is_dot(&self) -> bool
         ensures { (line : List ℕ) → IsLine line self.now → result ≡ is_dot line }
     {

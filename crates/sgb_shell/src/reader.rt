@@ -44,7 +44,6 @@ impl LineReader {
         })
     }
 
-    /// The shell.
     pub(crate) fn shell(&self) -> &Shell
         ensures { result.now ≡ self.now.shell }
     {

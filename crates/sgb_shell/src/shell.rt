@@ -126,7 +126,6 @@ fn tell<W: Write>(
     print_answer(writer, number, session, answer)
 }
 
-// A refused unit counts once.
 fn refusal_count(answer: &Answer) -> u64
     ensures { result ≡ refusals answer.now }
 {

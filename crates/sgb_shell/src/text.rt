@@ -57,10 +57,7 @@ impl OpenText {
     pub(crate) fn member(self) -> Result<Option<Single>, ShellRefusal>
         ensures { (u : ScriptUnit) → IsText u self → IsMember (text_member (line_of u.first) (as_closed u)) result }
     {
-        match self.command() {
-            Ok(command) => Ok(Some(command)),
-            Err(refusal) => Err(refusal),
-        }
+        Ok(Some(self.command()?))
     }
 
     /// Why it is refused where the text has no end.

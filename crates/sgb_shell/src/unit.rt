@@ -32,23 +32,8 @@ pub(crate) fn take_line(
     if pending.is_none() {
         return begin(alloc, journal, pending, number, line);
     }
-    go_on(alloc, journal, pending, number, line)
-}
-
-// Takes a line behind a unit that goes on.
-#[inline(never)]
-fn go_on(
-    alloc: Global,
-    journal: &mut Journal<Session>,
-    pending: &mut Option<Pending>,
-    number: u64,
-    line: &ScriptLine<'_>,
-) -> Option<(u64, Answer)>
-    ensures { (before : Option ScriptUnit) (l : List ℕ) → IsLine l line.now → Waits before pending.old → IsBegun journal.old
-        → Settles (unit_by number before l) journal.old journal.new pending.new result }
-{
     let Some(mut unit) = pending.take() else {
-        return begin(alloc, journal, pending, number, line);
+        unreachable!()
     };
     if unit.closes(line) {
         return Some((unit.number, close(journal, unit, line)));
@@ -76,7 +61,6 @@ fn begin(
     Some((number, answer_line(alloc, journal, line)))
 }
 
-// Answers a unit that the line ends.
 fn close(journal: &mut Journal<Session>, unit: Pending, line: &ScriptLine<'_>) -> Answer
     ensures { (u : ScriptUnit) (l : List ℕ) → IsLine l line.now → closes u l ≡ true → IsGathered u unit → IsBegun journal.old
         → Does (by_unit (closed_by u l)) journal.old journal.new result }

@@ -4,6 +4,7 @@ use Rattle.std.specs.Option.{option_map}
 use Rattle.sgb_script.specs.Words.{Word, Plain, Quoted, words_of}
 use Rattle.sgb_script.specs.declared.words.Word.TheVariants as borrowed
 use Rattle.sgb_script.specs.declared.words.Word as borrowed_word
+use Rattle.sgb_script.specs.declared.command.Line.{Line}
 use Rattle.sgb_script.specs.declared.refusal.ShellRefusal.{ShellRefusal}
 use Rattle.sgb_script.specs.declared.refusal.ShellRefusal.TheVariants.{ScriptSyntax}
 use denote.Ref.{Bor}
@@ -49,6 +50,11 @@ TakesWord old (Err e) new = (e ≡ ScriptSyntax) × ((old ≡ None) ⊎ (old ≡
 abbrev pub Ends : Option (List Word) → Result (Unit {0}) ShellRefusal → Type 0
 Ends words (Ok u) = words ≡ Some []
 Ends words (Err e) = (e ≡ ScriptSyntax) × (is_nothing words ≡ false)
+
+-- this line, unless a word is left
+abbrev pub Finishes : Option (List Word) → Line → Result Line ShellRefusal → Type 0
+Finishes words line (Ok l) = (words ≡ Some []) × (l ≡ line)
+Finishes words line (Err e) = (e ≡ ScriptSyntax) × (is_nothing words ≡ false)
 
 -- the bytes of a word without quotes
 abbrev pub the_plain : Word → Option (List ℕ)

@@ -1,14 +1,17 @@
 -- What a command did, on the way from a graph to the session.
-use Rattle.std.specs.Prelude.{◌≡◌, ◌⊎◌, ◌&&◌, ◌||◌, ℕ, List, Option, None, Some, is_none, Bool, true, false, Result, Ok, Err}
+use Rattle.std.specs.Prelude.{◌≡◌, ◌⊎◌, ◌&&◌, ◌||◌, ℕ, List, Option, None, Some, is_none, Bool, true, false, Result, Ok, Err, IsErrOf, is_ok}
 use Rattle.sgb_graph.specs.declared.delta.GraphDelta.{GraphDelta}
 use Rattle.sgb_graph.specs.declared.refusal.Refusal.{Refusal}
 use Rattle.sgb_graph.specs.declared.refusal.Refusal.TheVariants as graphs
 use Rattle.sgb_graph.specs.Graph.{GraphOf}
 use Rattle.sgb_graph.specs.Delta.{LeftBy}
+use Rattle.sgb_induced.specs.Induced.{plan_of_induced, refusal_of_induced}
+use Rattle.sgb_plan.specs.Plan.{IsMade, MayAllocate}
+use Rattle.sgb_text.specs.Read.{begins_well, read_as}
 use Rattle.sgb_undo.specs.Outcome.{Accepted, Refused}
 use Rattle.sgb_script.specs.declared.command.Single.{Single}
 use Rattle.sgb_script.specs.declared.command.Maker.{Maker}
-use Rattle.sgb_script.specs.declared.command.Maker.TheVariants.{Complement, Gunion, Intersection, Product, Induced}
+use Rattle.sgb_script.specs.declared.command.Maker.TheVariants.{Random}
 use Rattle.sgb_script.specs.declared.command.Edit.{Edit}
 use Rattle.sgb_script.specs.declared.refusal.ShellRefusal.{ShellRefusal}
 use Rattle.sgb_script.specs.declared.refusal.ShellRefusal.TheVariants.{NoRoom}
@@ -19,11 +22,11 @@ use Rattle.sgb_session.specs.declared.reply.SingleReply.TheVariants as replies
 use Rattle.sgb_session.specs.declared.table.Entry.{Entry}
 use Rattle.sgb_session.specs.Edits.{Edited, edited, edit_has_text, edit_takes_memory}
 use Rattle.sgb_session.specs.Drawing.{Drawing}
-use Rattle.sgb_session.specs.Make.{operands, graph_made, maker_may_allocate, generator_after, kept_of}
+use Rattle.sgb_session.specs.Make.{Recipe, ByCount, ByPlan, ByDraws, ByFates, ByText, empty_graph, graph_made, maker_may_allocate, generator_after, kept_of}
 use Rattle.sgb_session.specs.Private.Slots.{held, slot_in, slot_with_graph}
 use Rattle.sgb_session.specs.Source.{turned_back, CanTurnBack}
 use Rattle.sgb_session.specs.State.{State, step, before, can_revert, may_want, refusal_of_making}
-use Rattle.sgb_session.specs.Table.{find, graph_in, has_all, with_graph}
+use Rattle.sgb_session.specs.Table.{graph_in, graph_named, with_graph}
 
 -- whether an edit that is refused so, or not, may want for memory
 abbrev pub edit_may_want : Edit → Option Refusal → Bool
@@ -51,23 +54,9 @@ with_done (Err r) = Err r
 
 -- ---- new graphs
 
--- where the graphs stand that a maker names
-abbrev pub StandAt : List Entry → Maker → ℕ × ℕ → Type 0
-StandAt t (Complement g spec) p = find t g ≡ Some p.0
-StandAt t (Gunion g h spec) p = (find t g ≡ Some p.0) × (find t h ≡ Some p.1)
-StandAt t (Intersection g h directed) p = (find t g ≡ Some p.0) × (find t h ≡ Some p.1)
-StandAt t (Product g h spec) p = (find t g ≡ Some p.0) × (find t h ≡ Some p.1)
-StandAt t (Induced g description spec) p = find t g ≡ Some p.0
-StandAt t m p = Unit {0}
-
--- they all stand in the table, or one does not
-abbrev pub Finds : List Entry → Maker → Option (ℕ × ℕ) → Type 0
-Finds t m None = has_all t (operands m) ≡ false
-Finds t m (Some p) = (has_all t (operands m) ≡ true) × StandAt t m p
-
--- nothing speaks against making a graph of this name, whose operands stand there; or it is refused
-abbrev pub Judges : State → List ℕ → Maker → Result (ℕ × ℕ) ShellRefusal → Type 0
-Judges s name m (Ok p) = (refusal_of_making s name m ≡ None) × StandAt s.table m p
+-- nothing speaks against making a graph of this name, or it is refused
+abbrev pub Judges : {T : Type 0} → State → List ℕ → Maker → Result T ShellRefusal → Type 0
+Judges s name m (Ok x) = refusal_of_making s name m ≡ None
 Judges s name m (Err r) = refusal_of_making s name m ≡ Some r
 
 -- the graph is made, or it is refused, or an allocation failed where one may
@@ -80,6 +69,20 @@ abbrev pub MakesGraph : Drawing → Drawing → List Entry → Maker → Result 
 MakesGraph old new t m (Ok a) = (graph_made old t m ≡ Ok a.0) × (new ≡ generator_after old m) × (a.1 ≡ kept_of old m)
 MakesGraph old new t m (Err r) = (new ≡ old) × AnswersGraph (maker_may_allocate t m) (graph_made old t m) (Err r)
 
+-- what the call of a recipe promises, if it leaves the generator alone
+abbrev pub Follows : List Entry → Recipe → Result GraphOf Refusal → Type 0
+Follows t (ByCount n) r = AnswersGraph (is_ok (empty_graph n)) (empty_graph n) r
+Follows t (ByPlan plan) r = IsMade (plan t) r × (IsErrOf r graphs.NoRoom → MayAllocate (plan t))
+Follows t (ByDraws spec seed) r = ⊥
+Follows t (ByFates g description spec) r = let graph = graph_named t g in
+    IsMade (plan_of_induced graph description spec) r × (IsErrOf r graphs.NoRoom → refusal_of_induced graph description ≡ None)
+Follows t (ByText rule text) r = AnswersGraph (begins_well text) (read_as rule text) r
+
+-- a maker that draws from a generator
+abbrev pub is_random : Maker → Bool
+is_random (Random spec seed) = true
+is_random m = false
+
 -- the generator behind a graph that is not kept
 abbrev pub unmade : SingleDelta → Drawing → Drawing
 unmade (kept.MadeBy source) d = turned_back source d
@@ -88,11 +91,6 @@ unmade k d = d
 abbrev pub CanUnmake : SingleDelta → Drawing → Type 0
 CanUnmake (kept.MadeBy source) d = CanTurnBack source d
 CanUnmake k d = Unit {0}
-
--- a graph that leaves the generator alone
-abbrev pub with_made : Result GraphOf Refusal → Result (GraphOf × SingleDelta) Refusal
-with_made (Ok g) = Ok (g, kept.Made)
-with_made (Err r) = Err r
 
 -- a command was performed, with a delta that leads back; or it changed nothing, since it is refused, or since memory
 -- was wanted and may be

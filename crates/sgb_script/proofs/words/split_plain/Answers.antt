@@ -1,5 +1,5 @@
 use Rattle.std.proofs.Common.{inl, refl}
-use Rattle.sgb_script.proofs.Splitting.{plain_then, plain_else}
+use Rattle.sgb_script.proofs.WordSplits.{plain_then, plain_else}
 use Rattle.sgb_script.proofs.Texts.{printable_behind}
 use Rattle.sgb_script.proofs.words.split_plain.Goals as goal
 

@@ -1,5 +1,5 @@
 use Rattle.std.proofs.Common.{inl, refl, sym, ◌∙◌, arith}
-use Rattle.sgb_script.proofs.Splitting.{quoted_then, not_quotable, not_ended, unclosed, behind_quote}
+use Rattle.sgb_script.proofs.WordSplits.{quoted_then, not_quotable, not_ended, unclosed, behind_quote}
 use Rattle.sgb_script.proofs.Texts.{printable_behind, text_is}
 use Rattle.std.proofs.lemmas.Grind.{common_steps}
 use Rattle.sgb_script.proofs.words.split_quoted.Goals as goal

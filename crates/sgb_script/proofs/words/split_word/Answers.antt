@@ -3,7 +3,7 @@ use Rattle.std.proofs.lemmas.Bool.{ne_eqb}
 use Rattle.std.proofs.lemmas.Grind.{common_steps}
 use Rattle.sgb_script.specs.Words.{words_of}
 use Rattle.sgb_script.specs.Private.Words.{Splits}
-use Rattle.sgb_script.proofs.Splitting.{no_word, letter_behind, after_spaces, quote_first, behind_quote}
+use Rattle.sgb_script.proofs.WordSplits.{no_word, letter_behind, after_spaces, quote_first, behind_quote}
 use Rattle.sgb_script.proofs.Texts.{printable_behind}
 use Rattle.sgb_script.proofs.words.split_word.Goals as goal
 

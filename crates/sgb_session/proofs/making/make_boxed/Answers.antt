@@ -1,6 +1,6 @@
 use Rattle.std.proofs.Common.{rules, ◌≡◌, Ok}
 use Rattle.sgb_session.specs.Private.Making.{MakesGraph, unmade}
-use Rattle.sgb_session.proofs.Makings.{not_boxed}
+use Rattle.sgb_session.proofs.MakerSteps.{not_boxed}
 use Rattle.sgb_session.proofs.making.make_boxed.Goals as goal
 
 pub returns-in-Err : goal.returns-in-Err

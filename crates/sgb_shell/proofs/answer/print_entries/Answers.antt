@@ -2,7 +2,7 @@ use Rattle.std.proofs.Common.{◌<◌, length, arith}
 use Rattle.std.proofs.lemmas.List.{get_or_default}
 use Rattle.sgb_shell.specs.Answer.{entry_text}
 use Rattle.sgb_session.specs.Table.{entry_in, no_entry}
-use Rattle.sgb_print.proofs.Printing.{prints_all, writes_piece, fails_piece, item_and_rest, no_rest}
+use Rattle.sgb_print.proofs.TextPieces.{prints_all, writes_piece, fails_piece, item_and_rest, no_rest}
 use Rattle.sgb_shell.proofs.answer.print_entries.Goals as goal
 
 pub returns-in_err-print_entry : goal.returns-in_err-print_entry

@@ -1,5 +1,5 @@
 use Rattle.sgb_shell.specs.Answer.{single_text}
-use Rattle.sgb_print.proofs.Printing.{prints_all, writes_piece, fails_piece, item_and_rest, no_rest}
+use Rattle.sgb_print.proofs.TextPieces.{prints_all, writes_piece, fails_piece, item_and_rest, no_rest}
 use Rattle.sgb_shell.proofs.answer.print_replies.Goals as goal
 
 pub returns-in_err-print_single : goal.returns-in_err-print_single

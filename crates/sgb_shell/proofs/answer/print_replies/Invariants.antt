@@ -1,7 +1,7 @@
 use Rattle.std.proofs.Common.{drop}
 use Rattle.std.specs.List.{flat_map}
 use Rattle.sgb_shell.specs.Answer.{single_text}
-use Rattle.sgb_print.proofs.Printing.{Writes}
+use Rattle.sgb_print.proofs.TextPieces.{Writes}
 use Rattle.sgb_shell.proofs.answer.print_replies.Given as goal
 
 abbrev pub invariant-loop-reply : goal.invariant-loop-reply

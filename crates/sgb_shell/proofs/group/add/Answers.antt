@@ -1,6 +1,6 @@
 use Rattle.std.proofs.Common.{subst}
 use Rattle.sgb_shell.specs.Private.Gathering.{Collects}
-use Rattle.sgb_shell.proofs.Gathering.{group_longer}
+use Rattle.sgb_shell.proofs.UnitLines.{group_longer}
 use Rattle.sgb_shell.proofs.group.add.Goals as goal
 
 pub returns-in_default-put : goal.returns-in_default-put

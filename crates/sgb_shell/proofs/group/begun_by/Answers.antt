@@ -1,6 +1,6 @@
 use Rattle.std.proofs.Common.{refl, ap, inl}
 use Rattle.sgb_shell.specs.Private.Gathering.{is_group}
-use Rattle.sgb_shell.proofs.Holding.{long_line}
+use Rattle.sgb_shell.proofs.LineBytes.{long_line}
 use Rattle.sgb_shell.proofs.group.begun_by.Goals as goal
 
 pub returns-in_default : goal.returns-in_default

@@ -1,6 +1,6 @@
 use Rattle.std.proofs.Common.{refl, ap, inl}
 use Rattle.sgb_shell.specs.Group.{line_member}
-use Rattle.sgb_shell.proofs.Holding.{long_line}
+use Rattle.sgb_shell.proofs.LineBytes.{long_line}
 use Rattle.sgb_shell.proofs.group.member_of.Goals as goal
 
 pub returns-in_default : goal.returns-in_default

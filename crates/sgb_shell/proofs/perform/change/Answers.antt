@@ -1,4 +1,4 @@
-use Rattle.sgb_shell.proofs.Performing.{changed}
+use Rattle.sgb_shell.proofs.CourseSteps.{changed}
 use Rattle.sgb_shell.proofs.perform.change.Goals as goal
 
 pub returns : goal.returns

@@ -1,6 +1,6 @@
 use Rattle.std.proofs.Common.{subst, inl, inr}
 use Rattle.sgb_shell.specs.Private.Performing.{Answers}
-use Rattle.sgb_shell.proofs.Performing.{read_does, changed_does, refused_does, asked_does, load_does, other_does}
+use Rattle.sgb_shell.proofs.CourseSteps.{read_does, changed_does, refused_does, asked_does, load_does, other_does}
 use Rattle.sgb_shell.proofs.perform.perform.Goals as goal
 
 pub returns-in-Ok-Change : goal.returns-in-Ok-Change

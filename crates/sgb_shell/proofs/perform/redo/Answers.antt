@@ -1,4 +1,4 @@
-use Rattle.sgb_shell.proofs.Performing.{redid}
+use Rattle.sgb_shell.proofs.CourseSteps.{redid}
 use Rattle.sgb_shell.proofs.perform.redo.Goals as goal
 
 pub returns : goal.returns

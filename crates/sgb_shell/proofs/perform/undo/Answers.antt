@@ -1,4 +1,4 @@
-use Rattle.sgb_shell.proofs.Performing.{undid}
+use Rattle.sgb_shell.proofs.CourseSteps.{undid}
 use Rattle.sgb_shell.proofs.perform.undo.Goals as goal
 
 pub returns-in-Ok : goal.returns-in-Ok

@@ -3,7 +3,7 @@ use Rattle.std.proofs.lemmas.Result.{err_from_is_err_and}
 use Rattle.sgb_shell.specs.declared.fault.RunEnd.{RunEnd}
 use Rattle.sgb_shell.specs.Private.Reaching.{ShellView}
 use Rattle.sgb_shell.specs.Run.{Runs}
-use Rattle.sgb_shell.proofs.Endings.{script_failed, script_ended, last_line_failed}
+use Rattle.sgb_shell.proofs.RunEnds.{script_failed, script_ended, last_line_failed}
 use Rattle.sgb_shell.proofs.script.run_metered.Goals as goal
 
 pub take_script-requires-clause-begun : goal.take_script-requires-clause-begun

@@ -3,7 +3,7 @@ use Rattle.std.proofs.KnownBytes.{Consumes-trans}
 use Rattle.std.proofs.lemmas.List.{length-take-le}
 use Rattle.std.proofs.lemmas.Result.{err_from_is_err_and}
 use Rattle.std.specs.Io.KnownBytes.{Consumes}
-use Rattle.sgb_shell.proofs.Taking.{still_few, takes_ok, takes_err, one_byte, progress_kept, failed_read}
+use Rattle.sgb_shell.proofs.TakenBytes.{still_few, takes_ok, takes_err, one_byte, progress_kept, failed_read}
 use Rattle.sgb_shell.proofs.script.take_script.Goals as goal
 
 pub returns-in_err-count : goal.returns-in_err-count

@@ -1,4 +1,4 @@
-use Rattle.sgb_shell.proofs.Taking.{Running}
+use Rattle.sgb_shell.proofs.TakenBytes.{Running}
 use Rattle.sgb_shell.proofs.script.take_script.Given as goal
 
 abbrev pub invariant-loop-room : goal.invariant-loop-room

@@ -1,6 +1,6 @@
 use Rattle.std.proofs.Common.{refl, ap}
 use Rattle.sgb_shell.specs.Private.Gathering.{is_load}
-use Rattle.sgb_shell.proofs.Holding.{long_line}
+use Rattle.sgb_shell.proofs.LineBytes.{long_line}
 use Rattle.sgb_shell.proofs.text.begun_by.Goals as goal
 
 pub returns-in_default : goal.returns-in_default

@@ -1,8 +1,8 @@
 use Rattle.std.proofs.Common.{refl, inl}
 use Rattle.sgb_script.specs.declared.refusal.ShellRefusal.TheVariants.{ScriptSyntax}
 use Rattle.sgb_script.specs.Line.{line_of}
-use Rattle.sgb_shell.proofs.Holding.{long_line}
-use Rattle.sgb_shell.proofs.Performing.{refused_does}
+use Rattle.sgb_shell.proofs.LineBytes.{long_line}
+use Rattle.sgb_shell.proofs.CourseSteps.{refused_does}
 use Rattle.sgb_shell.proofs.unit.answer_line.Goals as goal
 
 pub returns-in-None : goal.returns-in-None

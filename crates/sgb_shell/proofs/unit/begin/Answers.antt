@@ -3,7 +3,7 @@ use Rattle.std.proofs.lemmas.Bool.{or_parts}
 use Rattle.std.specs.Prelude.{if◌then◌else◌}
 use Rattle.sgb_shell.specs.Private.Reaching.{GoesOn, Ends, Settles}
 use Rattle.sgb_shell.specs.Unit.{alone, opened, takes_text, takes_members, takes_lines}
-use Rattle.sgb_shell.proofs.Performing.{line_does}
+use Rattle.sgb_shell.proofs.CourseSteps.{line_does}
 use Rattle.sgb_shell.proofs.unit.begin.Goals as goal
 
 pub returns : goal.returns

@@ -1,5 +1,5 @@
 use Rattle.sgb_shell.specs.Unit.{closed_by}
-use Rattle.sgb_shell.proofs.Performing.{closed_does, refusal_does}
+use Rattle.sgb_shell.proofs.CourseSteps.{closed_does, refusal_does}
 use Rattle.sgb_shell.proofs.unit.close.Goals as goal
 
 pub returns-in-Ok : goal.returns-in-Ok

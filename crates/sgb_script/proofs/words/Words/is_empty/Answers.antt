@@ -1,6 +1,6 @@
 use Rattle.std.proofs.Common.{◌==◌, length, ap, ◌∙◌}
 use Rattle.sgb_script.specs.Private.Words.{is_nothing}
-use Rattle.sgb_script.proofs.Splitting.{blank}
+use Rattle.sgb_script.proofs.WordSplits.{blank}
 use Rattle.sgb_script.proofs.words.Words.is_empty.Goals as goal
 
 pub returns : goal.returns

@@ -3,7 +3,7 @@ use Rattle.sgb_script.specs.declared.command.Single.TheVariants as commands
 use Rattle.sgb_session.specs.declared.reply.SingleDelta.TheVariants as kept
 use Rattle.sgb_session.specs.declared.reply.SingleReply.TheVariants.{Done}
 use Rattle.sgb_session.specs.Private.Making.{Performs}
-use Rattle.sgb_session.proofs.Sessions.{state, graph_dropped}
+use Rattle.sgb_session.proofs.EditSteps.{state, graph_dropped}
 use Rattle.sgb_session.proofs.base.Base.drop_graph.Goals as goal
 
 pub returns : goal.returns

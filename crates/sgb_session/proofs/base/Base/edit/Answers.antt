@@ -1,7 +1,7 @@
 use Rattle.std.proofs.Common.{ap, ◌∙◌, subst, sym, ◌≡◌, ◌<◌, Some, Err, length}
 use Rattle.sgb_script.specs.declared.command.Single.TheVariants as commands
 use Rattle.sgb_session.specs.Table.{find}
-use Rattle.sgb_session.proofs.Sessions.{state, find_within, edit_done, edit_refused}
+use Rattle.sgb_session.proofs.EditSteps.{state, find_within, edit_done, edit_refused}
 use Rattle.sgb_session.proofs.base.Base.edit.Goals as goal
 use Rattle.sgb_session.proofs.base.Base.edit.Goals.{in-Ok, in-Err}
 use Rattle.sgb_session.specs.Private.Making.{Performs, AtPlace, Edits}

@@ -5,8 +5,8 @@ use Rattle.sgb_session.specs.Private.Making.{AtPlace, Performs}
 use Rattle.sgb_session.specs.Private.Working.{Lengthens}
 use Rattle.sgb_session.specs.State.{is_spent}
 use Rattle.sgb_session.specs.Table.{find}
-use Rattle.sgb_session.proofs.Lengthenings.{lengths_done, lengths_refused}
-use Rattle.sgb_session.proofs.Sessions.{state, find_within}
+use Rattle.sgb_session.proofs.LengthSteps.{lengths_done, lengths_refused}
+use Rattle.sgb_session.proofs.EditSteps.{state, find_within}
 use Rattle.sgb_session.proofs.base.Base.lengthen.Goals as goal
 use Rattle.sgb_session.proofs.base.Base.lengthen.Goals.{in-Ok, in-Err}
 

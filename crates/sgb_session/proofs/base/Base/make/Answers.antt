@@ -5,8 +5,8 @@ use Rattle.sgb_session.specs.declared.reply.SingleReply.TheVariants.{Made}
 use Rattle.sgb_session.specs.declared.table.Entry.{Entry}
 use Rattle.sgb_session.specs.Private.Making.{MakesGraph, Performs}
 use Rattle.sgb_session.specs.State.{refusal_of_making}
-use Rattle.sgb_session.proofs.Makings.{make_done}
-use Rattle.sgb_session.proofs.Sessions.{state}
+use Rattle.sgb_session.proofs.MakerSteps.{make_done}
+use Rattle.sgb_session.proofs.EditSteps.{state}
 use Rattle.sgb_session.proofs.base.Base.make.Goals as goal
 
 pub returns-in-Ok : goal.returns-in-Ok
@@ -20,7 +20,7 @@ returns-in-Ok c =
     let command = commands.Make name m in
     let u : List Entry = t ++ record { name = name; graph = g } ∷ [] in
     let shown = c.get-graph.ensures in
-    let free : refusal_of_making (state d t) name m ≡ None = ap (λ s. refusal_of_making s name m) c.self.view_is ∙ c.in_ok-operands.ensures.0 in
+    let free : refusal_of_making (state d t) name m ≡ None = ap (λ s. refusal_of_making s name m) c.self.view_is ∙ c.in_ok-judge.ensures in
     let done = make_done d e t name m (g, c.in-Ok.delta) free (subst (MakesGraph d e t m) c.in-Ok.is c.make_boxed.ensures) in
     subst (λ s. Performs s (state e c.push.new.self) command (Ok (c.in-Ok.delta, Made name c.n.result c.m.result))) c.self.view_is
     (subst (λ v. Performs (state d t) (state e v) command (Ok (c.in-Ok.delta, Made name c.n.result c.m.result))) (sym c.push.ensures)

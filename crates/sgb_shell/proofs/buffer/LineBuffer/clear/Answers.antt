@@ -1,4 +1,4 @@
-use Rattle.sgb_shell.proofs.Holding.{held_none}
+use Rattle.sgb_shell.proofs.LineBytes.{held_none}
 use Rattle.sgb_shell.proofs.buffer.LineBuffer.clear.Goals as goal
 
 pub returns : goal.returns

@@ -1,5 +1,5 @@
 use Rattle.std.proofs.Common.{◌==◌, ◌∙◌, ap}
-use Rattle.sgb_shell.proofs.Holding.{held_empty}
+use Rattle.sgb_shell.proofs.LineBytes.{held_empty}
 use Rattle.sgb_shell.proofs.buffer.LineBuffer.is_empty.Goals as goal
 
 pub returns : goal.returns

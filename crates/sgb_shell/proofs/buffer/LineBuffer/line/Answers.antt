@@ -1,5 +1,5 @@
 use Rattle.std.proofs.Common.{◌∙◌, sym}
-use Rattle.sgb_shell.proofs.Holding.{held_first, held_long, held_whole}
+use Rattle.sgb_shell.proofs.LineBytes.{held_first, held_long, held_whole}
 use Rattle.sgb_shell.proofs.buffer.LineBuffer.line.Goals as goal
 
 pub returns-then-self : goal.returns-then-self

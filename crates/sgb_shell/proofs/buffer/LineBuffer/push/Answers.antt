@@ -1,5 +1,5 @@
 use Rattle.std.proofs.Common.{◌∙◌, arith}
-use Rattle.sgb_shell.proofs.Holding.{held_first, held_kept, held_full}
+use Rattle.sgb_shell.proofs.LineBytes.{held_first, held_kept, held_full}
 use Rattle.sgb_shell.proofs.buffer.LineBuffer.push.Goals as goal
 
 pub returns-then-len-lt-LINE_LIMIT : goal.returns-then-len-lt-LINE_LIMIT

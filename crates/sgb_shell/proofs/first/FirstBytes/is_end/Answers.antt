@@ -2,7 +2,7 @@ use Rattle.std.proofs.Common.{◌==◌, ◌∙◌, ap, sym, take, drop}
 use Rattle.std.specs.Prelude.{◌&&◌, codes}
 use Rattle.std.specs.List.{list_all}
 use Rattle.std.specs.Str.{bytes_eq}
-use Rattle.sgb_shell.proofs.Holding.{end_taken, ends_as}
+use Rattle.sgb_shell.proofs.LineBytes.{end_taken, ends_as}
 use Rattle.sgb_shell.proofs.first.FirstBytes.is_end.Goals as goal
 
 pub returns-then-is_end : goal.returns-then-is_end

@@ -1,6 +1,6 @@
 use Rattle.std.proofs.Common.{◌≡◌, ◌==◌, ◌∙◌, length, sym, ap, arith}
 use Rattle.std.specs.Prelude.{◌&&◌}
-use Rattle.sgb_shell.proofs.Holding.{viewed, first_leading, first_full, first_pushed}
+use Rattle.sgb_shell.proofs.LineBytes.{viewed, first_leading, first_full, first_pushed}
 use Rattle.sgb_shell.proofs.first.FirstBytes.push.Goals as goal
 
 pub returns-then-is_leading : goal.returns-then-is_leading

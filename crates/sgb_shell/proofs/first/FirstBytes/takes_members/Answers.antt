@@ -1,7 +1,7 @@
 use Rattle.std.proofs.Common.{◌∙◌, ap}
 use Rattle.std.specs.Prelude.{◌||◌, codes}
 use Rattle.std.specs.Str.{bytes_eq}
-use Rattle.sgb_shell.proofs.Holding.{members_taken}
+use Rattle.sgb_shell.proofs.LineBytes.{members_taken}
 use Rattle.sgb_shell.proofs.first.FirstBytes.takes_members.Goals as goal
 
 pub returns : goal.returns

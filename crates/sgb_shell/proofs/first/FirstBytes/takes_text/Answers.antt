@@ -1,7 +1,7 @@
 use Rattle.std.proofs.Common.{◌∙◌, ap, take}
 use Rattle.std.specs.Prelude.{◌||◌, codes}
 use Rattle.std.specs.Str.{bytes_eq}
-use Rattle.sgb_shell.proofs.Holding.{text_taken}
+use Rattle.sgb_shell.proofs.LineBytes.{text_taken}
 use Rattle.sgb_shell.proofs.first.FirstBytes.takes_text.Goals as goal
 
 pub returns : goal.returns

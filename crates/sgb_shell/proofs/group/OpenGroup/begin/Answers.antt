@@ -1,5 +1,5 @@
 use Rattle.std.proofs.Common.{◌∙◌, sym}
-use Rattle.sgb_shell.proofs.Gathering.{text_begun, member_added}
+use Rattle.sgb_shell.proofs.UnitLines.{text_begun, member_added}
 use Rattle.sgb_shell.proofs.group.OpenGroup.begin.Goals as goal
 
 pub returns-then-takes_text : goal.returns-then-takes_text

@@ -1,4 +1,4 @@
-use Rattle.sgb_shell.proofs.Gathering.{group_ends, group_ends_badly}
+use Rattle.sgb_shell.proofs.UnitLines.{group_ends, group_ends_badly}
 use Rattle.sgb_shell.proofs.group.OpenGroup.command.Goals as goal
 
 pub returns-in_default : goal.returns-in_default

@@ -1,5 +1,5 @@
 use Rattle.std.proofs.Common.{◌∙◌, sym}
-use Rattle.sgb_shell.proofs.Gathering.{text_ended, text_goes_on}
+use Rattle.sgb_shell.proofs.UnitLines.{text_ended, text_goes_on}
 use Rattle.sgb_shell.proofs.group.OpenGroup.go_on.Goals as goal
 
 pub returns-then-is_dot : goal.returns-then-is_dot

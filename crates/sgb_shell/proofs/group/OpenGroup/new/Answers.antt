@@ -1,4 +1,4 @@
-use Rattle.sgb_shell.proofs.Gathering.{group_begun}
+use Rattle.sgb_shell.proofs.UnitLines.{group_begun}
 use Rattle.sgb_shell.proofs.group.OpenGroup.new.Goals as goal
 
 pub returns : goal.returns

@@ -1,6 +1,6 @@
 use Rattle.std.proofs.Common.{subst}
 use Rattle.sgb_shell.specs.Private.Gathering.{GathersUnit}
-use Rattle.sgb_shell.proofs.Gathering.{text_ends}
+use Rattle.sgb_shell.proofs.UnitLines.{text_ends}
 use Rattle.sgb_shell.proofs.pending.Pending.command.Goals as goal
 
 pub returns-in_ok-command-in-Text : goal.returns-in_ok-command-in-Text

@@ -4,7 +4,7 @@ use Rattle.sgb_shell.specs.Lines.{whole_lines, lines}
 use Rattle.sgb_shell.specs.Private.Reaching.{ReaderView, Reached}
 use Rattle.sgb_shell.proofs.Bytes.{ended_unit}
 use Rattle.sgb_shell.proofs.LineEnds.{length-lines}
-use Rattle.sgb_shell.proofs.Reaching.{stopped_before}
+use Rattle.sgb_shell.proofs.Progress.{stopped_before}
 use Rattle.sgb_shell.proofs.reader.LineReader.end.Goals as goal
 
 pub returns-in_err-end_line : goal.returns-in_err-end_line

@@ -1,6 +1,6 @@
 use Rattle.std.proofs.Common.{refl, sym, subst}
 use Rattle.sgb_shell.specs.Private.Reaching.{Reached}
-use Rattle.sgb_shell.proofs.Reaching.{end_none, end_refused}
+use Rattle.sgb_shell.proofs.Progress.{end_none, end_refused}
 use Rattle.sgb_shell.proofs.shell.Shell.end.Goals as goal
 
 pub returns-in_default : goal.returns-in_default

@@ -1,6 +1,6 @@
 use Rattle.std.proofs.Common.{◌∙◌, ap}
 use Rattle.sgb_shell.specs.Private.Performing.{lists_of}
-use Rattle.sgb_shell.proofs.Reaching.{nothing_reached}
+use Rattle.sgb_shell.proofs.Progress.{nothing_reached}
 use Rattle.sgb_shell.proofs.shell.Shell.new.Goals as goal
 
 pub returns : goal.returns

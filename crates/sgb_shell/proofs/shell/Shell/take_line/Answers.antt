@@ -3,7 +3,7 @@ use Rattle.sgb_print.specs.Print.{Prints}
 use Rattle.sgb_shell.specs.Answer.{answer_text}
 use Rattle.sgb_shell.specs.Private.Course.{course}
 use Rattle.sgb_shell.specs.Private.Reaching.{Reached}
-use Rattle.sgb_shell.proofs.Reaching.{goes_on_taken, answer_taken}
+use Rattle.sgb_shell.proofs.Progress.{goes_on_taken, answer_taken}
 use Rattle.sgb_shell.proofs.shell.Shell.take_line.Goals as goal
 
 pub returns-in_default : goal.returns-in_default

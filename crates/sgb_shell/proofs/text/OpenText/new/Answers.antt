@@ -1,4 +1,4 @@
-use Rattle.sgb_shell.proofs.Gathering.{text_opened}
+use Rattle.sgb_shell.proofs.UnitLines.{text_opened}
 use Rattle.sgb_shell.proofs.text.OpenText.new.Goals as goal
 
 pub returns : goal.returns

@@ -13,7 +13,7 @@ use Rattle.sgb_graph.specs.declared.refusal.Refusal.{Refusal}
 use Rattle.sgb_graph.specs.declared.refusal.Refusal.TheVariants as graphs
 use Rattle.sgb_graph.specs.Graph.{GraphOf}
 use Rattle.sgb_graph.specs.Delta.{LeftBy}
-use Rattle.sgb_graph.proofs.Reverting.{reverted_is}
+use Rattle.sgb_graph.proofs.Reverts.{reverted_is}
 use Rattle.sgb_undo.specs.Outcome.{Accepted, is_accepted}
 use Rattle.sgb_script.specs.declared.command.Edit as script
 use Rattle.sgb_script.specs.declared.command.Single.TheVariants.{Edit, Drop}

@@ -9,7 +9,7 @@ use Rattle.sgb_print.specs.declared.fault.RunFault.TheVariants.{Read, Write, Too
 use Rattle.sgb_shell.specs.Lines.{whole_lines}
 use Rattle.sgb_shell.specs.Private.Reaching.{ReaderView, Progress, Stopped, Takes}
 use Rattle.sgb_shell.specs.Private.Taking.{ReadsOn, TakesScript}
-use Rattle.sgb_shell.proofs.Reaching.{stopped-reached}
+use Rattle.sgb_shell.proofs.Progress.{stopped-reached}
 
 -- some bytes of the script are taken, and so many more may be
 pub record Running {R W : Type 0} (left : Option (List ℕ)) (r : ReaderUse R) (held : Option (List ℕ)) (w : WriterUse W) (v : ReaderView) (room : ℕ) : Type 0 where

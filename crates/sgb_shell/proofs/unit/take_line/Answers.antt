@@ -1,6 +1,6 @@
 use Rattle.std.proofs.Common.{◌∙◌, sym}
-use Rattle.sgb_shell.proofs.Reaching.{still_waits}
-use Rattle.sgb_shell.proofs.unit.go_on.Goals as goal
+use Rattle.sgb_shell.proofs.Progress.{still_waits}
+use Rattle.sgb_shell.proofs.unit.take_line.Goals as goal
 
 pub returns : goal.returns
 returns c before l held waits begun =

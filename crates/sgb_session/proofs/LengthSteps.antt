@@ -22,8 +22,8 @@ use Rattle.sgb_session.specs.State.{State, StepOutcome, step, may_want, lengthen
 use Rattle.sgb_session.specs.Table.{find, entry_in, graph_in, graph_named, with_graph}
 use Rattle.sgb_session.specs.Private.Making.{AtPlace, Performs}
 use Rattle.sgb_session.specs.Private.Working.{Lengthens, HasLengths, length_draws}
-use Rattle.sgb_session.proofs.Sessions.{state, graph_there, same_graph_back, replaced_twice, no_room_is}
-use Rattle.sgb_session.proofs.Makings.{can_turn_back, graph_named_is, is_turned_back}
+use Rattle.sgb_session.proofs.EditSteps.{state, graph_there, same_graph_back, replaced_twice, no_room_is}
+use Rattle.sgb_session.proofs.MakerSteps.{can_turn_back, graph_named_is, is_turned_back}
 
 -- a graph is there, and its generator is not spent
 lengthening_is : (s : State) (name : List ℕ) (spec : LengthsSpec) (seed : Seed) (i : ℕ) → find s.table name ≡ Some i → is_spent (drawn_from seed s.generator) ≡ false

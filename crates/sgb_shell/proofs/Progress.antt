@@ -18,7 +18,7 @@ use Rattle.sgb_shell.specs.Transcript.{refusals}
 use Rattle.sgb_shell.specs.Group.{closes}
 use Rattle.sgb_shell.specs.Unit.{ScriptUnit, with_line, closed_by}
 use Rattle.sgb_shell.proofs.Courses.{course-push, stepped, resolved, advance-by, unit_in, number-by, course-lines, refusals-few, course-refused, course_ordered, with_number, course-with_number, other_number, unit-answered, text-grows}
-use Rattle.sgb_shell.proofs.Performing.{machine_is}
+use Rattle.sgb_shell.proofs.CourseSteps.{machine_is}
 
 -- ---- text past other text
 

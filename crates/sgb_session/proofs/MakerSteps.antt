@@ -1,34 +1,24 @@
 -- What a new graph does to the session.
-use Rattle.std.proofs.Common.{◌≡◌, ◌<◌, ◌+◌, ◌-◌, ℕ, ℤ, List, [], ◌∷◌, ◌++◌, length, take, refl, subst, true, Option, Some, None, Result, Ok, Err, IsErrOf, sym, ap, ap₂, ◌∙◌, inl, inr, arith, length-append}
+use Rattle.std.proofs.Common.{◌≡◌, ◌<◌, ◌+◌, ◌-◌, ℕ, List, [], ◌∷◌, ◌++◌, length, take, refl, subst, true, Option, Some, None, Result, Ok, Err, sym, ap, ap₂, ◌∙◌, inl, inr, arith, length-append}
 use Rattle.std.proofs.Math.Seq.{take-append_seam}
 use Rattle.std.proofs.lemmas.Bool.{cases_lt, le-leb}
-use Rattle.std.specs.Prelude.{is_none, is_ok, nat_le, unwrap_or, ◌&&◌, Bool}
+use Rattle.std.specs.Prelude.{is_none, is_ok, unwrap_or, ◌&&◌}
 use Rattle.sgb_graph.specs.declared.refusal.Refusal.{Refusal}
 use Rattle.sgb_graph.specs.declared.refusal.Refusal.TheVariants as graphs
 use Rattle.sgb_graph.specs.Graph.{GraphOf, n_of, m_of}
 use Rattle.sgb_plan.specs.declared.part.Seed.{Seed}
 use Rattle.sgb_plan.specs.declared.part.Seed.TheVariants as seeds
-use Rattle.sgb_plan.specs.Plan.{Plan, IsMade, MayAllocate, outcome_of, plan_unless}
-use Rattle.sgb_plan.proofs.Planning.{many_vertices}
+use Rattle.sgb_plan.specs.Plan.{Plan, outcome_of, plan_unless}
+use Rattle.sgb_plan.proofs.Plans.{many_vertices}
 use Rattle.sgb_flip.specs.Generator.{Generator}
-use Rattle.sgb_make.specs.Board.{plan_of_board}
-use Rattle.sgb_simplex.specs.Simplex.{plan_of_simplex}
-use Rattle.sgb_simplex.specs.Subsets.{plan_of_subsets}
-use Rattle.sgb_perms.specs.Perms.{plan_of_perms}
-use Rattle.sgb_binary.specs.Binary.{plan_of_binary}
 use Rattle.sgb_random.specs.declared.spec.RandomSpec.{RandomSpec}
 use Rattle.sgb_random.specs.Random.{plan_of_random, refusal_of_random}
 use Rattle.sgb_random.specs.Random as randoms
-use Rattle.sgb_combine.specs.Complement.{plan_of_complement}
-use Rattle.sgb_combine.specs.Gunion.{plan_of_gunion}
-use Rattle.sgb_combine.specs.Intersection.{plan_of_intersection}
-use Rattle.sgb_combine.specs.Product.{plan_of_product}
 use Rattle.sgb_induced.specs.Induced.{induced_plan, refusal_of_induced}
 use Rattle.sgb_text.proofs.ReadAs.{read_begins}
 use Rattle.sgb_undo.specs.Outcome.{Accepted}
 use Rattle.sgb_script.specs.declared.command.Single.TheVariants.{Make}
 use Rattle.sgb_script.specs.declared.command.Maker.{Maker}
-use Rattle.sgb_script.specs.declared.command.Maker.TheVariants.{Empty, Board, Simplex, Subsets, Perms, Binary, Random, Complement, Gunion, Intersection, Product, Induced, Load}
 use Rattle.sgb_script.specs.declared.refusal.ShellRefusal.{ShellRefusal}
 use Rattle.sgb_session.specs.declared.reply.SingleDelta.{SingleDelta}
 use Rattle.sgb_session.specs.declared.reply.SingleDelta.TheVariants as kept
@@ -36,13 +26,13 @@ use Rattle.sgb_session.specs.declared.reply.SingleReply.TheVariants.{Made}
 use Rattle.sgb_session.specs.declared.table.Entry.{Entry}
 use Rattle.sgb_session.specs.Drawing.{Drawing, drawn_from, drawn_on, generator_of}
 use Rattle.sgb_session.specs.Edits.{refusal_from}
-use Rattle.sgb_session.specs.Make.{graph_made, maker_may_allocate, plan_may_allocate, generator_after, kept_of}
+use Rattle.sgb_session.specs.Make.{Recipe, ByCount, ByPlan, ByDraws, ByFates, ByText, recipe_of, graph_by, graph_made, plan_may_allocate, recipe_may_allocate, after, generator_after, kept_of}
 use Rattle.sgb_session.specs.Source.{source_of, turned_back, CanTurnBack}
 use Rattle.sgb_session.specs.State.{State, step, before, can_revert, unless, entering, refusal_of_making}
 use Rattle.sgb_session.specs.Table.{find, graph_in, graph_named}
-use Rattle.sgb_session.specs.Private.Making.{AnswersGraph, MakesGraph, Performs, CanUnmake, unmade, with_made}
+use Rattle.sgb_session.specs.Private.Making.{MakesGraph, Performs, CanUnmake, unmade}
 use Rattle.sgb_session.specs.Private.Working.{random_draws}
-use Rattle.sgb_session.proofs.Sessions.{state, no_room_is}
+use Rattle.sgb_session.proofs.EditSteps.{state, no_room_is}
 
 pub graph_named_is : (t : List Entry) (name : List ℕ) (i : ℕ) → find t name ≡ Some i → graph_named t name ≡ graph_in t i
 graph_named_is t name i at = ap (λ o. graph_in t (unwrap_or o (length t))) at
@@ -80,88 +70,31 @@ random_leads_back seed d n t x = (
   ap (λ e. state e (take (length (t ++ x ∷ []) - 1) (t ++ x ∷ []))) (is_turned_back seed d n) ∙ ap (state d) (take_front t x),
 )
 
-leads_back : (d : Drawing) (t : List Entry) (x : Entry) (m : Maker) → LeadsBack d t (generator_after d m) (t ++ x ∷ []) (kept_of d m)
-leads_back d t x (Empty n) = made_leads_back d t x
-leads_back d t x (Board spec) = made_leads_back d t x
-leads_back d t x (Simplex spec) = made_leads_back d t x
-leads_back d t x (Subsets spec) = made_leads_back d t x
-leads_back d t x (Perms spec) = made_leads_back d t x
-leads_back d t x (Binary spec) = made_leads_back d t x
-leads_back d t x (Random spec seed) = random_leads_back seed d (random_draws spec (drawn_from seed d)) t x
-leads_back d t x (Complement g spec) = made_leads_back d t x
-leads_back d t x (Gunion g h spec) = made_leads_back d t x
-leads_back d t x (Intersection g h directed) = made_leads_back d t x
-leads_back d t x (Product g h spec) = made_leads_back d t x
-leads_back d t x (Induced g description spec) = made_leads_back d t x
-leads_back d t x (Load text rule) = made_leads_back d t x
-
--- a graph that leaves the generator alone
-pub made_still : (d : Drawing) (t : List Entry) (m : Maker) (made : Result GraphOf Refusal) (r : Result GraphOf Refusal) → graph_made d t m ≡ made
-    → generator_after d m ≡ d → kept_of d m ≡ kept.Made → AnswersGraph (maker_may_allocate t m) made r → MakesGraph d d t m (with_made r)
-made_still d t m made (Ok g) same stays keeps is = (same ∙ is, sym stays, sym keeps)
-made_still d t m made (Err e) same stays keeps is = (
-  refl,
-  elim is [
-    | inl room ↦ inl room
-    | inr refuses ↦ inr (same ∙ refuses)
-  ],
-)
-
--- what a call answered that allocates only where its maker may
-pub answered : (may : Bool) (plan : Result Plan Refusal) (r : Result GraphOf Refusal) → IsMade plan r → (IsErrOf r graphs.NoRoom → may ≡ true) → AnswersGraph may (outcome_of plan) r
-answered may plan (Ok g) made room = made
-answered may plan (Err e) made room =
-    elim made [
-      | inl none ↦ inl (none, room (ap (λ r. Err r) none))
-      | inr refuses ↦ inr refuses
-    ]
-
-may_plan : (plan : Result Plan Refusal) → MayAllocate plan → plan_may_allocate plan ≡ true
-may_plan (Ok p) few = le-leb (length p.vertices) 65535 few
-may_plan (Err r) bad = absurd bad
-
--- the graph of a plan, or its refusal
-pub by_plan : (d : Drawing) (t : List Entry) (m : Maker) (plan : Result Plan Refusal) (r : Result GraphOf Refusal) → graph_made d t m ≡ outcome_of plan
-    → maker_may_allocate t m ≡ plan_may_allocate plan → generator_after d m ≡ d → kept_of d m ≡ kept.Made
-    → IsMade plan r → (IsErrOf r graphs.NoRoom → MayAllocate plan) → MakesGraph d d t m (with_made r)
-by_plan d t m plan r same may stays keeps made room =
-    made_still d t m (outcome_of plan) r same stays keeps
-    (answered (maker_may_allocate t m) plan r made (λ is. may ∙ may_plan plan (room is)))
+leads_back : (d : Drawing) (t : List Entry) (x : Entry) (r : Recipe) → LeadsBack d t (after d r).0 (t ++ x ∷ []) (after d r).1
+leads_back d t x (ByCount n) = made_leads_back d t x
+leads_back d t x (ByPlan plan) = made_leads_back d t x
+leads_back d t x (ByDraws spec seed) = random_leads_back seed d (random_draws spec (drawn_from seed d)) t x
+leads_back d t x (ByFates g description spec) = made_leads_back d t x
+leads_back d t x (ByText rule text) = made_leads_back d t x
 
 -- the generator behind a graph that is not kept
-can_unmake_kept : (d : Drawing) (m : Maker) → CanUnmake (kept_of d m) (generator_after d m)
-can_unmake_kept d (Empty n) = tt
-can_unmake_kept d (Board spec) = tt
-can_unmake_kept d (Simplex spec) = tt
-can_unmake_kept d (Subsets spec) = tt
-can_unmake_kept d (Perms spec) = tt
-can_unmake_kept d (Binary spec) = tt
-can_unmake_kept d (Random spec seed) = can_turn_back seed d (random_draws spec (drawn_from seed d))
-can_unmake_kept d (Complement g spec) = tt
-can_unmake_kept d (Gunion g h spec) = tt
-can_unmake_kept d (Intersection g h directed) = tt
-can_unmake_kept d (Product g h spec) = tt
-can_unmake_kept d (Induced g description spec) = tt
-can_unmake_kept d (Load text rule) = tt
+can_unmake_kept : (d : Drawing) (r : Recipe) → CanUnmake (after d r).1 (after d r).0
+can_unmake_kept d (ByCount n) = tt
+can_unmake_kept d (ByPlan plan) = tt
+can_unmake_kept d (ByDraws spec seed) = can_turn_back seed d (random_draws spec (drawn_from seed d))
+can_unmake_kept d (ByFates g description spec) = tt
+can_unmake_kept d (ByText rule text) = tt
 
-unmade_kept : (d : Drawing) (m : Maker) → unmade (kept_of d m) (generator_after d m) ≡ d
-unmade_kept d (Empty n) = refl
-unmade_kept d (Board spec) = refl
-unmade_kept d (Simplex spec) = refl
-unmade_kept d (Subsets spec) = refl
-unmade_kept d (Perms spec) = refl
-unmade_kept d (Binary spec) = refl
-unmade_kept d (Random spec seed) = is_turned_back seed d (random_draws spec (drawn_from seed d))
-unmade_kept d (Complement g spec) = refl
-unmade_kept d (Gunion g h spec) = refl
-unmade_kept d (Intersection g h directed) = refl
-unmade_kept d (Product g h spec) = refl
-unmade_kept d (Induced g description spec) = refl
-unmade_kept d (Load text rule) = refl
+unmade_kept : (d : Drawing) (r : Recipe) → unmade (after d r).1 (after d r).0 ≡ d
+unmade_kept d (ByCount n) = refl
+unmade_kept d (ByPlan plan) = refl
+unmade_kept d (ByDraws spec seed) = is_turned_back seed d (random_draws spec (drawn_from seed d))
+unmade_kept d (ByFates g description spec) = refl
+unmade_kept d (ByText rule text) = refl
 
 pub can_unmake : (d e : Drawing) (t : List Entry) (m : Maker) (a : GraphOf × SingleDelta) → MakesGraph d e t m (Ok a) → CanUnmake a.1 e
 can_unmake d e t m a made =
-    subst (λ f. CanUnmake a.1 f) (sym made.1) (subst (λ k. CanUnmake k (generator_after d m)) (sym made.2) (can_unmake_kept d m))
+    subst (λ f. CanUnmake a.1 f) (sym made.1) (subst (λ k. CanUnmake k (generator_after d m)) (sym made.2) (can_unmake_kept d (recipe_of m)))
 
 -- a graph that was made may have been allocated
 refused_is : (r : Refusal) → outcome_of (Err r) ≡ Err r
@@ -192,28 +125,20 @@ random_not_refused : (spec : RandomSpec) (seed : Seed) (w : Generator) (g : Grap
 unfolding plan_of_random
 random_not_refused spec seed w g made = not_refused (refusal_of_random spec) (randoms.plan_of_course spec seed (randoms.course spec w)) g made
 
-may_have_allocated : (d : Drawing) (t : List Entry) (m : Maker) (g : GraphOf) → graph_made d t m ≡ Ok g → maker_may_allocate t m ≡ true
-may_have_allocated d t (Empty n) g made = ap is_ok made
-may_have_allocated d t (Board spec) g made = few_vertices (plan_of_board spec) g made
-may_have_allocated d t (Simplex spec) g made = few_vertices (plan_of_simplex spec) g made
-may_have_allocated d t (Subsets spec) g made = few_vertices (plan_of_subsets spec) g made
-may_have_allocated d t (Perms spec) g made = few_vertices (plan_of_perms spec) g made
-may_have_allocated d t (Binary spec) g made = few_vertices (plan_of_binary spec) g made
-may_have_allocated d t (Random spec seed) g made = random_not_refused spec seed (generator_of (drawn_from seed d)) g made
-may_have_allocated d t (Complement f spec) g made = few_vertices (plan_of_complement (graph_named t f) spec) g made
-may_have_allocated d t (Gunion f h spec) g made = few_vertices (plan_of_gunion (graph_named t f) (graph_named t h) spec) g made
-may_have_allocated d t (Intersection f h directed) g made = few_vertices (plan_of_intersection (graph_named t f) (graph_named t h) directed) g made
-may_have_allocated d t (Product f h spec) g made = few_vertices (plan_of_product (graph_named t f) (graph_named t h) spec) g made
-may_have_allocated d t (Induced f description spec) g made =
+may_have_allocated : (d : Drawing) (t : List Entry) (o : Recipe) (g : GraphOf) → graph_by d t o ≡ Ok g → recipe_may_allocate t o ≡ true
+may_have_allocated d t (ByCount n) g made = ap is_ok made
+may_have_allocated d t (ByPlan plan) g made = few_vertices (plan t) g made
+may_have_allocated d t (ByDraws spec seed) g made = random_not_refused spec seed (generator_of (drawn_from seed d)) g made
+may_have_allocated d t (ByFates f description spec) g made =
     induced_not_refused (refusal_of_induced (graph_named t f) description) (induced_plan (graph_named t f) description spec) g made
-may_have_allocated d t (Load text rule) g made = read_begins rule text g made
+may_have_allocated d t (ByText rule text) g made = read_begins rule text g made
 
 -- a graph for which there is no box
 pub not_boxed : (d e f : Drawing) (t : List Entry) (m : Maker) (a : GraphOf × SingleDelta) → MakesGraph d e t m (Ok a) → f ≡ unmade a.1 e
     → MakesGraph d f t m (Err graphs.NoRoom)
 not_boxed d e f t m a made back = (
-  back ∙ (ap (unmade a.1) made.1 ∙ (ap (λ k. unmade k (generator_after d m)) made.2 ∙ unmade_kept d m)),
-  inl (refl, may_have_allocated d t m a.0 made.0),
+  back ∙ (ap (unmade a.1) made.1 ∙ (ap (λ k. unmade k (generator_after d m)) made.2 ∙ unmade_kept d (recipe_of m))),
+  inl (refl, may_have_allocated d t (recipe_of m) a.0 made.0),
 )
 
 -- a graph that was made
@@ -227,7 +152,7 @@ pub make_done : (d e : Drawing) (t : List Entry) (name : List ℕ) (m : Maker) (
 make_done d e t name m a free made =
     let x : Entry = record { name = name; graph = a.0 } in
     let back : LeadsBack d t e (t ++ x ∷ []) a.1 =
-    subst (λ f. LeadsBack d t f (t ++ x ∷ []) a.1) (sym made.1) (subst (LeadsBack d t (generator_after d m) (t ++ x ∷ [])) (sym made.2) (leads_back d t x m)) in (
+    subst (λ f. LeadsBack d t f (t ++ x ∷ []) a.1) (sym made.1) (subst (LeadsBack d t (generator_after d m) (t ++ x ∷ [])) (sym made.2) (leads_back d t x (recipe_of m))) in (
       making_is d t name m (Ok a.0) free made.0
           ∙ (ap (λ f. Accepted (state f (t ++ x ∷ [])) (kept_of d m) (Made name (n_of a.0) (m_of a.0))) (sym made.1)
           ∙ ap (λ k. Accepted (state e (t ++ x ∷ [])) k (Made name (n_of a.0) (m_of a.0))) (sym made.2)),
