@@ -1,4 +1,5 @@
-//! Tests of graphs, of the generator, of the journal and of plans: what no clause says of them, and each call with ample memory.
+//! Tests of graphs, of the generator, of the journal, of plans and of saved texts: what no clause says of them, and each call
+//! with ample memory.
 #![tactic(auto)]
 
 #[cfg(test)]
@@ -22,6 +23,8 @@ mod pairs;
 #[cfg(test)]
 mod parts;
 mod plan;
+#[cfg(test)]
+mod saved;
 #[cfg(test)]
 mod texts;
 #[cfg(test)]

@@ -1,6 +1,9 @@
-//! Tests of standard and random graphs: what no script shows of them. Scripts that show the graphs stand in tests/corpus/.
+//! Tests of standard and random graphs, and of combinations: what no script shows of them. Scripts that show the graphs
+//! stand in tests/corpus/.
 #![tactic(auto)]
 
+#[cfg(test)]
+mod combine;
 #[cfg(test)]
 mod growths;
 #[cfg(test)]

@@ -1,6 +1,6 @@
 use Rattle.std.proofs.Common.{arith}
 use Rattle.std.proofs.lemmas.Result.{err_from_is_err_and}
-use Rattle.sgb_graph.proofs.Inserting.{from_some, from_refused, from_end, from_n}
+use Rattle.sgb_graph.proofs.InsertionRuns.{from_some, from_refused, from_end, from_n}
 use Rattle.sgb_graph_tests.proofs.plan.example.insert_steps.Goals as goal
 
 pub insert-requires-clause-from : goal.insert-requires-clause-from

@@ -1,6 +1,6 @@
 use Rattle.std.proofs.Common.{◌-◌, ◌∷◌, [], map}
 use Rattle.std.specs.List.{range_with_len}
-use Rattle.sgb_graph.proofs.Inserting.{LeftFrom}
+use Rattle.sgb_graph.proofs.InsertionRuns.{LeftFrom}
 use Rattle.sgb_graph_tests.specs.Path.{path_step}
 use Rattle.sgb_graph_tests.proofs.plan.example.insert_steps.Given as goal
 

@@ -3,7 +3,7 @@ use Rattle.std.proofs.lemmas.Result.{err_from_is_err_and}
 use Rattle.sgb_graph.specs.New.{six_zeros}
 use Rattle.sgb_plan.specs.Name.{dotted}
 use Rattle.sgb_plan.specs.Plan.{with_named}
-use Rattle.sgb_plan.proofs.Planning.{pushed, push_refused, names_from_some, names_from_refused, names_from_end}
+use Rattle.sgb_plan.proofs.Plans.{pushed, push_refused, names_from_some, names_from_refused, names_from_end}
 use Rattle.sgb_graph_tests.proofs.plan.example.name_vertices.Goals as goal
 
 pub returns-in_err-push_vertex : goal.returns-in_err-push_vertex

@@ -1,6 +1,6 @@
 use Rattle.std.proofs.Common.{map}
 use Rattle.std.specs.List.{range_with_len}
-use Rattle.sgb_plan.proofs.Planning.{NamesFrom}
+use Rattle.sgb_plan.proofs.Plans.{NamesFrom}
 use Rattle.sgb_graph_tests.specs.Path.{path_vertex}
 use Rattle.sgb_graph_tests.proofs.plan.example.name_vertices.Given as goal
 

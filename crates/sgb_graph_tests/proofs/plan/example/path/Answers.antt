@@ -8,7 +8,7 @@ use Rattle.sgb_graph.specs.declared.refusal.Refusal.TheVariants.{BadSpecs}
 use Rattle.sgb_graph.specs.Graph.{IsGraph, n_of}
 use Rattle.sgb_graph.specs.New.{bare_graph}
 use Rattle.sgb_plan.specs.Plan.{Plan, IsMade, with_named}
-use Rattle.sgb_plan.proofs.Planning.{begun, n-with_named, RefusesNames, made, refused_before, refused_names, refused_insertions}
+use Rattle.sgb_plan.proofs.Plans.{begun, n-with_named, RefusesNames, made, refused_before, refused_names, refused_insertions}
 use Rattle.sgb_graph_tests.specs.Path.{path_vertex, path_plan, plan_of_path}
 use Rattle.sgb_graph_tests.proofs.plan.example.path.Goals as goal
 

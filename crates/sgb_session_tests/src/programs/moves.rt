@@ -124,6 +124,8 @@ fn moves(alloc: Global) -> Result<Vec<u8>, Fail> {
     Ok(finished.writer.into_inner())
 }
 
+// The clause `shows` of `queen` says that the graph of the definition is printed, or that an allocation failed. So this test
+// shows that the definition has a graph, and with it that only a failed allocation can refuse the queen.
 #[test]
 fn the_moves_are_written(rt: HostRuntime) -> Result<(), Fail> {
     let text = moves(rt.alloc())?;

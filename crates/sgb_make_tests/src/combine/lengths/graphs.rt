@@ -1,7 +1,8 @@
 //! Graphs to give lengths, and questions that promise nothing, so that the proof of a test stays short. For the same
 //! reason graphs are handed about with their refusals.
 
-use crate::graphs::{Made, graph_of, insert_arcs, insert_edges};
+use crate::combine::graphs::{graph_of, insert_arcs, insert_edges};
+use crate::looks::Made;
 use sgb_combine::{LengthsDelta, LengthsSpec, random_lengths, revert_lengths};
 use sgb_flip::Flip;
 use sgb_graph::{ArcNo, Graph, Refusal};

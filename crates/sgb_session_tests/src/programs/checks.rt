@@ -1,7 +1,7 @@
 //! Saved texts, and what is told of them.
 
 use crate::fake::Room;
-use crate::texts::{EDGE, LARGE, WRONG};
+use crate::programs::texts::{EDGE, LARGE, WRONG};
 use sgb_print::RunFault;
 use sgb_programs::check;
 use sgb_text::CheckRule;

@@ -1,10 +1,11 @@
 //! The lengths that seeds 0 and 5 give, and the order of the refusals.
 
-use crate::graphs::{Made, has_id, one_edge};
-use crate::lengths::graphs::{
+use crate::combine::graphs::{has_id, one_edge};
+use crate::combine::lengths::graphs::{
     Kept, has_lengths, keeps_id, keeps_lengths, kept, lengthen, lengthen_and_back, mixed, paired,
     without,
 };
+use crate::looks::Made;
 use sgb_combine::LengthsSpec;
 use sgb_flip::Flip;
 use sgb_graph::Refusal;

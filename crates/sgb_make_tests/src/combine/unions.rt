@@ -1,6 +1,7 @@
 //! A union of many edges, which are counted plainly.
 
-use crate::graphs::{Made, union_of};
+use crate::combine::graphs::union_of;
+use crate::looks::Made;
 use sgb_graph::{Graph, Refusal, VertexNo};
 use std::alloc::Global;
 

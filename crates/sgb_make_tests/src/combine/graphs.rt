@@ -1,6 +1,7 @@
 //! Graphs to combine, and questions that promise nothing, so that the proof of a test stays short. For the same reason
 //! operands and answers are handed about with their refusals, and a function has few graphs of its own.
 
+use crate::looks::Made;
 use sgb_combine::{
     ComplementSpec, GunionSpec, ProductSpec, complement, gunion, intersection, product,
 };
@@ -12,9 +13,6 @@ use std::alloc::Global;
 
 /// An arc or an edge from one vertex to another, of this length.
 pub type Line = (u32, u32, i64);
-
-/// A graph, or its refusal.
-pub type Made = Result<Graph, Refusal>;
 
 /// A graph of n vertices with these edges and then these arcs.
 pub fn graph_of(alloc: Global, n: u32, edges: &[Line], arcs: &[Line]) -> Made {

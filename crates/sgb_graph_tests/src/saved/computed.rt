@@ -2,7 +2,7 @@
 ghost use Rattle.std.specs.Prelude.{◌≡◌, [], ◌∷◌, Some, None};
 ghost use Rattle.sgb_graph.specs.declared.field.Util.TheVariants.{Zero};
 ghost use Rattle.sgb_graph.specs.Linked.{graph_of_parts};
-ghost use Rattle.sgb_text_tests.specs.Example.{parts, link, to, names, graph, arc};
+ghost use Rattle.sgb_graph_tests.specs.Example.{parts, link, to, names, graph, arc};
 
 // A list of two arcs, one of which names the other, and a record that no list reaches, with a bad tip and value.
 fn linked()

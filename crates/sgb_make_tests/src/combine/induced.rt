@@ -1,6 +1,7 @@
 //! What a refused growth of an induced graph leads to.
 
-use crate::graphs::{Made, counts, graph_of, view_of};
+use crate::combine::graphs::{counts, graph_of, view_of};
+use crate::looks::Made;
 use sgb_graph::{ArcNo, Graph, Place, Refusal, Text, Util, VertexField, VertexNo};
 use sgb_induced::{InducedSpec, induced};
 use std::alloc::Global;

@@ -1,9 +1,9 @@
 //! What refused growths lead to: who asks again has what is asked for. Expected values come from another implementation.
 
-use crate::graphs::{
-    Made, complement_of, first, intersection_of_both, is_as, one_edge, product_of_edges,
-    union_of_both,
+use crate::combine::graphs::{
+    complement_of, first, intersection_of_both, is_as, one_edge, product_of_edges, union_of_both,
 };
+use crate::looks::Made;
 use sgb_graph::Refusal;
 use std::alloc::Global;
 

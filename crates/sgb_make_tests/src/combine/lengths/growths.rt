@@ -1,7 +1,8 @@
 //! What refused growths lead to: who asks again has what is asked for. The lengths are those of seed 5.
 
-use crate::graphs::{Made, has_id};
-use crate::lengths::graphs::{has_lengths, lengthen, paired};
+use crate::combine::graphs::has_id;
+use crate::combine::lengths::graphs::{has_lengths, lengthen, paired};
+use crate::looks::Made;
 use sgb_combine::LengthsSpec;
 use sgb_flip::Flip;
 use sgb_graph::Refusal;

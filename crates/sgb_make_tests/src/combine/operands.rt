@@ -1,6 +1,7 @@
 //! Operands: their spokes, and the refusal of one that leads nowhere.
 
-use crate::graphs::{Made, first, leading_to};
+use crate::combine::graphs::{first, leading_to};
+use crate::looks::Made;
 use sgb_graph::{Graph, Refusal, Spoke, Tip, VertexNo, check_operand, read_spokes};
 use std::alloc::{AllocError, Global};
 

@@ -1,7 +1,7 @@
 //! Saved texts in the text forms of other tools.
 
 use crate::fake::Room;
-use crate::texts::{EDGE, LARGE, WRONG};
+use crate::programs::texts::{EDGE, LARGE, WRONG};
 use sgb_export::Format;
 use sgb_graph::Refusal;
 use sgb_print::{MeteredWriter, RunFault};
