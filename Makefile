@@ -41,12 +41,13 @@ mutants:
 mutants-check:
 	@python3 tests/mutants.py --unchanged $(CRATE)
 
-# Compares the transcripts of each example and of each script of tests/corpus, and those of the descriptions; and the programs
-# that docs/library.md shows with those that are proved.
+# Compares the transcripts of each example and of each script of tests/corpus, and those of the descriptions; the programs
+# that docs/library.md shows with those that are proved; and the clauses that docs/contracts.md names with the sources.
 examples: bin/sgb
 	sh tests/examples.sh bin/sgb
-	python3 tests/documents.py bin/sgb README.md docs/language.md docs/combinations.md
+	python3 tests/documents.py bin/sgb README.md docs/tutorial.md docs/language.md docs/combinations.md
 	python3 tests/shown.py docs/library.md crates/sgb_library_tests
+	python3 tests/contracts.py docs/contracts.md
 
 # Runs scripts with each allocation failed in its turn.
 growths: bin/sgb tests/out/refuse_growth.so
@@ -162,7 +163,11 @@ test-tools: bin/sgb
 pictures: bin/sgb
 	python3 docs/pictures.py bin/sgb
 
-.PHONY: manual uninstall
+.PHONY: definitions manual uninstall
+
+# Lists the pages of specs/ that a reader has to believe, each after those that it rests on, with their lines.
+definitions:
+	@python3 tests/definitions.py
 
 # Writes the manual page from the description of the language.
 manual:

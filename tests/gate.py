@@ -2,7 +2,8 @@
 """Proves, tests and tells how far it is, one line a crate or part. What the prover says goes to a log.
 
     gate.py prove   proves the program's crates, over what earlier runs kept, and leaves the program as bin/sgb
-    gate.py library proves the crate in this folder alone, for `prove`
+    gate.py library JOBS
+                    proves the crate in this folder alone, for `prove`
     gate.py quick   checks and tests the crates that changed, and those above them, over the same work; no mutants
     gate.py test    the merge gate: all proofs and tests, the mutants, and the proved program at work
 """
@@ -130,13 +131,13 @@ def counted(lines):
     return (int(found[1]), int(found[2])) if found else None
 
 
-def prove_crate(log, crate):
-    """Proves a crate and prints a line of it, and returns whether it is proved."""
+def prove_crate(log, crate, jobs):
+    """Proves a crate by so many jobs and prints a line of it, and returns whether it is proved."""
     start = time.time()
     if crate.makes_rlib() and crate.is_built():
         print('%-12s was proved before' % crate.name, flush=True)
         return True
-    words = [sys.executable, os.path.abspath(__file__), 'library'] if crate.makes_rlib() else ['rt', 'run', '--', '--version']
+    words = [sys.executable, os.path.abspath(__file__), 'library', str(jobs)] if crate.makes_rlib() else ['rt', 'run', '--', '--version']
     status, lines, _ = log.call(words, crate.folder)
     counts = re.findall(r'(?m)^logic=proved .*functions=(\d+)', '\n'.join(lines))
     # (what another checkout on this machine proved of the same files is taken over without a count)
@@ -148,27 +149,31 @@ def prove_crate(log, crate):
     return is_proved
 
 
-def library():
+def library(jobs):
     """Proves the crate in this folder over the libraries below it, which are proved, and leaves its library. `rt lib` does the same, but
     waits for all other runs over the same libraries."""
     rtlib.guarded()
     folder = os.getcwd()
     crate = next(it for it in rtlib.crates_below(os.path.dirname(os.path.dirname(folder))) if it.folder == folder)
-    return crate.build_rlib(['--jobs', '1'], anew=False)
+    return crate.build_rlib(['--jobs', jobs], anew=False)
 
 
 def prove():
-    """Proves the program's crates, as many at a time as there are processors and memory, and leaves the program where it is run."""
+    """Proves the program's crates, as many at a time as there are processors and memory, those first on which most others stand, and leaves
+    the program where it is run. Where few can be proved at a time, each gets several jobs."""
     log = Log('prove')
     program = next(it for it in crates() if it.is_program)
-    left, running, proved = [*program.below(), program], {}, set()
+    whole = [*program.below(), program]
+    below = [lower.name for it in whole for lower in it.below()]
+    left, running, proved = sorted(whole, key=lambda it: -below.count(it.name)), {}, set()
     lanes = max(1, min(rt.processors(), rt.free() // MEMORY))
     with ThreadPoolExecutor(lanes) as pool:
         while left or running:
-            ready = [it for it in left if proved >= {below.name for below in it.below()}]
-            for crate in ready[:lanes - len(running)]:
+            ready = [it for it in left if proved >= {lower.name for lower in it.below()}][:lanes - len(running)]
+            jobs = lanes // max(1, len(running) + len(ready))
+            for crate in ready:
                 left.remove(crate)
-                running[pool.submit(prove_crate, log, crate)] = crate
+                running[pool.submit(prove_crate, log, crate, jobs)] = crate
             if not running:
                 break
             for it in wait(running, return_when=FIRST_COMPLETED).done:
@@ -332,8 +337,11 @@ class Gate:
     def parts_of_program(self):
         self.log.call(['make', REFUSING, FAILING])
         yield 'examples', ['sh', 'tests/examples.sh', PROGRAM]
-        yield 'documents', [sys.executable, 'tests/documents.py', PROGRAM, 'README.md', 'docs/language.md', 'docs/combinations.md']
+        yield 'documents', [sys.executable, 'tests/documents.py', PROGRAM, 'README.md', 'docs/tutorial.md', 'docs/language.md',
+                            'docs/combinations.md']
         yield 'shown', [sys.executable, 'tests/shown.py', 'docs/library.md', 'crates/sgb_library_tests']
+        yield 'contracts', [sys.executable, 'tests/contracts.py', 'docs/contracts.md']
+        yield 'definitions', [sys.executable, 'tests/definitions.py', '--check']
         yield 'manual', [sys.executable, 'docs/manual.py', '--check', 'sgb.1']
         yield 'kept', ['sh', 'tests/kept.sh', PROGRAM]
         yield 'growths', [sys.executable, 'tests/growths.py', PROGRAM, REFUSING]
@@ -349,4 +357,4 @@ COMMANDS = {'prove': prove, 'library': library, 'quick': quick, 'test': lambda: 
 
 if __name__ == '__main__':
     sys.stdout.reconfigure(encoding='utf-8', errors='replace')
-    sys.exit(COMMANDS[sys.argv[1]]())
+    sys.exit(COMMANDS[sys.argv[1]](*sys.argv[2:]))

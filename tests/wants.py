@@ -16,20 +16,8 @@ import tempfile
 from growths import EDGE, NO_MEMORY, QUERIES, Growths, refused_line
 from units import units, word
 
-# Every command, each accepted; all of it undone and redone; at the end a text without its `.`.
-COMMANDS = (b'seed -314159\nnext\nunif 6\ngen\n'
-            b'graph g 4\narc g 0 1 5\nedge g 1 2 -6\nedge g 3 3 1\nlen g 1 9\ncut g 0\nset g V0 u 7\nset g V1 v "seven"\n'
-            b'set g A1 a V2\nset g A2 b A1\nset g G uu ""\ntypes g IIIZZZZAZZZZZV\nlabel g 2 "here"\nid g "map"\nshow g\nsave g\n'
-            b'board b 3 2 0 0 -1 1 0\nboard k 3 3 0 0 5 0 1\nsimplex s 2 -2 0 0 0 0 0\nsimplex c 3 2 2 2 0 0 1\n'
-            b'subsets p 2 1 -4 0 0 0 1 0\nperms a 2 1 1 0 0 0 0\nperms e 1 -2 0 0 0 2 1\nbinary t 3 0 0\nbinary y 3 2 1\n'
-            b'random r 5 4 0 0 0 1 6 -\nrandom q 4 6 -1 1 1 -5 5 1993\nrandom m 2 5 1 1 0 7 7 8\nlist\ngen\n'
-            b'complement d b 0 1 0\ncomplement f p 1 0 1\ngunion u b d 0 0\ngunion w b d 1 1\nintersection i u b 0\n'
-            b'intersection j w u 1\nproduct x b t 0 0\nproduct z t t 1 1\nproduct o t t 2 0\n'
-            b'set b V0 z 3\nset b V1 z -1\nset b V2 z -1\nset b V4 z 1\ninduced h b "classes" 1 0 0\ninduced v b "" 0 1 1\nshow h\n'
-            b'lengths u 0 1 100 -\nlengths w 1 -3 3 7\nshow u\nsave u\nlist\ngen\n'
-            b'load l1 check\n' + EDGE + b'.\nload l2 any\n' + EDGE.replace(b'522', b'523') + b'.\nsave h\ndrop g\n'
-            b'# all of it undone, and done again\n\n' + b'undo\n' * 47 + b'list\ngen\n' + b'redo\n' * 47
-            + b'list\ngen\nshow o\nsave q\nload l3 check\n' + EDGE)
+# A script of every command, each accepted.
+EVERY = os.path.join(os.path.dirname(__file__), 'commands.sgb')
 
 # Groups, accepted and refused, with a text among the members.
 GROUPS = (b'next\ngroup\nend\ngroup\ngraph g 2\nedge g 0 1 5\n# no member\nnext\nload h check\n' + EDGE + b'.\nid h "end"\n'
@@ -54,12 +42,26 @@ def takes_memory(unit):
     return word(first) not in NO_MEMORY or b'"' in first
 
 
+def every_command():
+    """Every command; all of it undone and redone; at the end a text without its `.`."""
+    with open(EVERY, 'rb') as file:
+        script = file.read()
+    firsts = [unit.lines[0] for unit in units(script)]
+    count = sum(not is_question(it) and word(it) != b'save' for it in firsts)
+    return script + b'undo\n' * count + b'list\ngen\n' + b'redo\n' * count + b'list\ngen\nload last check\n' + EDGE
+
+
+def is_question(line):
+    """Whether a line changes nothing and takes no memory: a comment, an empty line, or a question."""
+    return line == b'' or line[:1] == b'#' or word(line) in QUERIES
+
+
 def may_want(script):
     """The numbers of the units that may want for memory. The last may be open, and all before it are accepted."""
     found, standing, undone = set(), [], []
     for unit in units(script, True):
         first = unit.lines[0]
-        if first == b'' or first[:1] == b'#' or word(first) in QUERIES:
+        if is_question(first):
             continue
         if first == b'undo':
             undone.append(standing.pop())
@@ -151,13 +153,13 @@ class Wants(Growths):
 def main():
     program, library = sys.argv[1:]
     wants = Wants(program, library, [])
-    counts = [wants.try_units('the script of every command', COMMANDS)]
+    counts = [wants.try_units('the script of every command', every_command())]
     if wants.transcript_of(b'group\nend\n') == b'grouped 0\n':
         counts.append(wants.try_units('the script of groups', GROUPS))
         wants.try_met(b'seed 7\ngroup\nnext\nend\nundo\nredo\n', [2, 6])
         wants.try_undos(MANY, b'undo\n' * 3)
     with tempfile.TemporaryDirectory() as folder:
-        for name, text in ('edge', EDGE), ('cut', EDGE[:60]), ('wrong', EDGE.replace(b'522', b'523')):
+        for name, text in ('edge', EDGE), ('cut', EDGE[:60]), ('wrong', EDGE.replace(b'822', b'823')):
             path = os.path.join(folder, name)
             with open(path, 'wb') as file:
                 file.write(text)
