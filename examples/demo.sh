@@ -10,7 +10,7 @@ echo '--- its transcript (the program is compiled for this run alone: about a mi
 cat <<'END'
 
 That run is UNPROVED: `rt try` compiles the code and checks none of its contracts. `make` proves the program
-and each function that it stands on, in some 20 minutes, and leaves it as bin/sgb. Then try
+and each function that it stands on, in less than half an hour, and leaves it as bin/sgb. Then try
 
     bin/sgb queen                           the moves of a queen on a board of 3 by 4
     bin/sgb make board 8 8 0 0 5 0 0        a knight's moves as a saved graph, in one line

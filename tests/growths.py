@@ -93,7 +93,7 @@ def units(script):
 
 
 def growing_lines(script):
-    """The numbers of the units that may want for memory, where every command of the script is accepted."""
+    """The numbers of the units that may fail to allocate, where every command of the script is accepted."""
     growing = set()
     standing, undone = [], []
     lines = script.splitlines()

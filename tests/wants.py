@@ -57,7 +57,7 @@ def is_question(line):
 
 
 def may_want(script):
-    """The numbers of the units that may want for memory. The last may be open, and all before it are accepted."""
+    """The numbers of the units that may fail to allocate. The last may be open, and all before it are accepted."""
     found, standing, undone = set(), [], []
     for unit in units(script, True):
         first = unit.lines[0]
