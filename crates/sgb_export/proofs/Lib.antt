@@ -1,2 +1,6 @@
 mod ExportedArcs
+mod FormatTexts
 mod NameIndexes
+mod OtherEnds
+mod PackedBits
+mod SimpleEdges

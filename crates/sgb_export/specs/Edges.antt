@@ -4,14 +4,22 @@ use Rattle.std.specs.Cmp.Lexicographic.{pointwise}
 use Rattle.std.specs.List.{list_all, list_any, range_with_len}
 use Rattle.std.specs.Fmt.{decimal, signed_decimal}
 use Rattle.sgb_graph.specs.Graph.{GraphOf, n_of, label_of}
+use Rattle.sgb_print.specs.Show.{quoted}
 use Rattle.sgb_export.specs.declared.link.Link.{Link}
 use Rattle.sgb_export.specs.Links.{links}
 use Rattle.sgb_export.specs.Dot.{kind}
 
 -- # graph N M
-abbrev pub edges_head : Bool → GraphOf → List ℕ
-edges_head directed g =
+abbrev pub counts_line : Bool → GraphOf → List ℕ
+counts_line directed g =
     codes "# " ++ kind directed ++ codes " " ++ decimal (n_of g) ++ codes " " ++ decimal (length (links directed g)) ++ codes "\n"
+
+-- # id "ID"
+abbrev pub id_line : GraphOf → List ℕ
+id_line g = codes "# id " ++ quoted g.id ++ codes "\n"
+
+abbrev pub edges_head : Bool → GraphOf → List ℕ
+edges_head directed g = counts_line directed g ++ id_line g
 
 -- U V LEN
 abbrev pub edges_link : Link → List ℕ

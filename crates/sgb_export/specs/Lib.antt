@@ -2,6 +2,9 @@ pub mod Dimacs
 pub mod Dot
 pub mod Edges
 pub mod Export
+pub mod Graph6
 pub mod Graphml
 pub mod Links
+pub mod Private
+pub mod Simple
 pub mod Text

@@ -7,7 +7,7 @@ ghost use Rattle.sgb_export.specs.Dot.{arrow, dot_head, dot_vertex, dot_link};
 use crate::link::Link;
 use itoa::Buffer;
 use sgb_graph::{Graph, VertexNo};
-use sgb_print::{Failed, MeteredWriter, put_all};
+use sgb_print::{Failed, MeteredWriter, Page, put_all};
 use std::io::Write;
 
 // Returns what joins the endpoints of an edge or arc.
@@ -58,22 +58,13 @@ pub(crate) fn put_dot_link<W: Write>(
 ) -> Result<(), Failed>
     ensures { Prints writer.old writer.new result (dot_link directed link) }
 {
-    let mut from_digits = Buffer::new();
-    let from = from_digits.format(link.from).as_bytes();
-    let mut to_digits = Buffer::new();
-    let to = to_digits.format(link.to).as_bytes();
-    let mut len_digits = Buffer::new();
-    let len = len_digits.format(link.len).as_bytes();
-    put_all(
-        writer,
-        &[
-            b"  ",
-            from,
-            arrow(directed).as_bytes(),
-            to,
-            b" [label=\"",
-            len,
-            b"\"];\n",
-        ],
-    )
+    let mut line = Page::new();
+    line.prepend(b"\"];\n");
+    line.prepend_signed(link.len);
+    line.prepend(b" [label=\"");
+    line.prepend_number(u64::from(link.to));
+    line.prepend(arrow(directed).as_bytes());
+    line.prepend_number(u64::from(link.from));
+    line.prepend(b"  ");
+    line.print(writer)
 }

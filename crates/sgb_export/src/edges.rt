@@ -3,13 +3,13 @@ ghost use Rattle.std.specs.Prelude.{◌≡◌, ◌<◌};
 ghost use Rattle.sgb_graph.specs.Graph.{n_of};
 ghost use Rattle.sgb_print.specs.Print.{Prints};
 ghost use Rattle.sgb_export.specs.Dot.{kind};
-ghost use Rattle.sgb_export.specs.Edges.{edges_head, edges_link, named_link};
+ghost use Rattle.sgb_export.specs.Edges.{counts_line, edges_head, edges_link, id_line, named_link};
 
 use crate::count::count_links;
 use crate::link::Link;
 use itoa::Buffer;
 use sgb_graph::{Graph, VertexNo};
-use sgb_print::{Failed, MeteredWriter, put_all};
+use sgb_print::{Failed, MeteredWriter, Page, put_all};
 use std::io::Write;
 
 // Returns the word that says whether edges or arcs follow.
@@ -19,13 +19,25 @@ fn kind(directed: bool) -> &'static str
     if directed { "digraph" } else { "graph" }
 }
 
-// Writes the kind and the counts.
+// Writes the kind and the counts, and the id.
 pub(crate) fn put_edges_head<W: Write>(
     writer: &mut MeteredWriter<W>,
     graph: &Graph,
     directed: bool,
 ) -> Result<(), Failed>
     ensures { Prints writer.old writer.new result (edges_head directed graph.now) }
+{
+    put_counts(writer, graph, directed)?;
+    put_id(writer, graph)
+}
+
+// Writes the line with the kind and the counts.
+fn put_counts<W: Write>(
+    writer: &mut MeteredWriter<W>,
+    graph: &Graph,
+    directed: bool,
+) -> Result<(), Failed>
+    ensures { Prints writer.old writer.new result (counts_line directed graph.now) }
 {
     let mut vertex_digits = Buffer::new();
     let vertices = vertex_digits.format(graph.n()).as_bytes();
@@ -45,6 +57,13 @@ pub(crate) fn put_edges_head<W: Write>(
     )
 }
 
+// Writes the line with the id.
+fn put_id<W: Write>(writer: &mut MeteredWriter<W>, graph: &Graph) -> Result<(), Failed>
+    ensures { Prints writer.old writer.new result (id_line graph.now) }
+{
+    put_all(writer, &[b"# id \"", graph.id(), b"\"\n"])
+}
+
 // Writes the line of an edge or arc, by the numbers of its endpoints.
 pub(crate) fn put_edges_link<W: Write>(
     writer: &mut MeteredWriter<W>,
@@ -52,13 +71,14 @@ pub(crate) fn put_edges_link<W: Write>(
 ) -> Result<(), Failed>
     ensures { Prints writer.old writer.new result (edges_link link) }
 {
-    let mut from_digits = Buffer::new();
-    let from = from_digits.format(link.from).as_bytes();
-    let mut to_digits = Buffer::new();
-    let to = to_digits.format(link.to).as_bytes();
-    let mut len_digits = Buffer::new();
-    let len = len_digits.format(link.len).as_bytes();
-    put_all(writer, &[from, b" ", to, b" ", len, b"\n"])
+    let mut line = Page::new();
+    line.prepend(b"\n");
+    line.prepend_signed(link.len);
+    line.prepend(b" ");
+    line.prepend_number(u64::from(link.to));
+    line.prepend(b" ");
+    line.prepend_number(u64::from(link.from));
+    line.print(writer)
 }
 
 // Writes the line of an edge or arc, by the labels of its endpoints.

@@ -6,7 +6,7 @@ use thiserror::Error;
 /// Why an export failed.
 #[derive(Clone, Copy, Debug, PartialEq, Eq, Error)]
 pub enum ExportFault {
-    /// The graph has no text in this format, or the index of its labels could not be allocated. Nothing was written.
+    /// The graph has no text in this format, or what it needs could not be allocated. Nothing was written.
     #[error("{0}")]
     Refused(Refusal),
     /// A write failed. A front of the text was written.

@@ -1,32 +1,49 @@
 //! The text of a graph, part by part.
-ghost use Rattle.std.specs.Prelude.{◌≡◌, ◌≤◌, ◌<◌, ◌+◌, IfOk, length};
+ghost use Rattle.std.specs.Prelude.{◌≡◌, ◌≤◌, ◌<◌, ◌+◌, IfOk, None, length};
 ghost use Rattle.sgb_graph.specs.Graph.{n_of};
 ghost use Rattle.sgb_print.specs.Print.{Prints};
+ghost use Rattle.sgb_export.specs.Export.{refusal_of_export};
 ghost use Rattle.sgb_export.specs.Links.{links, links_at};
-ghost use Rattle.sgb_export.specs.Text.{export_text, is_directed_in, head_text, vertex_text, vertices_text, link_text, links_text, foot_text};
+ghost use Rattle.sgb_export.specs.Private.Marks.{AreMarks};
+ghost use Rattle.sgb_export.specs.Text.{export_text, listed_text, is_directed_in, head_text, vertex_text, vertices_text, link_text, links_text, foot_text};
 
 use crate::Format;
-use crate::dimacs::{put_dimacs_head, put_dimacs_link};
+use crate::dimacs::{put_col_head, put_col_link, put_dimacs_head, put_dimacs_link};
 use crate::direction::is_directed;
 use crate::dot::{put_dot_head, put_dot_link, put_dot_vertex};
 use crate::edges::{put_edges_head, put_edges_link, put_named_link};
+use crate::graph6::put_graph6;
 use crate::graphml::{put_graphml_head, put_graphml_link, put_graphml_vertex};
 use crate::link::{Link, is_written, link_at};
+use crate::position::put_placed_vertex;
 use sgb_graph::{Graph, VertexNo};
 use sgb_print::{Failed, MeteredWriter, put};
 use std::io::Write;
 
-/// Writes the text of a graph, or a front of it if a write fails: each edge once if the graph is undirected, otherwise
-/// each arc, vertex by vertex in the order of its list. Utility fields are left out. An arc that leads to no vertex is
-/// written as an arc to vertex 0; [`crate::check_export`] refuses such graphs.
-///
-/// Does not allocate. Reads the whole graph.
-pub fn write_export<W: Write>(
+// Writes the text of a graph that is not refused, or a front of it if a write fails. The marks are for graph6.
+pub(crate) fn write_export<W: Write>(
+    writer: &mut MeteredWriter<W>,
+    graph: &Graph,
+    format: Format,
+    marks: &mut [u32],
+) -> Result<(), Failed>
+    requires accepted { refusal_of_export format graph.now ≡ None }
+    requires marks { AreMarks format graph.now marks.old }
+    ensures { Prints writer.old writer.new result (export_text format graph.now) }
+{
+    match format {
+        Format::Graph6 => put_graph6(writer, graph, marks),
+        _ => put_parts(writer, graph, format),
+    }
+}
+
+// Writes the head, the vertices, the edges or arcs, and the foot.
+fn put_parts<W: Write>(
     writer: &mut MeteredWriter<W>,
     graph: &Graph,
     format: Format,
 ) -> Result<(), Failed>
-    ensures { Prints writer.old writer.new result (export_text format graph.now) }
+    ensures { Prints writer.old writer.new result (listed_text format graph.now) }
 {
     let directed = is_directed_in(format, graph);
     put_head(writer, graph, format, directed)?;
@@ -55,9 +72,11 @@ fn put_head<W: Write>(
     ensures { Prints writer.old writer.new result (head_text format directed graph.now) }
 {
     match format {
-        Format::Dot => put_dot_head(writer, graph, directed),
+        Format::Dot | Format::PlacedDot => put_dot_head(writer, graph, directed),
         Format::Dimacs => put_dimacs_head(writer, graph),
+        Format::Col => put_col_head(writer, graph),
         Format::Edges | Format::NamedEdges => put_edges_head(writer, graph, directed),
+        Format::Graph6 => Ok(()),
         Format::Graphml => put_graphml_head(writer, graph, directed),
     }
 }
@@ -88,6 +107,7 @@ fn put_vertex<W: Write>(
 {
     match format {
         Format::Dot => put_dot_vertex(writer, graph, vertex),
+        Format::PlacedDot => put_placed_vertex(writer, graph, vertex),
         Format::Graphml => put_graphml_vertex(writer, graph, vertex),
         _ => Ok(()),
     }
@@ -152,10 +172,12 @@ fn put_link<W: Write>(
     // The contract of `n` says that there are at most 65,535 vertices.
     let _ = graph.n();
     match format {
-        Format::Dot => put_dot_link(writer, directed, link),
+        Format::Dot | Format::PlacedDot => put_dot_link(writer, directed, link),
         Format::Dimacs => put_dimacs_link(writer, link),
+        Format::Col => put_col_link(writer, link),
         Format::Edges => put_edges_link(writer, link),
         Format::NamedEdges => put_named_link(writer, graph, link),
+        Format::Graph6 => Ok(()),
         Format::Graphml => put_graphml_link(writer, number, link),
     }
 }
@@ -165,7 +187,7 @@ fn put_foot<W: Write>(writer: &mut MeteredWriter<W>, format: Format) -> Result<(
     ensures { Prints writer.old writer.new result (foot_text format) }
 {
     match format {
-        Format::Dot => put(writer, b"}\n"),
+        Format::Dot | Format::PlacedDot => put(writer, b"}\n"),
         Format::Graphml => put(writer, b"  </graph>\n</graphml>\n"),
         _ => Ok(()),
     }

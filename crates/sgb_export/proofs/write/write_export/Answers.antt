@@ -1,26 +1,9 @@
-use Rattle.sgb_print.proofs.TextPieces.{fails_early, prints_behind}
-use Rattle.sgb_export.specs.Text.{export_text}
+use Rattle.sgb_print.proofs.TextPieces.{prints_same}
+use Rattle.sgb_export.proofs.FormatTexts.{graph6_is, listed_is}
 use Rattle.sgb_export.proofs.write.write_export.Goals as goal
 
-pub returns-in_err-put_head : goal.returns-in_err-put_head
-unfolding export_text
-returns-in_err-put_head g c = rw (← c.is_directed_in-directed.ensures) (fails_early _ c.in_err-put_head.ensures c.from_residual.ensures.0)
+pub returns-in-Graph6 : goal.returns-in-Graph6
+returns-in-Graph6 g c = prints_same c.put_graph6.ensures (graph6_is c.args.format c.args.graph.now c.in-Graph6.is)
 
-pub returns-in_err-put_vertices : goal.returns-in_err-put_vertices
-unfolding export_text
-returns-in_err-put_vertices g c =
-    rw (← c.is_directed_in-directed.ensures)
-    (prints_behind c.in_ok-put_head.ensures (fails_early _ c.in_err-put_vertices.ensures c.from_residual-in_err-put_vertices.ensures.0))
-
-pub returns-in_err-put_links : goal.returns-in_err-put_links
-unfolding export_text
-returns-in_err-put_links g c =
-    rw (← c.is_directed_in-directed.ensures)
-    (prints_behind c.in_ok-put_head.ensures
-    (prints_behind c.in_ok-put_vertices.ensures (fails_early _ c.in_err-put_links.ensures c.from_residual-in_err-put_links.ensures.0)))
-
-pub returns : goal.returns
-unfolding export_text
-returns g c =
-    rw (← c.is_directed_in-directed.ensures)
-    (prints_behind c.in_ok-put_head.ensures (prints_behind c.in_ok-put_vertices.ensures (prints_behind c.in_ok-put_links.ensures c.put_foot.ensures)))
+pub returns-in_default : goal.returns-in_default
+returns-in_default g c = prints_same c.put_parts.ensures (listed_is c.args.format c.args.graph.now c.in_default.not-Graph6)
