@@ -1,0 +1,10 @@
+pub mod Dimacs
+pub mod Edges
+pub mod Graph6
+pub mod Import
+pub mod Laws
+pub mod Lines
+pub mod Numbers
+pub mod Outline
+pub mod Private
+pub mod Refusal
