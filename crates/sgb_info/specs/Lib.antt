@@ -1,0 +1,5 @@
+pub mod Components
+pub mod Degrees
+pub mod Info
+pub mod Private
+pub mod Repeats
