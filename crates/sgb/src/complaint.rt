@@ -1,5 +1,6 @@
 //! Why the program ends with a line on standard error.
 
+use sgb_import::ImportRefusal;
 use sgb_shell::RunFault;
 use std::alloc::{AllocError, AllocFailed};
 use std::io;
@@ -17,13 +18,16 @@ pub enum Complaint<'a> {
     /// No fault, but a refusal: its number and its text.
     #[error("refused {0} {1}")]
     Refused(u8, &'static str),
+    /// The same of a text of another tool, with its line.
+    #[error("refused {0} {1}")]
+    NotImported(u8, ImportRefusal),
 }
 
 impl<'a> Complaint<'a> {
     /// How the program ended: a refusal is no fault.
     pub fn end(&self) -> Result<bool, RunFault> {
         match self {
-            Complaint::Refused(_, _) => Ok(false),
+            Complaint::Refused(_, _) | Complaint::NotImported(_, _) => Ok(false),
             Complaint::Fault(fault) => Err(*fault),
             _ => Err(RunFault::Read),
         }

@@ -1,59 +1,93 @@
-//! The queen's moves, the check and the export of a saved graph, and graphs that words make, to standard output.
+//! The queen's moves, the check, the export and the facts of a saved graph, and graphs that are imported or made, to standard
+//! output.
 
+use crate::complaint::Complaint;
+use crate::inputs::{read_input, read_operands};
+use crate::task::{Input, Making};
 use sgb_export::Format;
-use sgb_graph::Refusal;
+use sgb_import::Source;
 use sgb_programs::{
-    EXPORT_LIMIT, FILE_LIMIT, Finished, check, export_text, make, queen, read_file,
+    CHECK_LIMIT, Finished, INPUT_LIMIT, check, export_text, import_text, info_text, make, queen,
 };
-use sgb_shell::{MeteredReader, RunFault, ShellRefusal};
+use sgb_shell::RunFault;
 use sgb_text::CheckRule;
-use std::io::{BufWriter, Read, Write};
+use std::io::{BufWriter, Stdout, Write};
 
 /// Writes the queen's moves.
 pub fn print_queen(rt: &HostRuntime) -> Result<(), RunFault> {
-    match BufWriter::new(rt.alloc(), rt.stdout()) {
-        Ok(writer) => outcome(queen(rt.alloc(), writer)),
-        Err(_) => Err(RunFault::NoRoom),
-    }
+    outcome(queen(rt.alloc(), writer(rt)?))
 }
 
-/// Reads a file to its end, tells what saved graph it is or why it is refused, and answers whether it is accepted.
-pub fn print_check<R: Read + Drop>(
+/// Tells what saved graph an input is or why it is refused, and answers whether it is accepted.
+pub fn print_check<'a>(
     rt: &HostRuntime,
-    file: R,
+    input: Input<'a>,
     rule: CheckRule,
-) -> Result<bool, RunFault> {
-    let mut reader = MeteredReader::new(file);
-    let text = read_file(rt.alloc(), &mut reader, FILE_LIMIT)?;
-    match BufWriter::new(rt.alloc(), rt.stdout()) {
-        Ok(writer) => outcome(check(rt.alloc(), text.as_slice(), rule, writer)),
-        Err(_) => Err(RunFault::NoRoom),
-    }
+) -> Result<bool, Complaint<'a>> {
+    let text = read_input(rt, input, CHECK_LIMIT)?;
+    Ok(outcome(check(rt.alloc(), text.as_slice(), rule, writer(rt)?))?)
 }
 
-/// Reads a file to its end, writes the saved graph that it is in this form, and answers why it was refused, if it was.
-pub fn print_export<R: Read + Drop>(
+/// Writes the saved graph that an input is in this form.
+pub fn print_export<'a>(
     rt: &HostRuntime,
-    file: R,
+    input: Input<'a>,
     rule: CheckRule,
     format: Format,
-) -> Result<Result<(), Refusal>, RunFault> {
-    let mut reader = MeteredReader::new(file);
-    let text = read_file(rt.alloc(), &mut reader, EXPORT_LIMIT)?;
-    match BufWriter::new(rt.alloc(), rt.stdout()) {
-        Ok(writer) => outcome(export_text(rt.alloc(), text.as_slice(), rule, format, writer)),
-        Err(_) => Err(RunFault::NoRoom),
+) -> Result<(), Complaint<'a>> {
+    let text = read_input(rt, input, INPUT_LIMIT)?;
+    match outcome(export_text(rt.alloc(), text.as_slice(), rule, format, writer(rt)?))? {
+        Ok(()) => Ok(()),
+        Err(refusal) => Err(Complaint::Refused(refusal.number(), refusal.text())),
     }
 }
 
-/// Writes the saved text of the graph that a command makes with these words, and answers why it was refused, if it was.
-pub fn print_made(
+/// Writes the saved text of the graph that an input is in this form.
+pub fn print_import<'a>(
     rt: &HostRuntime,
-    command: &str,
-    words: &[&[u8]],
-) -> Result<Result<(), ShellRefusal>, RunFault> {
+    input: Input<'a>,
+    source: Source,
+) -> Result<(), Complaint<'a>> {
+    let text = read_input(rt, input, INPUT_LIMIT)?;
+    match outcome(import_text(rt.alloc(), text.as_slice(), source, writer(rt)?))? {
+        Ok(()) => Ok(()),
+        Err(refusal) => Err(Complaint::NotImported(refusal.number(), refusal)),
+    }
+}
+
+/// Writes the facts of the saved graph that an input is.
+pub fn print_info<'a>(
+    rt: &HostRuntime,
+    input: Input<'a>,
+    rule: CheckRule,
+) -> Result<(), Complaint<'a>> {
+    let text = read_input(rt, input, INPUT_LIMIT)?;
+    match outcome(info_text(rt.alloc(), text.as_slice(), rule, writer(rt)?))? {
+        Ok(()) => Ok(()),
+        Err(refusal) => Err(Complaint::Refused(refusal.number(), refusal.text())),
+    }
+}
+
+/// Writes the saved text of the graph that a command makes.
+pub fn print_made<'a>(rt: &HostRuntime, making: Making<'a>) -> Result<(), Complaint<'a>> {
+    let operands = read_operands(rt, making.inputs)?;
+    let made = make(
+        rt.alloc(),
+        making.rule,
+        operands,
+        making.command.as_bytes(),
+        making.words.as_slice(),
+        writer(rt)?,
+    );
+    match outcome(made)? {
+        Ok(()) => Ok(()),
+        Err(refusal) => Err(Complaint::Refused(refusal.number(), refusal.text())),
+    }
+}
+
+fn writer(rt: &HostRuntime) -> Result<BufWriter<Stdout>, RunFault> {
     match BufWriter::new(rt.alloc(), rt.stdout()) {
-        Ok(writer) => outcome(make(rt.alloc(), command.as_bytes(), words, writer)),
+        Ok(writer) => Ok(writer),
         Err(_) => Err(RunFault::NoRoom),
     }
 }

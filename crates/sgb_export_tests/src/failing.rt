@@ -1,13 +1,17 @@
 //! Writers that fail.
 
-use crate::graphs::{Made, one_edge, single};
-use sgb_export::{ExportFault, Format, export, write_export};
+use crate::graphs::{Made, one_edge, placed, single};
+use sgb_export::{ExportFault, Format, export};
 use sgb_graph::Graph;
 use sgb_print::MeteredWriter;
 use std::alloc::Global;
 use std::io::{Error, ErrorKind, Write};
 
 const EDGE: &str = "c gb_new_graph(2)\np sp 2 2\na 1 2 5\na 2 1 5\n";
+
+const COL: &str = "c gb_new_graph(2)\np edge 2 1\ne 1 2\n";
+
+const PLACED: &str = "graph \"gb_new_graph(1)\" {\n  0 [label=\"\", pos=\"-216,0\"];\n}\n";
 
 // Takes so many bytes, one at a time, and then fails.
 #[derive(Drop)]
@@ -56,15 +60,24 @@ fn fails_after(alloc: Global, made: &Made, format: Format, text: &[u8]) -> bool 
     }
 }
 
+// Whether a writer fails behind each front of the text, and keeps it.
+fn fails_everywhere(alloc: Global, made: &Made, format: Format, text: &str) -> bool {
+    for room in 0..text.len() {
+        if !fails_after(alloc, made, format, &text.as_bytes()[..room]) {
+            return false;
+        }
+    }
+    true
+}
+
 #[test]
 fn failed_writes_are_told(rt: HostRuntime) {
-    let graph = one_edge(rt.alloc());
-    for room in 0..EDGE.len() {
-        assert!(rt;
-            fails_after(rt.alloc(), &graph, Format::Dimacs, &EDGE.as_bytes()[..room]),
-            "room for {room}"
-        );
-    }
+    let alloc = rt.alloc();
+    let edge = one_edge(alloc);
+    assert!(rt; fails_everywhere(alloc, &edge, Format::Dimacs, EDGE));
+    assert!(rt; fails_everywhere(alloc, &edge, Format::Col, COL));
+    assert!(rt; fails_everywhere(alloc, &edge, Format::Graph6, "A_\n"));
+    assert!(rt; fails_everywhere(alloc, &placed(alloc, 0, -3, 0), Format::PlacedDot, PLACED));
 }
 
 // Whether a writer with so much room fails.
@@ -85,21 +98,4 @@ fn no_failure_is_forgotten(rt: HostRuntime) {
         );
     }
     assert!(rt; !fails_with(rt.alloc(), &graph, Format::Graphml, 440));
-}
-
-// The text that is written where nothing is checked.
-fn unchecked(alloc: Global, made: &Made) -> Option<usize> {
-    let Ok(graph) = made else {
-        return None;
-    };
-    let mut writer = MeteredWriter::new(Vec::new(alloc));
-    match write_export(&mut writer, graph, Format::Dimacs) {
-        Ok(()) => Some(writer.into_inner().len()),
-        Err(_) => None,
-    }
-}
-
-#[test]
-fn the_text_alone(rt: HostRuntime) {
-    assert!(rt; unchecked(rt.alloc(), &one_edge(rt.alloc())) == Some(EDGE.len()));
 }

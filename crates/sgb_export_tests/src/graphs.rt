@@ -2,8 +2,8 @@
 
 use sgb_export::{ExportFault, Format, export};
 use sgb_graph::{
-    ArcNo, ArcPart, Graph, Items, Label, Parts, Refusal, Text, Tip, Types, Util, VertexNo,
-    VertexPart,
+    ArcNo, ArcPart, Graph, Items, Label, Parts, Place, Refusal, Text, Tip, Types, Util,
+    VertexField, VertexNo, VertexPart,
 };
 use sgb_print::MeteredWriter;
 use std::alloc::Global;
@@ -29,6 +29,16 @@ fn label(alloc: Global, graph: &mut Graph, vertex: u32, name: &[u8]) -> Result<(
 
 fn set_id(alloc: Global, graph: &mut Graph, id: &[u8]) -> Result<(), Refusal> {
     let _delta = graph.set_id(Text::new(alloc, id)?)?;
+    Ok(())
+}
+
+fn set_field(
+    graph: &mut Graph,
+    vertex: u32,
+    field: VertexField,
+    value: Util,
+) -> Result<(), Refusal> {
+    let _delta = graph.set_util(Place::Vertex(VertexNo(vertex), field), value)?;
     Ok(())
 }
 
@@ -78,6 +88,58 @@ pub fn loops(alloc: Global, directed: bool) -> Made {
     } else {
         edge(&mut graph, 0, 0, 7)?;
     }
+    Ok(graph)
+}
+
+/// Vertices in a row, with an edge from each to the next.
+pub fn path(alloc: Global, n: u32) -> Made {
+    let mut graph = Graph::new(alloc, n)?;
+    for v in 1..n {
+        edge(&mut graph, v - 1, v, 1)?;
+    }
+    Ok(graph)
+}
+
+/// An edge between each two vertices.
+pub fn complete(alloc: Global, n: u32) -> Made {
+    let mut graph = Graph::new(alloc, n)?;
+    for v in 0..n {
+        make_joined(&mut graph, v)?;
+    }
+    Ok(graph)
+}
+
+fn make_joined(graph: &mut Graph, vertex: u32) -> Result<(), Refusal> {
+    for v in 0..vertex {
+        edge(graph, v, vertex, 1)?;
+    }
+    Ok(())
+}
+
+/// So many vertices, and an edge between the last two.
+pub fn last_edge(alloc: Global, n: u32) -> Made {
+    let mut graph = Graph::new(alloc, n)?;
+    edge(&mut graph, n.saturating_sub(1), n.saturating_sub(2), 1)?;
+    Ok(graph)
+}
+
+/// One vertex with these numbers in the fields `w`, `x` and `y`.
+pub fn placed(alloc: Global, w: i64, x: i64, y: i64) -> Made {
+    let mut graph = Graph::new(alloc, 1)?;
+    place(&mut graph, w, x, y)?;
+    Ok(graph)
+}
+
+fn place(graph: &mut Graph, w: i64, x: i64, y: i64) -> Result<(), Refusal> {
+    set_field(graph, 0, VertexField::W, Util::Int(w))?;
+    set_field(graph, 0, VertexField::X, Util::Int(x))?;
+    set_field(graph, 0, VertexField::Y, Util::Int(y))
+}
+
+/// Two vertices, the second with a text in this field.
+pub fn named_place(alloc: Global, field: VertexField) -> Made {
+    let mut graph = Graph::new(alloc, 2)?;
+    set_field(&mut graph, 1, field, Util::Text(Text::new(alloc, b"7")?))?;
     Ok(graph)
 }
 

@@ -1,8 +1,10 @@
 //! Graphs that have no text of a format.
 
-use crate::graphs::{Made, leading_to, text_of, triangle};
+use crate::graphs::{
+    Made, leading_to, loops, named_place, one_arc, one_edge, text_of, triangle, two_edges, uneven,
+};
 use sgb_export::{ExportFault, Format, check_export, export};
-use sgb_graph::{Graph, Refusal, Tip};
+use sgb_graph::{Graph, Refusal, Tip, VertexField};
 use sgb_print::MeteredWriter;
 use std::alloc::Global;
 
@@ -41,6 +43,34 @@ fn names_that_do_not_stand_for_vertices(rt: HostRuntime) {
 fn names_that_a_line_cannot_hold(rt: HostRuntime) {
     assert!(rt; fault_of_names(rt.alloc(), b"b ", b"c") == BAD);
     assert!(rt; fault_of_names(rt.alloc(), b"#b", b"c") == BAD);
+}
+
+// Whether an edge is accepted, and an arc, halves of two lengths, a loop and a repeated edge are refused.
+fn are_bad(alloc: Global, format: Format) -> bool {
+    fault_of(alloc, one_edge(alloc), format).is_none()
+        && fault_of(alloc, one_arc(alloc), format) == BAD
+        && fault_of(alloc, uneven(alloc), format) == BAD
+        && fault_of(alloc, loops(alloc, false), format) == BAD
+        && fault_of(alloc, two_edges(alloc), format) == BAD
+}
+
+#[test]
+fn arcs_loops_and_repeated_edges(rt: HostRuntime) {
+    assert!(rt; are_bad(rt.alloc(), Format::Col));
+    assert!(rt; are_bad(rt.alloc(), Format::Graph6));
+}
+
+// What is told where a vertex has a text in this field.
+fn fault_of_place(alloc: Global, field: VertexField) -> Option<ExportFault> {
+    fault_of(alloc, named_place(alloc, field), Format::PlacedDot)
+}
+
+#[test]
+fn texts_as_positions(rt: HostRuntime) {
+    assert!(rt; fault_of_place(rt.alloc(), VertexField::W).is_none());
+    assert!(rt; fault_of_place(rt.alloc(), VertexField::X) == BAD);
+    assert!(rt; fault_of_place(rt.alloc(), VertexField::Y) == BAD);
+    assert!(rt; fault_of_place(rt.alloc(), VertexField::Z).is_none());
 }
 
 // What is told of a graph before it is written.

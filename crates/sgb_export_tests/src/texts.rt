@@ -1,8 +1,8 @@
 //! The texts of each format.
 
 use crate::graphs::{
-    Made, empty, is_text, leading_to, loops, one_arc, one_edge, petersen, single, text_of,
-    triangle, two_edges, uneven,
+    Made, complete, empty, is_text, last_edge, leading_to, loops, one_arc, one_edge, path,
+    petersen, placed, single, text_of, triangle, two_edges, uneven,
 };
 use sgb_export::Format;
 use sgb_graph::{Tip, VertexNo};
@@ -30,6 +30,26 @@ a 2 3 3
 a 2 1 1
 a 3 2 3
 a 3 1 2
+";
+
+// 72 times the least number of 64 bits.
+const PLACED: &str = "graph \"gb_new_graph(1)\" {
+  0 [label=\"\", pos=\"144,-664082786653543858176\"];
+}
+";
+
+const PLACED_EDGE: &str = "graph \"gb_new_graph(2)\" {
+  0 [label=\"\", pos=\"0,0\"];
+  1 [label=\"\", pos=\"0,0\"];
+  0 -- 1 [label=\"5\"];
+}
+";
+
+const COL_TRIANGLE: &str = "c gb_new_graph(3)
+p edge 3 3
+e 1 3
+e 1 2
+e 2 3
 ";
 
 const GRAPHML_SINGLE: &str = "<?xml version=\"1.0\" encoding=\"UTF-8\"?>
@@ -78,6 +98,64 @@ fn dimacs(rt: HostRuntime) {
 }
 
 #[test]
+fn col(rt: HostRuntime) {
+    let alloc = rt.alloc();
+    let three = triangle(alloc, b"", b"", b"");
+    assert!(rt; is_text(alloc, three, Format::Col, COL_TRIANGLE));
+    let nothing = "c gb_new_graph(0)\np edge 0 0\n";
+    assert!(rt; is_text(alloc, empty(alloc), Format::Col, nothing));
+}
+
+#[test]
+fn placed_dot(rt: HostRuntime) {
+    let alloc = rt.alloc();
+    assert!(rt;
+        is_text(
+            alloc,
+            placed(alloc, 7, 2, i64::MIN),
+            Format::PlacedDot,
+            PLACED
+        )
+    );
+    assert!(rt; is_text(alloc, one_edge(alloc), Format::PlacedDot, PLACED_EDGE));
+}
+
+// Whether this is the graph in graph6, as nauty writes it.
+fn is_graph6(alloc: Global, made: Made, text: &str) -> bool {
+    is_text(alloc, made, Format::Graph6, text)
+}
+
+#[test]
+fn graph6(rt: HostRuntime) {
+    let alloc = rt.alloc();
+    assert!(rt; is_graph6(alloc, empty(alloc), "?\n"));
+    assert!(rt; is_graph6(alloc, complete(alloc, 1), "@\n"));
+    assert!(rt; is_graph6(alloc, one_edge(alloc), "A_\n"));
+    assert!(rt; is_graph6(alloc, complete(alloc, 4), "C~\n"));
+    assert!(rt; is_graph6(alloc, path(alloc, 4), "Ch\n"));
+    assert!(rt; is_graph6(alloc, petersen(alloc), "IheA@GUAo\n"));
+}
+
+// Whether the text of an edge between the last two of 100 vertices is as it should be: the size in four bytes, and 4,950
+// bits, of which the last is set.
+fn is_long(alloc: Global) -> bool {
+    match text_of(alloc, &last_edge(alloc, 100), Format::Graph6) {
+        Ok(text) => {
+            text.len() == 830
+                && text.as_slice().starts_with(b"~?@c?")
+                && text.as_slice().ends_with(b"?@\n")
+                && text.iter().filter(|byte| **byte == b'?').count() == 825
+        }
+        Err(_) => false,
+    }
+}
+
+#[test]
+fn graph6_of_many_vertices(rt: HostRuntime) {
+    assert!(rt; is_long(rt.alloc()));
+}
+
+#[test]
 fn graphml(rt: HostRuntime) {
     let alloc = rt.alloc();
     let one = single(alloc, b"a<b", b"<R&D> x");
@@ -93,32 +171,74 @@ fn is_list(alloc: Global, made: Made, text: &str) -> bool {
 #[test]
 fn edges(rt: HostRuntime) {
     let alloc = rt.alloc();
-    assert!(rt; is_list(alloc, empty(alloc), "# graph 0 0\n"));
-    assert!(rt; is_list(alloc, one_edge(alloc), "# graph 2 1\n0 1 5\n"));
-    assert!(rt; is_list(alloc, two_edges(alloc), "# graph 2 2\n0 1 6\n0 1 5\n"));
+    assert!(rt;
+        is_list(
+            alloc,
+            empty(alloc),
+            "# graph 0 0\n# id \"gb_new_graph(0)\"\n"
+        )
+    );
+    assert!(rt;
+        is_list(
+            alloc,
+            one_edge(alloc),
+            "# graph 2 1\n# id \"gb_new_graph(2)\"\n0 1 5\n"
+        )
+    );
+    assert!(rt;
+        is_list(
+            alloc,
+            two_edges(alloc),
+            "# graph 2 2\n# id \"gb_new_graph(2)\"\n0 1 6\n0 1 5\n"
+        )
+    );
 }
 
 #[test]
 fn arcs(rt: HostRuntime) {
     let alloc = rt.alloc();
-    assert!(rt; is_list(alloc, one_arc(alloc), "# digraph 2 1\n0 1 -5\n"));
-    assert!(rt; is_list(alloc, uneven(alloc), "# digraph 2 2\n0 1 5\n1 0 6\n"));
+    assert!(rt;
+        is_list(
+            alloc,
+            one_arc(alloc),
+            "# digraph 2 1\n# id \"gb_new_graph(2)\"\n0 1 -5\n"
+        )
+    );
+    assert!(rt;
+        is_list(
+            alloc,
+            uneven(alloc),
+            "# digraph 2 2\n# id \"gb_new_graph(2)\"\n0 1 5\n1 0 6\n"
+        )
+    );
 }
 
 #[test]
 fn loops_as_edges_and_as_arcs(rt: HostRuntime) {
     let alloc = rt.alloc();
-    assert!(rt; is_list(alloc, loops(alloc, false), "# graph 1 1\n0 0 7\n"));
-    assert!(rt; is_list(alloc, loops(alloc, true), "# digraph 1 1\n0 0 7\n"));
+    assert!(rt;
+        is_list(
+            alloc,
+            loops(alloc, false),
+            "# graph 1 1\n# id \"gb_new_graph(1)\"\n0 0 7\n"
+        )
+    );
+    assert!(rt;
+        is_list(
+            alloc,
+            loops(alloc, true),
+            "# digraph 1 1\n# id \"gb_new_graph(1)\"\n0 0 7\n"
+        )
+    );
     let to_itself = leading_to(alloc, Tip::To(VertexNo(0)));
-    assert!(rt; is_list(alloc, to_itself, "# digraph 1 1\n0 0 1\n"));
+    assert!(rt; is_list(alloc, to_itself, "# digraph 1 1\n# id \"leading\"\n0 0 1\n"));
 }
 
 #[test]
 fn names(rt: HostRuntime) {
     let alloc = rt.alloc();
     let three = triangle(alloc, b"Ada", b"B#", b"ada");
-    let text = "# graph 3 3\nAda ada 2\nAda B# 1\nB# ada 3\n";
+    let text = "# graph 3 3\n# id \"gb_new_graph(3)\"\nAda ada 2\nAda B# 1\nB# ada 3\n";
     assert!(rt; is_text(alloc, three, Format::NamedEdges, text));
 }
 
@@ -143,7 +263,7 @@ fn counts(rt: HostRuntime) {
     );
     assert!(rt; dimacs == Some(32));
     let edges = lines_of(rt.alloc(), &graph, Format::Edges, b"# graph 10 15\n");
-    assert!(rt; edges == Some(16));
+    assert!(rt; edges == Some(17));
     let dot = lines_of(
         rt.alloc(),
         &graph,

@@ -1,5 +1,6 @@
 mod Queens
 mod FileReads
-mod Standard
+mod InfoOutput
+mod MadeLemmas
 mod CheckOutput
 mod Written

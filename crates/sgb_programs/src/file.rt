@@ -7,10 +7,10 @@ use std::alloc::Global;
 use std::io::Read;
 
 /// The greatest size in bytes of a file that is checked.
-pub const FILE_LIMIT: u32 = 16_777_216;
+pub const CHECK_LIMIT: u32 = 16_777_216;
 
-/// The greatest size in bytes of a file that is exported.
-pub const EXPORT_LIMIT: u32 = 268_435_456;
+/// The greatest size in bytes of a file that is read as a graph.
+pub const INPUT_LIMIT: u32 = 268_435_456;
 
 const CHUNK: usize = 4096;
 

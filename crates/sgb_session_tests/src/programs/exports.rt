@@ -34,6 +34,7 @@ a 2 1 5
 ";
 
 const EDGES: &str = "# graph 2 1
+# id \"gb_new_graph(2)\"
 0 1 5
 ";
 
@@ -152,7 +153,8 @@ fn appended(alloc: Global, front: &[u8]) -> Result<Vec<u8>, Fail> {
 #[test]
 fn a_lent_writer_keeps_what_it_has(rt: HostRuntime) -> Result<(), Fail> {
     let text = appended(rt.alloc(), b"before\n")?;
-    assert!(rt; text.as_slice() == b"before\n# graph 2 1\n0 1 5\n".as_slice());
+    let wanted = b"before\n# graph 2 1\n# id \"gb_new_graph(2)\"\n0 1 5\n";
+    assert!(rt; text.as_slice() == wanted.as_slice());
     Ok(())
 }
 

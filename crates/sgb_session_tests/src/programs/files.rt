@@ -2,7 +2,7 @@
 
 use crate::fake::{Same, Steps};
 use sgb_print::{MeteredReader, RunFault};
-use sgb_programs::{EXPORT_LIMIT, FILE_LIMIT, read_file};
+use sgb_programs::{CHECK_LIMIT, INPUT_LIMIT, read_file};
 use std::alloc::Global;
 use std::io::Read;
 
@@ -25,7 +25,7 @@ fn of_steps(alloc: Global, step: usize, fails: bool) -> Result<(usize, u64), Run
         step,
         fails,
     };
-    count_of(alloc, reader, FILE_LIMIT)
+    count_of(alloc, reader, CHECK_LIMIT)
 }
 
 fn of_length(alloc: Global, left: u32, limit: u32) -> Result<(usize, u64), RunFault> {
@@ -40,7 +40,7 @@ fn is_kept(alloc: Global, rest: &[u8], step: usize) -> bool {
         step,
         fails: false,
     });
-    match read_file(alloc, &mut reader, FILE_LIMIT) {
+    match read_file(alloc, &mut reader, CHECK_LIMIT) {
         Ok(file) => file.as_slice() == rest,
         Err(_) => false,
     }
@@ -68,13 +68,13 @@ fn a_failed_read_is_told(rt: HostRuntime) {
 
 #[test]
 fn the_longest_file_is_read(rt: HostRuntime) {
-    assert!(rt; of_length(rt.alloc(), FILE_LIMIT, FILE_LIMIT) == Ok((16_777_216, 4097)));
+    assert!(rt; of_length(rt.alloc(), CHECK_LIMIT, CHECK_LIMIT) == Ok((16_777_216, 4097)));
 }
 
 #[test]
 fn a_longer_file_is_told(rt: HostRuntime) {
-    assert!(rt; of_length(rt.alloc(), FILE_LIMIT + 1, FILE_LIMIT) == Err(RunFault::TooLong));
-    assert!(rt; of_length(rt.alloc(), FILE_LIMIT + 1, EXPORT_LIMIT) == Ok((16_777_217, 4098)));
+    assert!(rt; of_length(rt.alloc(), CHECK_LIMIT + 1, CHECK_LIMIT) == Err(RunFault::TooLong));
+    assert!(rt; of_length(rt.alloc(), CHECK_LIMIT + 1, INPUT_LIMIT) == Ok((16_777_217, 4098)));
 }
 
 #[test]

@@ -1,9 +1,12 @@
 //! Graphs that are made by words, as another implementation saves them.
 
 use crate::fake::Room;
+use crate::programs::texts::{EDGE, WRONG};
+use sgb_graph::Items;
 use sgb_print::RunFault;
-use sgb_programs::make;
+use sgb_programs::{Operands, make};
 use sgb_script::ShellRefusal;
+use sgb_text::CheckRule;
 use std::alloc::Global;
 use std::test::Fail;
 
@@ -19,7 +22,24 @@ type Made = Result<Vec<u8>, ShellRefusal>;
 
 // What is written of these words, or why they are refused.
 fn made(alloc: Global, command: &str, words: &[&[u8]]) -> Result<Made, Fail> {
-    let finished = make(alloc, command.as_bytes(), words, Vec::new(alloc));
+    made_of(alloc, CheckRule::Match, Operands::Absent, command, words)
+}
+
+fn made_of(
+    alloc: Global,
+    rule: CheckRule,
+    operands: Operands,
+    command: &str,
+    words: &[&[u8]],
+) -> Result<Made, Fail> {
+    let finished = make(
+        alloc,
+        rule,
+        operands,
+        command.as_bytes(),
+        words,
+        Vec::new(alloc),
+    );
     let answer = finished.end?;
     let written = finished.writer.into_inner();
     Ok(match answer {
@@ -59,15 +79,96 @@ fn what_is_refused(rt: HostRuntime) -> Result<(), Fail> {
     assert!(rt; is_refused(alloc, "graph", &[b"-1"], ShellRefusal::BadSpecs)?);
     assert!(rt; is_refused(alloc, "graph", &[b"65536"], ShellRefusal::TooLarge)?);
     assert!(rt; is_refused(alloc, "next", &[], ShellRefusal::ScriptSyntax)?);
-    assert!(rt; is_refused(alloc, "drop", &[], ShellRefusal::ScriptSyntax)?);
+    assert!(rt; is_refused(alloc, "drop", &[], ShellRefusal::NoGraph)?);
+    assert!(rt; is_refused(alloc, "show", &[], ShellRefusal::ScriptSyntax)?);
+    assert!(rt; is_refused(alloc, "seed 1 #", &[], ShellRefusal::ScriptSyntax)?);
     assert!(rt;
         is_refused(
             alloc,
             "intersection",
             &[b"g", b"g", b"0"],
-            ShellRefusal::ScriptSyntax
+            ShellRefusal::NoGraph
         )?
     );
+    Ok(())
+}
+
+fn saved(alloc: Global, text: &str) -> Result<Items<u8>, Fail> {
+    let mut bytes = Vec::new(alloc);
+    bytes.extend_from_slice(text.as_bytes())?;
+    Ok(Items::from_vec(bytes))
+}
+
+// Whether the graph that is made has this line of its id and counts.
+fn is_named(
+    alloc: Global,
+    operands: Operands,
+    command: &str,
+    words: &[&[u8]],
+    line: &str,
+) -> Result<bool, Fail> {
+    let Ok(text) = made_of(alloc, CheckRule::Match, operands, command, words)? else {
+        return Ok(false);
+    };
+    let mut lines = text.split(|byte| *byte == b'\n');
+    Ok(lines.nth(1) == Some(line.as_bytes()))
+}
+
+#[test]
+fn a_graph_is_made_of_others(rt: HostRuntime) -> Result<(), Fail> {
+    let alloc = rt.alloc();
+    let one = Operands::One(saved(alloc, EDGE)?);
+    let line = "\"complement(gb_new_graph(2),1,0,0)\",2,2";
+    assert!(rt; is_named(alloc, one, "complement", &[b"1", b"0 0"], line)?);
+    let two = Operands::Two(saved(alloc, VERTEX)?, saved(alloc, EDGE)?);
+    let line = "\"product(gb_new_graph(1),gb_new_graph(2),0,0)\",2,2";
+    assert!(rt; is_named(alloc, two, "product", &[b"0", b"0"], line)?);
+    let described = Operands::Described(saved(alloc, VERTEX)?, saved(alloc, "a D")?);
+    let line = "\"induced(gb_new_graph(1),a D,0,0,0)\",0,0";
+    assert!(rt; is_named(alloc, described, "induced", &[b"0", b"0", b"0"], line)?);
+    let changed = Operands::Changed(saved(alloc, EDGE)?);
+    let line = "\"random_lengths(gb_new_graph(2),0,7,7,0,-)\",2,2";
+    assert!(rt; is_named(alloc, changed, "lengths", &[b"0", b"7", b"7", b"-"], line)?);
+    Ok(())
+}
+
+// Why the union of two texts with these words is refused.
+fn refusal(
+    alloc: Global,
+    rule: CheckRule,
+    texts: (&str, &str),
+    words: &[&[u8]],
+) -> Result<Option<ShellRefusal>, Fail> {
+    let operands = Operands::Two(saved(alloc, texts.0)?, saved(alloc, texts.1)?);
+    match made_of(alloc, rule, operands, "gunion", words)? {
+        Ok(_) => Ok(None),
+        Err(refusal) => Ok(Some(refusal)),
+    }
+}
+
+#[test]
+fn the_first_refusal_is_told(rt: HostRuntime) -> Result<(), Fail> {
+    let alloc = rt.alloc();
+    let cases = [
+        (CheckRule::Match, (EDGE, EDGE), None),
+        (CheckRule::Any, (WRONG, WRONG), None),
+        (
+            CheckRule::Match,
+            (WRONG, ""),
+            Some(ShellRefusal::CheckWrong),
+        ),
+        (CheckRule::Match, ("", WRONG), Some(ShellRefusal::Syntax)),
+        (
+            CheckRule::Match,
+            (EDGE, WRONG),
+            Some(ShellRefusal::CheckWrong),
+        ),
+    ];
+    for (rule, texts, wanted) in cases {
+        assert!(rt; refusal(alloc, rule, texts, &[b"0", b"0"])? == wanted);
+        let last = wanted.or(Some(ShellRefusal::ScriptSyntax));
+        assert!(rt; refusal(alloc, rule, texts, &[b"0"])? == last);
+    }
     Ok(())
 }
 
@@ -78,7 +179,14 @@ fn front_of(alloc: Global, room: usize) -> Option<Vec<u8>> {
         room,
         step: 5,
     };
-    let finished = make(alloc, b"graph", &[b"1"], writer);
+    let finished = make(
+        alloc,
+        CheckRule::Match,
+        Operands::Absent,
+        b"graph",
+        &[b"1"],
+        writer,
+    );
     match finished.end {
         Err(RunFault::Write) => Some(finished.writer.into_inner().kept),
         _ => None,

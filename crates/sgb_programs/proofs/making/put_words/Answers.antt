@@ -1,4 +1,4 @@
-use Rattle.sgb_programs.proofs.Standard.{word_put}
+use Rattle.sgb_programs.proofs.MadeLemmas.{word_put}
 use Rattle.sgb_programs.proofs.making.put_words.Goals as goal
 
 pub loop-word-preserved : goal.loop-word-preserved
