@@ -57,6 +57,13 @@ growths: bin/sgb tests/out/refuse_growth.so
 program: bin/sgb
 	python3 tests/program.py bin/sgb
 
+.PHONY: pipes
+
+# Imports, exports and facts beside another reading of the same formats, and the lines of docs/pipes.md.
+pipes: bin/sgb
+	python3 tests/pipes.py bin/sgb
+	python3 tests/oneliners.py bin/sgb docs/pipes.md
+
 .PHONY: large
 
 # Runs the program on long sessions and on large graphs.
@@ -155,13 +162,15 @@ endif
 
 .PHONY: test-tools pictures
 
-# Hands exported graphs to Graphviz and networkx, which it installs by apt-get where they are missing. No part of the gate.
+# Exchanges graphs with Graphviz, networkx and nauty, which it installs by apt-get where they are missing. No part of the gate.
 test-tools: bin/sgb
 	python3 tests/tools.py bin/sgb
+	python3 tests/oneliners.py bin/sgb --tools docs/pipes.md
 
 # Draws the pictures of docs/pictures again, by Graphviz.
 pictures: bin/sgb
 	python3 docs/pictures.py bin/sgb
+	dot -Tsvg docs/pictures/path.dot | sed '/^<!--/d; /^ -->/d' > docs/pictures/path.svg
 
 .PHONY: definitions manual uninstall
 
@@ -169,30 +178,30 @@ pictures: bin/sgb
 definitions:
 	@python3 tests/definitions.py
 
-# Writes the manual page from the description of the language.
+# Writes the manual pages from the description of the language.
 manual:
-	python3 docs/manual.py > sgb.1.new
-	mv sgb.1.new sgb.1
+	python3 docs/manual.py
 
 BIN_FOLDER = $(DESTDIR)$(PREFIX)/bin
-MAN_FOLDER = $(DESTDIR)$(PREFIX)/share/man/man1
+MAN_FOLDER = $(DESTDIR)$(PREFIX)/share/man
 DOC_FOLDER = $(DESTDIR)$(PREFIX)/share/doc/nuperako
 DOCUMENTS = $(wildcard docs/*.md)
-PICTURES = $(wildcard docs/pictures/*.svg)
+PICTURES = $(wildcard docs/pictures/*.svg docs/pictures/README.md)
 EXAMPLES = $(wildcard examples/*.sgb examples/*.out)
 
-# The program, its manual page, the descriptions with their pictures, and the examples.
+# The program, its manual pages, the descriptions with their pictures, and the examples.
 install: bin/sgb
-	install -d "$(BIN_FOLDER)" "$(MAN_FOLDER)" "$(DOC_FOLDER)/examples" "$(DOC_FOLDER)/pictures"
+	install -d "$(BIN_FOLDER)" "$(MAN_FOLDER)/man1" "$(MAN_FOLDER)/man7" "$(DOC_FOLDER)/examples" "$(DOC_FOLDER)/pictures"
 	install -m 755 bin/sgb "$(BIN_FOLDER)"
-	install -m 644 sgb.1 "$(MAN_FOLDER)"
+	install -m 644 sgb.1 "$(MAN_FOLDER)/man1"
+	install -m 644 sgb-script.7 "$(MAN_FOLDER)/man7"
 	install -m 644 $(DOCUMENTS) "$(DOC_FOLDER)"
 	install -m 644 $(EXAMPLES) "$(DOC_FOLDER)/examples"
 	install -m 644 $(PICTURES) "$(DOC_FOLDER)/pictures"
 
 # Takes away the files that `make install` puts there, and its own folders where nothing else lies in them.
 uninstall:
-	rm -f "$(BIN_FOLDER)/sgb" "$(MAN_FOLDER)/sgb.1"
+	rm -f "$(BIN_FOLDER)/sgb" "$(MAN_FOLDER)/man1/sgb.1" "$(MAN_FOLDER)/man7/sgb-script.7"
 	cd "$(DOC_FOLDER)" && rm -f $(notdir $(DOCUMENTS)) $(EXAMPLES) $(PICTURES:docs/%=%)
 	rmdir --ignore-fail-on-non-empty "$(DOC_FOLDER)/examples" "$(DOC_FOLDER)/pictures" "$(DOC_FOLDER)"
 

@@ -25,8 +25,9 @@ COMPLEMENT = 'complement of G(%d, %d)' % (DENSE_N, DENSE_M)
 PRODUCT = 'strong product of two cycles of %d' % CYCLE
 WRITE_EDGES, WRITE_XML = 'G(n, m) written as edges', 'G(n, m) written as GraphML'
 READ_EDGES, READ_XML = 'G(n, m) read from edges', 'G(n, m) read from GraphML'
+WRITE_G6, READ_G6 = ('G(%d, %d) %s' % (DENSE_N, DENSE_M, it) for it in ('written as graph6', 'read from graph6'))
 SAVE, LOAD = 'G(n, m) saved', 'G(n, m) loaded'
-ROWS = [LATTICE, RANDOM, UNION, INTERSECTION, COMPLEMENT, PRODUCT, WRITE_EDGES, WRITE_XML, READ_EDGES, READ_XML, SAVE, LOAD]
+ROWS = [LATTICE, RANDOM, UNION, INTERSECTION, COMPLEMENT, PRODUCT, WRITE_EDGES, WRITE_XML, WRITE_G6, READ_EDGES, READ_XML, READ_G6, SAVE, LOAD]
 
 
 def random_line(name, n=N, m=M, seed=1):
@@ -64,13 +65,24 @@ def time_program(program, turns):
     times = {}
     for row, (front, line) in LINES.items():
         times[row] = least(run, front + line) - least(run, front)
-    lines = spent(run, (random_line('g') + 'save g\n').encode())[1].decode().split('\n')
-    text = '\n'.join(lines[1:-2]) + '\n'
-    times[LOAD] = least(run, 'load g check\n' + text + '.\n') - least(run, '')
-    # (an export reads the saved text and writes it in another form)
-    for row, form in ((WRITE_EDGES, 'edges'), (WRITE_XML, 'graphml')):
-        times[row] = least([program, 'export', '--as', form], text)
+    # An export reads a saved text first, as a check does; an import saves what it read.
+    text, dense = made(run, N, M), made(run, DENSE_N, DENSE_M)
+    check = [program, 'check', '/dev/stdin']
+    times[LOAD] = least(check, text)
+    for row, form, saved in ((WRITE_EDGES, 'edges', text), (WRITE_XML, 'graphml', text), (WRITE_G6, 'graph6', dense)):
+        times[row] = least([program, 'export', '--as', form], saved) - least(check, saved)
+    for row, form, saved in ((READ_EDGES, 'edges', text), (READ_G6, 'graph6', dense)):
+        written = spent([program, 'export', '--as', form], saved.encode())[1].decode()
+        n, m = (N, M) if saved is text else (DENSE_N, DENSE_M)
+        line = random_line('g', n, m)
+        times[row] = least([program, 'import', '--from', form], written) - (least(run, line + 'save g\n') - least(run, line))
     return times
+
+
+def made(run, n, m):
+    """The saved text of a random graph."""
+    lines = spent(run, (random_line('g', n, m) + 'save g\n').encode())[1].decode().split('\n')
+    return '\n'.join(lines[1:-2]) + '\n'
 
 
 def calls_of_igraph(folder):
@@ -96,7 +108,7 @@ def calls_of_networkx(folder):
     g, h = (networkx.gnm_random_graph(N, M, seed) for seed in (1, 2))
     dense = networkx.gnm_random_graph(DENSE_N, DENSE_M, 1)
     cycle = networkx.cycle_graph(CYCLE)
-    edges, xml = folder + '/edges', folder + '/graphml'
+    edges, xml, graph6 = folder + '/edges', folder + '/graphml', folder + '/graph6'
     return {
         LATTICE: lambda: networkx.grid_2d_graph(SIDE, SIDE),
         RANDOM: lambda: networkx.gnm_random_graph(N, M, 1),
@@ -106,8 +118,10 @@ def calls_of_networkx(folder):
         PRODUCT: lambda: networkx.strong_product(cycle, cycle),
         WRITE_EDGES: lambda: networkx.write_edgelist(g, edges, data=False),
         WRITE_XML: lambda: networkx.write_graphml(g, xml),
+        WRITE_G6: lambda: networkx.write_graph6(dense, graph6),
         READ_EDGES: lambda: networkx.read_edgelist(edges, nodetype=int),
         READ_XML: lambda: networkx.read_graphml(xml, node_type=int),
+        READ_G6: lambda: networkx.read_graph6(graph6),
     }
 
 

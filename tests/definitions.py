@@ -1,7 +1,8 @@
 #!/usr/bin/env python3
 """The pages of specs/ that a reader has to believe, in the order of "What to read, and in which order" of docs/architecture.md.
 
-    definitions.py            prints the pages in that order, with the lines of each, and last the lines of all
+    definitions.py            prints the pages in that order, with the lines of each and what it is about, and last the lines of all; those
+                              of exports, imports and facts are counted apart
     definitions.py --check    tests that section: each page stands in it once, and imports only pages that stand before it; and no public
                               call needs a page of specs/Private/, but for the views that the section names
 
@@ -14,6 +15,8 @@ import sys
 
 PAGE = 'docs/architecture.md'
 SECTION = '## What to read, and in which order\n'
+# Crates whose lines are counted apart.
+APART = ('sgb_export', 'sgb_import', 'sgb_info')
 # Index files, which hold no definition.
 INDEX = ('Lib', 'Private')
 
@@ -73,6 +76,11 @@ def imports(page):
 
 def lines_of(page):
     return sum(1 for line in IMPORT.sub('', read(path_of(page))).split('\n') if line.strip())
+
+
+def about(page):
+    """What a page says of itself in its first line."""
+    return read(path_of(page)).split('\n', 1)[0].lstrip('- ')
 
 
 def wrong_places():
@@ -144,10 +152,12 @@ def check():
 def main():
     if sys.argv[1:] == ['--check']:
         return check()
-    counts = [(lines_of(page), path_of(page)) for page in order()]
-    for it in counts:
-        print('%5d  %s' % it)
-    print('%d lines' % sum(count for count, _ in counts))
+    pages = order()
+    for page in pages:
+        print('%5d  %-46s %s' % (lines_of(page), path_of(page), about(page)))
+    apart = sum(lines_of(page) for page in pages if page[0] in APART)
+    print('%d lines of exports, imports and facts' % apart)
+    print('%d lines' % (sum(map(lines_of, pages)) - apart))
     return 0
 
 

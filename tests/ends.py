@@ -145,6 +145,32 @@ class Ends:
             self.tell(met, (1, b'', b'sgb: ' + told) if status else (0, exported, b''), 'export with its end at', at)
         self.try_writes('export', words, path, 0, exported)
 
+    def try_import(self, name):
+        """The import of a text from standard input. A cut text is imported, or refused, as the same text from a file."""
+        path = os.path.join(os.path.dirname(__file__), 'imported', name)
+        with open(path, 'rb') as file, open(path + '.out', encoding='utf-8') as told:
+            text, words = file.read(), told.readline().split()
+        for at in range(len(text) + 1):
+            size = SIZES[at % len(SIZES)]
+            met = self.failing(words, path, read_fails_at=at, read_size=size)
+            self.tell(met, (2, b'', b'sgb: read failed\n'), *words, 'with a read failing at', at)
+            whole = subprocess.run([self.program, *words], input=text[:at], stdout=subprocess.PIPE, stderr=subprocess.PIPE)
+            met = self.failing(words, path, read_ends_at=at, read_size=size)
+            self.tell(met, (whole.returncode, whole.stdout, whole.stderr), *words, 'with its end at', at)
+        status, written = self.plain(text, *words)
+        if status == 0:
+            self.try_writes(name, words, path, status, written)
+
+    def try_reader(self, *words):
+        """A program that reads a saved text from standard input, and writes of it."""
+        path = self.file('edge', EDGE)
+        status, written = self.plain(EDGE, *words)
+        self.tell(status, 0, *words)
+        for at in range(len(EDGE) + 1):
+            met = self.failing([*words, '-'], path, read_fails_at=at, read_size=SIZES[at % len(SIZES)])
+            self.tell(met, (2, b'', b'sgb: read failed\n'), *words, 'with a read failing at', at)
+        self.try_writes(' '.join(words), [*words, '-'], path, 0, written)
+
     def try_queen(self):
         queen = subprocess.run([self.program, 'queen'], stdout=subprocess.PIPE).stdout
         self.try_writes('queen', ['queen'], None, 0, queen)
@@ -161,6 +187,10 @@ def main():
         ends.try_script('groups', GROUPS, has_groups=True)
     ends.try_check()
     ends.try_export()
+    for name in 'plain.edges', 'names-announced.edges', 'paths.dimacs', 'petersen.graph6', 'two.graph6':
+        ends.try_import(name)
+    for words in ['info'], ['export', '--as', 'graph6'], ['export', '--as', 'col']:
+        ends.try_reader(*words)
     ends.try_queen()
     print('ends: %d passed, %d failed' % (ends.passed, ends.failed))
     return 1 if ends.failed else 0

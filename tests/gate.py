@@ -342,14 +342,16 @@ class Gate:
         yield 'shown', [sys.executable, 'tests/shown.py', 'docs/library.md', 'crates/sgb_library_tests']
         yield 'contracts', [sys.executable, 'tests/contracts.py', 'docs/contracts.md']
         yield 'definitions', [sys.executable, 'tests/definitions.py', '--check']
-        yield 'manual', [sys.executable, 'docs/manual.py', '--check', 'sgb.1']
+        yield 'manual', [sys.executable, 'docs/manual.py', '--check']
+        yield 'links', [sys.executable, 'tests/links.py']
         yield 'kept', ['sh', 'tests/kept.sh', PROGRAM]
         yield 'growths', [sys.executable, 'tests/growths.py', PROGRAM, REFUSING]
         yield 'wants', [sys.executable, 'tests/wants.py', PROGRAM, REFUSING]
         yield 'ends', [sys.executable, 'tests/ends.py', PROGRAM, FAILING]
         yield 'large', [sys.executable, 'tests/large.py', PROGRAM]
-        if os.path.isfile('tests/program.py'):
-            yield 'program', [sys.executable, 'tests/program.py', PROGRAM]
+        yield 'program', [sys.executable, 'tests/program.py', PROGRAM]
+        yield 'pipes', [sys.executable, 'tests/pipes.py', PROGRAM]
+        yield 'oneliners', [sys.executable, 'tests/oneliners.py', PROGRAM, 'docs/pipes.md']
 
 
 COMMANDS = {'prove': prove, 'library': library, 'quick': quick, 'test': lambda: Gate().run()}

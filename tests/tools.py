@@ -1,18 +1,20 @@
 #!/usr/bin/env python3
-"""Hands exported graphs to tools of others: Graphviz draws them, and networkx reads them and tells what it finds. What
-is missing of these is installed by the system's packages, where that can be done. No part of the gate.
+"""Exchanges graphs with tools of others: Graphviz draws them, networkx and nauty read them and write what the program reads, and
+networkx tells what it finds in them. What is missing of these is installed by the system's packages, where that can be done. No part
+of the gate.
 
     tools.py PROGRAM
 """
 import heapq
 import os
+import random
 import shutil
 import subprocess
 import sys
 from itertools import combinations
 from xml.etree import ElementTree
 
-PACKAGES = ['graphviz', 'python3-networkx']
+PACKAGES = ['graphviz', 'python3-networkx', 'nauty']
 # The system's own Python, for which its packages are.
 PYTHON = '/usr/bin/python3'
 HAS_NETWORKX = [PYTHON, '-c', 'import networkx']
@@ -52,7 +54,7 @@ def count(holds, what):
 
 
 def has_tools():
-    return bool(shutil.which('neato') and shutil.which('dot')) \
+    return all(map(shutil.which, ['neato', 'dot', 'nauty-geng', 'nauty-copyg'])) \
         and subprocess.run(HAS_NETWORKX, stderr=subprocess.DEVNULL).returncode == 0
 
 
@@ -96,7 +98,7 @@ def draw(saved, tool):
 
 def listed(text):
     """Whether a list of edges says that they are arcs, how many vertices it tells, and its lines: two ends and a length."""
-    first, *lines = text.decode().splitlines()
+    first, _, *lines = text.decode().splitlines()
     _, kind, n, m = first.split(' ')
     links = [tuple(map(int, line.split(' '))) for line in lines]
     assert len(links) == int(m)
@@ -220,6 +222,83 @@ def check_known(nx):
     count(ends_of(named(nx, make(PETERSEN))) == ends_of(pairs), 'the vertices of the Petersen graph are named as pairs')
 
 
+def random_graph(nx, number):
+    """A random graph of at most 100 vertices."""
+    draw = random.Random(number)
+    n, share = draw.choice([0, 1, 2, draw.randrange(3, 20), 62, 63, draw.randrange(101)]), draw.choice([0.02, 0.1, 0.5, 0.9, 1])
+    return nx.gnp_random_graph(n, share, number)
+
+
+def imported(text, *words):
+    return subprocess.run([program, 'import', '--from', *words], input=text, stdout=subprocess.PIPE, check=True).stdout
+
+
+def check_graph6(nx):
+    """What networkx and nauty write in graph6 is read, and written again byte for byte."""
+    texts = []
+    for number in range(1000):
+        graph = random_graph(nx, number)
+        text = nx.to_graph6_bytes(graph, header=number % 2 == 0)
+        saved = imported(text, 'graph6')
+        texts.append(export(saved, 'graph6'))
+        count(texts[-1] == nx.to_graph6_bytes(graph, header=False), 'the graph6 of random graph %d' % number)
+        count({(v, w) for v, w, _ in listed(export(saved, 'edges'))[2]} == {(min(it), max(it)) for it in graph.edges},
+              'the edges of random graph %d' % number)
+    # (nauty refuses a graph without vertices)
+    some = [text for text in texts if text != b'?\n']
+    met = subprocess.run(['nauty-copyg', '-q'], input=b''.join(some), stdout=subprocess.PIPE, check=True).stdout
+    count(met == b''.join(some), 'nauty reads our graph6')
+    for n in range(1, 7):
+        for line in subprocess.run(['nauty-geng', '-q', str(n)], stdout=subprocess.PIPE, check=True).stdout.splitlines(keepends=True):
+            count(export(imported(line, 'graph6'), 'graph6') == line, 'a graph of nauty-geng %d' % n)
+
+
+def facts_of(saved):
+    told = subprocess.run([program, 'info'], input=saved, stdout=subprocess.PIPE, check=True).stdout.decode()
+    return dict(line.split(maxsplit=1) for line in told.splitlines())
+
+
+def facts_by(nx, graph):
+    """The facts that networkx finds in a graph without parallel edges, all of one length."""
+    is_directed, degrees = graph.is_directed(), [d for _, d in (graph.out_degree if graph.is_directed() else graph.degree)()]
+    components = nx.number_weakly_connected_components if is_directed else nx.number_connected_components
+    return {'vertices': len(graph), 'edges': '-' if is_directed else graph.size(), 'loops': nx.number_of_selfloops(graph), 'repeated': 0,
+            'out-least': min(degrees, default='-'), 'out-greatest': max(degrees, default='-'),
+            'components': components(graph) if len(graph) else 0,
+            'bipartite': 'yes' if nx.is_bipartite(nx.Graph(graph)) else 'no'}
+
+
+def check_facts(nx):
+    for number in range(200):
+        graph = random_graph(nx, number)
+        saved = imported(nx.to_graph6_bytes(graph), 'graph6')
+        met, wanted = facts_of(saved), facts_by(nx, graph)
+        count({name: met[name] for name in wanted} == {name: str(it) for name, it in wanted.items()}, 'the facts of random graph %d' % number)
+        arcs = nx.gnp_random_graph(2 + number % 30, 0.1, number, directed=True)
+        lines = ['# digraph %d %d' % (len(arcs), arcs.size()), *('%d %d' % it for it in arcs.edges)]
+        met, wanted = facts_of(imported('\n'.join(lines).encode(), 'edges')), facts_by(nx, arcs)
+        # (arcs that are paired by chance, or none at all, are edges)
+        if met['edges'] == '-':
+            count({name: met[name] for name in wanted} == {name: str(it) for name, it in wanted.items()}, 'the facts of random digraph %d' % number)
+            heads = [d for _, d in arcs.in_degree()]
+            count((met['in-least'], met['in-greatest']) == (str(min(heads)), str(max(heads))), 'the in-degrees of random digraph %d' % number)
+
+
+def check_lists(nx):
+    """Lists of edges and DIMACS texts of networkx's graphs."""
+    for number in range(200):
+        graph = random_graph(nx, number)
+        draw = random.Random(number)
+        for v, w in graph.edges:
+            graph.edges[v, w]['len'] = draw.randrange(-9, 10)
+        lines = [line + '\n' for line in nx.generate_edgelist(graph, data=['len'])]
+        met = listed(export(imported(''.join(lines).encode(), 'edges'), 'edges'))
+        count(sorted(met[2]) == links_of(nx.MultiGraph(graph)), 'the list of edges of random graph %d' % number)
+        dimacs = 'p edge %d %d\n%s' % (len(graph), graph.size(), ''.join('e %d %d\n' % (v + 1, w + 1) for v, w in graph.edges))
+        met = listed(export(imported(dimacs.encode(), 'dimacs'), 'edges'))
+        count((met[1], {it[:2] for it in met[2]}) == (len(graph), {(min(it), max(it)) for it in graph.edges}), 'the DIMACS text of random graph %d' % number)
+
+
 def attempt(check, *given):
     """Runs a check, and counts it as failed where a program that it starts fails."""
     try:
@@ -230,7 +309,7 @@ def attempt(check, *given):
 
 def main():
     if not install():
-        print('tools: Graphviz or networkx is not there and cannot be installed, so nothing is tried')
+        print('tools: Graphviz, networkx or nauty is not there and cannot be installed, so nothing is tried')
         print('tools: 0 passed, 1 failed')
         return 1
     try:
@@ -243,6 +322,9 @@ def main():
     attempt(check_drawings)
     attempt(check_readers, nx)
     attempt(check_known, nx)
+    attempt(check_graph6, nx)
+    attempt(check_lists, nx)
+    attempt(check_facts, nx)
     print('tools: %d passed, %d failed' % (passed, failed))
     return 1 if failed else 0
 

@@ -30,6 +30,13 @@ MANY = (b'graph g 9\nrandom r 5 4 0 0 0 1 6 -\ngroup\n' + b'edge g 0 1 5\nnext\n
         b'lengths b 0 1 9 -\ndrop r\ncomplement c b 0 0 0\nend\n')
 
 
+# Programs that read a saved graph.
+PIPED = ['export --as col EDGE', 'export --as graph6 EDGE', 'info EDGE', 'make complement EDGE 0 0 0', 'make gunion EDGE EDGE 1 0',
+         'make intersection EDGE EDGE 0', 'make product EDGE EDGE 2 0', 'make induced EDGE all 0 0 0', 'make lengths EDGE 0 1 9 -']
+
+# Texts of other tools, accepted and refused.
+IMPORTED = ['plain.edges', 'names.edges', 'wrong-count.dimacs', 'paths.dimacs', 'petersen.graph6', 'long.graph6', 'fewer-names.edges']
+
 # Commands that find room where an earlier one left some.
 FIND_ROOM = (b'arc', b'edge', b'redo')
 
@@ -168,6 +175,12 @@ def main():
         with open(path, 'wb') as file:
             file.write(EDGE.replace(b'"",A0', b'"a",A0').replace(b'"",A1', b'"b",A1'))
         counts.append(wants.try_program('export', '--as', 'edges', '--names', '--any', path))
+        for words in PIPED:
+            counts.append(wants.try_program(*words.replace('EDGE', os.path.join(folder, 'edge')).split()))
+    for name in IMPORTED:
+        path = os.path.join(os.path.dirname(__file__), 'imported', name)
+        with open(path + '.out', encoding='utf-8') as told:
+            counts.append(wants.try_program(*told.readline().split(), path))
     counts.append(wants.try_program('queen'))
     print('wants: of %s growths' % ', '.join(map(str, counts)))
     print('wants: %d passed, %d failed' % (wants.passed, wants.failed))
