@@ -1,8 +1,9 @@
 #!/usr/bin/env python3
-"""Makes the manual page from the description of the language, the program's help and an example.
+"""Makes the manual pages from the description of the language, the program's help and an example: sgb.1 on the program, and
+sgb-script.7 on scripts.
 
-    manual.py                   prints the page
-    manual.py --check PAGE      compares a page with what would be printed
+    manual.py             writes the pages
+    manual.py --check     compares the pages with what would be written
 """
 import difflib
 import os
@@ -15,8 +16,8 @@ LANGUAGE = 'docs/language.md'
 PROGRAM = 'crates/sgb/src/command_line.rt'
 EXAMPLE = 'examples/undo'
 
-# The parts of the description that get a place of their own in the page.
-PLACED = ['The program', 'Refusals', 'Faults']
+# The parts of the description that tell of the program; all others tell of scripts.
+OF_PROGRAM = ['The program', 'Faults']
 # How wide a table is, so that it fits on 80 columns where it belongs to a command.
 WIDTH = 64
 
@@ -60,7 +61,8 @@ def items(text):
 
 def table(text):
     """A table with its columns side by side; where they are too wide, the widest gives way."""
-    rows = [[cell.strip().replace('`', '') for cell in line.strip('|').split('|')] for line in text.split('\n')]
+    text = re.sub(r'\[([^]]*)\]\([^)]*\)', r'\1', text).replace('`', '')
+    rows = [[cell.strip() for cell in line.strip('|').split('|')] for line in text.split('\n')]
     del rows[1]
     widths = [max(map(len, column)) for column in zip(*rows)]
     while sum(widths) + 2 * (len(widths) - 1) > WIDTH:
@@ -130,46 +132,63 @@ def examples(more_help):
         '.PP', 'is answered by', example(read(EXAMPLE + '.out'))])
 
 
-def see_also():
+def see_also(other, number):
     names = sorted((it for it in os.listdir('docs') if it.endswith('.md')), key=str.lower)
     titles = [read('docs/' + it).split('\n', 1)[0].lstrip('# ') for it in names]
     return '\n'.join([
-        '.SH SEE ALSO', 'In \\fIshare/doc/nuperako\\fR, where the program is installed:',
+        '.SH SEE ALSO', '\\fB%s\\fR(%d)' % (escaped(other), number),
+        '.PP', 'In \\fIshare/doc/nuperako\\fR, where the program is installed:',
         *['.TP\n\\fI%s\\fR\n%s' % it for it in zip(map(escaped, names), map(prose, titles))],
         '.TP\n\\fIexamples\\fR', 'Scripts and their transcripts'])
 
 
-def page():
+def headed(name, number, version, what, lines):
+    return '\n'.join([
+        '.\\" Made by docs/manual.py from %s: change that, and then run `make manual`.' % LANGUAGE,
+        '.TH %s %d "" "sgb %s" Nuperako' % (escaped(name.upper()), number, version),
+        '.SH NAME', '%s \\- %s' % (escaped(name), escaped(what)), *lines]) + '\n'
+
+
+def pages():
+    """Each manual page by its name."""
     version, about, more_help = program_help()
     front, sections = description()
     lines = synopsis(sections)
-    return '\n'.join([
-        '.\\" Made by docs/manual.py from %s: change that, and then run `make manual`.' % LANGUAGE,
-        '.TH SGB 1 "" "sgb %s" Nuperako' % version,
-        '.SH NAME', 'sgb \\- ' + escaped(about[0].lower() + about[1:]),
+    program = headed('sgb', 1, version, about[0].lower() + about[1:], [
         '.SH SYNOPSIS', '\n.br\n'.join(inline('`%s`' % it.strip()) for it in lines.splitlines()),
-        section('Description', front + sections['The program'].replace(lines, '')),
-        *[section(name, text) for name, text in sections.items() if name not in PLACED],
-        section('Refusals', sections['Refusals']),
-        exit_status(more_help, sections['Faults']), examples(more_help), see_also()]) + '\n'
+        section('Description', sections['The program'].replace(lines, '')),
+        exit_status(more_help, sections['Faults']), examples(more_help), see_also('sgb-script', 7)])
+    script = headed('sgb-script', 7, version, 'scripts that sgb(1) runs', [
+        section('Description', front),
+        *[section(name, text) for name, text in sections.items() if name not in OF_PROGRAM], see_also('sgb', 1)])
+    return {'sgb.1': program, 'sgb-script.7': script}
 
 
-def check(name):
-    """Compares a page, and the commands of the synopsis with those that the program takes."""
-    made, met = page().split('\n'), read(name).split('\n')
+def check():
+    """Compares the pages, and the commands of the synopsis with those that the program takes."""
+    failed, made = 0, pages()
+    for name, text in made.items():
+        if read(name) != text:
+            failed += 1
+            print('%s differs from the description; `make manual` writes it again' % name)
+            print('\n'.join(difflib.unified_diff(read(name).split('\n'), text.split('\n'), name, 'the description', lineterm='', n=0)))
     told = set(re.findall(r'sgb (\w+)', synopsis(description()[1])))
     taken = set(re.findall(r'Command::new\(alloc, "(\w+)"\)', read(PROGRAM))) - {'sgb'}
-    if made != met:
-        print('%s differs from the description; `make manual` writes it again' % name)
-        print('\n'.join(difflib.unified_diff(met, made, name, 'the description', lineterm='', n=0)))
     if told != taken:
+        failed += 1
         print('%s tells of the commands %s, and the program takes %s' % (LANGUAGE, sorted(told), sorted(taken)))
-    failed = (made != met) + (told != taken)
-    print('manual: %d passed, %d failed' % (2 - failed, failed))
+    print('manual: %d passed, %d failed' % (len(made) + 1 - failed, failed))
     return 1 if failed else 0
 
 
+def main():
+    if sys.argv[1:] == ['--check']:
+        return check()
+    for name, text in pages().items():
+        with open(name, 'w', encoding='utf-8') as file:
+            file.write(text)
+    return 0
+
+
 if __name__ == '__main__':
-    if sys.argv[1:2] == ['--check']:
-        sys.exit(check(sys.argv[2]))
-    sys.stdout.write(page())
+    sys.exit(main())
